@@ -1,0 +1,126 @@
+//! Numbers for names, by first appearance.
+ghost use Rattle.std.specs.Prelude.{◌≡◌, ◌-◌, ◌+◌, ◌^◌, ◌<◌, ◌≤◌, ◌↔◌, ◌⊎◌, [], ◌∷◌, ◌++◌, Some, length, slice_get, Contains, IsSome, IsOk, IfSome, IfOk, OnErr};
+ghost use Rattle.hw_names.specs.Name.{AreDistinct, KeepsTexts};
+
+use hw_bits::Memory;
+use indexmap::IndexSet;
+use std::alloc::Global;
+use std::marker::Model;
+
+/// The number of a text in a list of names.
+#[derive(Clone, Copy, Debug, PartialEq, Eq, PartialOrd, Ord, Hash)]
+pub struct NameId(pub u32);
+
+/// A list of distinct texts, in the order of their first appearance. A text's number is its place, from 0 on.
+#[derive(Debug, Drop)]
+pub struct Names {
+    texts: IndexSet<Vec<u8>>,
+}
+
+impl Model for Names {
+    ghost use Rattle.std.specs.Prelude.{List, map, length, ◌<◌, ◌^◌};
+    ghost use Rattle.hw_names.specs.Name.{Text, AreDistinct};
+
+    ghost Value = { List Text };
+
+    ghost view = { λ names. map (λ text. text.items) names.texts.keys };
+
+    ghost invariant = { λ names.
+        (length names.texts.keys < 2 ^ 32)
+        × AreDistinct (map (λ text. text.items) names.texts.keys) };
+}
+
+impl Names {
+    /// No names.
+    pub fn new(alloc: Global) -> Names
+        ensures { result ≡ [] }
+    {
+        Names {
+            texts: IndexSet::new(alloc),
+        }
+    }
+
+    /// The number of the text. A text that is there keeps its number and takes no memory; a new one goes last.
+    /// After `Memory` the names are as they were.
+    pub fn intern(&mut self, text: &[u8]) -> Result<NameId, Memory>
+        requires { length self.old < 2 ^ 32 - 1 }
+        ensures text { IfOk result (λ id. slice_get self.new id.0 ≡ Some text.now) }
+
+        // A text that is there changes nothing, and a new one goes last.
+        ensures present { Contains self.old text.now → IsOk result × (self.new ≡ self.old) }
+        ensures added { IfOk result (λ id.
+            ¬ Contains self.old text.now
+            → (self.new ≡ self.old ++ text.now ∷ []) × (id.0 ≡ length self.old)) }
+        ensures err { OnErr result (self.new ≡ self.old) }
+
+        // In each case at most the text is added, so each number keeps its text.
+        ensures grown { (self.new ≡ self.old) ⊎ (self.new ≡ self.old ++ text.now ∷ []) }
+        ensures kept { KeepsTexts self.old self.new }
+        ensures len { length self.new ≤ length self.old + 1 }
+        ensures distinct { AreDistinct self.new }
+    {
+        if let Some(id) = self.find(text) {
+            return Ok(id);
+        }
+        let owned = Vec::from_slice(*self.texts.allocator(), text)?;
+        let (index, _) = self.texts.insert_full(owned)?;
+        Ok(NameId(index as u32))
+    }
+
+    /// The number of the text; `None` exactly where the text isn't there.
+    pub fn find(&self, text: &[u8]) -> Option<NameId>
+        ensures text { IfSome result (λ id. slice_get self.now id.0 ≡ Some text.now) }
+        ensures present { IsSome result ↔ Contains self.now text.now }
+        ensures distinct { AreDistinct self.now }
+    {
+        let index = self.texts.get_index_of(text)?;
+        Some(NameId(index as u32))
+    }
+
+    /// The text of the number.
+    pub fn text(&self, id: NameId) -> &[u8]
+        requires { id.0 < length self.now }
+        ensures { slice_get self.now id.0 ≡ Some result.now }
+    {
+        self.texts.as_slice()[id.0 as usize].as_slice()
+    }
+
+    /// How many names there are.
+    pub fn len(&self) -> usize
+        ensures len { result ≡ length self.now }
+        ensures small { result < 2 ^ 32 }
+        ensures distinct { AreDistinct self.now }
+    {
+        self.texts.len()
+    }
+}
+
+#[cfg(test)]
+mod tests {
+    use super::*;
+    use std::test::Fail;
+
+    #[test]
+    fn numbers_go_by_first_appearance(rt: HostRuntime) -> Result<(), Fail> {
+        let mut names = Names::new(rt.alloc());
+        for (text, number, len) in [
+            ("clk", 0, 1),
+            ("go", 1, 2),
+            ("clk", 0, 2),
+            ("", 2, 3),
+            ("clk.go", 3, 4),
+            ("go", 1, 4),
+            ("", 2, 4),
+        ] {
+            assert!(rt; names.len() < 5);
+            let id = names.intern(text.as_bytes())?;
+            assert_eq!(rt; id, NameId(number), "at {text:?}");
+            assert_eq!(rt; names.len(), len, "after {text:?}");
+            assert_eq!(rt; names.find(text.as_bytes()), Some(id), "at {text:?}");
+            assert!(rt; (id.0 as usize) < names.len());
+            assert_eq!(rt; names.text(id), text.as_bytes(), "at {text:?}");
+        }
+        assert_eq!(rt; names.find(b"done".as_slice()), None);
+        Ok(())
+    }
+}
