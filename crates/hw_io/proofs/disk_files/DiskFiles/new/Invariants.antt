@@ -1,0 +1,10 @@
+use Rattle.std.proofs.Common.{◌≡◌, ℕ, List, map, take}
+use Rattle.hw_io.specs.DiskFiles.{names_in, faults_in}
+use Rattle.hw_io.proofs.disk_files.DiskFiles.new.Given as goal
+
+-- the names so far are known, and no fault is counted
+abbrev pub invariant-loop-name : goal.invariant-loop-name
+invariant-loop-name g l = record {
+  known : names_in l.held.items ≡ map (λ name. name.now) (take l.name-index l.names);
+  no_fault : (name : List ℕ) → faults_in l.held.items name ≡ 0;
+}
