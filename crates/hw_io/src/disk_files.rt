@@ -42,7 +42,7 @@ fn read_at<R: std::rt::Files>(rt: &R, path: &str, at: u64, buf: &mut [u8]) -> io
 
 impl<'a, R: std::rt::Files> DiskFiles<'a, R> {
     /// Files that are known by these names, in which no fault was met.
-    pub fn new(alloc: Global, rt: &'a R, names: &[&str]) -> Result<DiskFiles<'a, R>, Memory>
+    pub fn new(rt: &'a R, alloc: Global, names: &[&str]) -> Result<DiskFiles<'a, R>, Memory>
         ensures known { IfOk result (λ files.
             ⟦<DiskFiles<'a, R> as Files>⟧.names files ≡ map (λ name. name.now) names.now) }
         ensures no_fault { IfOk result (λ files. (name : List ℕ) →

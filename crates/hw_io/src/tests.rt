@@ -95,7 +95,7 @@ fn a_stream_becomes_a_file(rt: HostRuntime) -> Result<(), Fail> {
     let path = format!(in alloc; "{}/hw_io_{}", folder.as_str(), process::id(rt.process()))?;
     let mut sink = StdSink::new(File::create(&rt, path.as_str())?);
     assert_eq!(rt; write_whole(&mut sink, b"a stream"), Ok(()));
-    let mut files = DiskFiles::new(alloc, &rt, &["missing", path.as_str()])?;
+    let mut files = DiskFiles::new(&rt, alloc, &["missing", path.as_str()])?;
     let bytes = read_whole(alloc, &mut files, path.as_str(), 100);
     fs::remove_file(&rt, path.as_str())?;
     assert_eq!(rt; bytes?.as_slice(), b"a stream".as_slice());
