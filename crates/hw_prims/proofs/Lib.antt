@@ -1,0 +1,3 @@
+pub mod PrimLemmas
+pub mod PortNameLemmas
+pub mod PinLemmas
