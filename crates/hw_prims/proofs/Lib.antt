@@ -1,3 +1,6 @@
+pub mod NameLemmas
+pub mod KeptLemmas
 pub mod PrimLemmas
+pub mod LoadLemmas
 pub mod PortNameLemmas
 pub mod PinLemmas

@@ -1,7 +1,8 @@
 pub mod Row
-pub mod State
 pub mod Table
 pub mod Port
+pub mod Pinout
+pub mod State
 pub mod Meaning
 pub mod Cell
 pub mod Kept

@@ -1,13 +1,14 @@
 //! A cell: a primitive with its state.
-ghost use Rattle.std.specs.Prelude.{◌≡◌, ◌<◌, [], length, slice_get, slice_index, Some, IfOk, if◌then◌else◌};
+ghost use Rattle.std.specs.Prelude.{◌≡◌, ◌<◌, [], length, slice_get, slice_index, Some, IfOk};
 ghost use Rattle.hw_bits.specs.Values.{values_of};
 ghost use Rattle.hw_prims.specs.Cell.{AreInputs};
-ghost use Rattle.hw_prims.specs.Meaning.{output_values, next_state, opening_state};
+ghost use Rattle.hw_prims.specs.Meaning.{output_values, next_state, opening_state, word_count, word_width, words_of, state_with_word};
 ghost use Rattle.hw_prims.specs.State.{State};
 ghost use Rattle.hw_prims.specs.Table.{IsMade, outputs_of, pin_widths};
 ghost use Rattle.hw_prims.specs.declared.prim.Primitive.{Primitive};
 
-use crate::prim::Prim;
+use crate::kept::Kept;
+use crate::prim::Primitive;
 use hw_bits::{Bits, Memory};
 use std::alloc::Global;
 use std::marker::Model;
@@ -36,17 +37,10 @@ pub trait Cell {
             ≡ next_state (prim self.old) (state self.old) (values_of inputs.now) };
 }
 
-/// What a cell keeps from one row to the next.
-#[derive(Drop)]
-enum Kept {
-    Stateless,
-    Register { out: Bits, done: bool },
-}
-
 /// A cell of a primitive, with what it keeps.
 #[derive(Drop)]
 pub struct CellState {
-    prim: Prim,
+    prim: Primitive,
     kept: Kept,
 }
 
@@ -62,30 +56,34 @@ impl Model for CellState {
     ghost invariant = { λ c. IsKept c.prim c.kept };
 }
 
-/// A single bit.
-fn bit(on: bool) -> Bits
-    ensures value { result.value ≡ (if on then 1 else 0) }
-    ensures width { result.width ≡ 1 }
-{
-    Bits::wrap(on as u128, 1)
-}
-
 impl CellState {
-    /// A cell of the primitive, whose whole state is 0.
-    #[tactic(auto, unfolding(crate::specs::Table::IsMade, crate::specs::Meaning::opening_state))]
-    pub fn new(_alloc: Global, prim: Prim) -> Result<CellState, Memory>
+    /// A cell of the primitive, whose whole state is 0. Takes `word_count` words for a memory, and none else.
+    pub fn new(alloc: Global, prim: Primitive) -> Result<CellState, Memory>
         requires { IsMade prim }
         ensures prim { IfOk result (λ cell. cell.prim ≡ prim) }
         ensures state { IfOk result (λ cell. cell.state ≡ opening_state prim []) }
     {
-        let kept = match prim {
-            Prim::StdAdd { .. } => Kept::Stateless,
-            Prim::StdReg { w } => Kept::Register {
-                out: Bits::wrap(0, w),
-                done: false,
-            },
-        };
+        let kept = Kept::new(alloc, prim)?;
         Ok(CellState { prim, kept })
+    }
+
+    /// Puts a word into a memory, before its first row; words are counted from 0. Takes no memory.
+    pub fn load(&mut self, at: usize, word: Bits)
+        requires at { at < word_count self.old.prim }
+        requires width { word.width ≡ word_width self.old.prim }
+        ensures prim { self.new.prim ≡ self.old.prim }
+        ensures state { self.new.state ≡ state_with_word self.old.state at word.value }
+    {
+        self.kept.load(self.prim, at, word);
+    }
+
+    /// A word of a memory; words are counted from 0. Takes no memory.
+    pub fn word(&self, at: usize) -> Bits
+        requires { at < word_count self.now.prim }
+        ensures value { result.value ≡ slice_index (words_of self.now.state) at }
+        ensures width { result.width ≡ word_width self.now.prim }
+    {
+        self.kept.word(self.prim, at)
     }
 }
 
@@ -94,21 +92,11 @@ impl Cell for CellState {
 
     ghost state = { λ c. c.state };
 
-    #[tactic(auto, unfolding(crate::specs::Table::inputs_of, crate::specs::Table::outputs_of, crate::specs::Meaning::output_values))]
     fn comb(&self, inputs: &[Bits], output: usize) -> Bits {
-        match &self.kept {
-            Kept::Stateless => inputs[0].add(inputs[1]),
-            Kept::Register { out, done } => if output == 0 { *out } else { bit(*done) },
-        }
+        self.kept.comb(self.prim, inputs, output)
     }
 
-    #[tactic(auto, unfolding(crate::specs::Table::inputs_of, crate::specs::Meaning::next_state))]
     fn step(&mut self, inputs: &[Bits]) {
-        if let Kept::Register { out, done } = &mut self.kept {
-            *done = inputs[1].value() == 1;
-            if *done {
-                *out = inputs[0];
-            }
-        }
+        self.kept.step(self.prim, inputs);
     }
 }

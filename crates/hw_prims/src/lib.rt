@@ -2,11 +2,19 @@
 #![tactic(auto)]
 
 mod cell;
+mod gate;
+mod kept;
 mod laws;
-mod names;
+mod memory;
+mod name;
+mod phase;
+mod pinout;
 mod prim;
 
 pub use cell::{Cell, CellState};
-pub use laws::{outputs_follow_through, states_keep_widths};
-pub use names::{input_names, is_memory, output_names};
-pub use prim::{Dir, Prim, PrimEnd, PrimPort, Primitive};
+pub use laws::{loads_give_opening, outputs_follow_through, states_keep_widths};
+pub use name::{input_names, is_memory, output_names};
+pub use prim::{Dir, MAX_WORDS, Prim, PrimEnd, PrimPort, Primitive};
+
+#[cfg(test)]
+mod tests;

@@ -1,0 +1,6 @@
+use Rattle.std.proofs.Common.{◌≡◌}
+use Rattle.hw_prims.proofs.tests.run.Given as goal
+
+-- the cell stays one of this primitive
+abbrev pub invariant-loop-row : goal.invariant-loop-row
+invariant-loop-row l = l.cell.prim ≡ l.prim
