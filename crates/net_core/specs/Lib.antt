@@ -1,0 +1,14 @@
+pub use Rattle.hw_names.specs.Name
+pub use Rattle.hw_prims.specs.Row
+pub mod Guard
+pub mod Netlist
+pub mod Circuit
+pub mod NetRun
+pub mod Rules
+pub mod Numbers
+pub mod Table
+pub mod Graph
+pub mod Weight
+pub mod PortList
+pub mod Judging
+pub mod Kept

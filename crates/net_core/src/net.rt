@@ -1,0 +1,66 @@
+//! The tree of a netlist.
+use hw_names::{NameId, Names};
+
+/// Where a value comes from: a port, or a literal of a width in bits.
+#[derive(Clone, Copy, Debug, PartialEq, Eq)]
+pub enum Src<P> {
+    Port(P),
+    Lit { width: u128, value: u128 },
+}
+
+/// A comparison of two unsigned numbers.
+#[derive(Clone, Copy, Debug, PartialEq, Eq)]
+pub enum Cmp {
+    Eq,
+    Neq,
+    Lt,
+    Gt,
+    Le,
+    Ge,
+}
+
+/// When an assignment drives its destination. `All` and `Any` have two guards or more.
+#[derive(Drop)]
+pub enum Guard<P> {
+    Read(Src<P>),
+    Test(Cmp, Src<P>, Src<P>),
+    Not(Box<Guard<P>>),
+    All(Vec<Guard<P>>),
+    Any(Vec<Guard<P>>),
+}
+
+/// A port of the netlist itself, of a width in bits.
+#[derive(Clone, Copy, Debug, PartialEq, Eq)]
+pub struct NetPort {
+    pub name: NameId,
+    pub width: u128,
+}
+
+/// A cell of a primitive; `shown` where its memory is loaded and printed by a run.
+#[derive(Drop)]
+pub struct NetCell {
+    pub name: NameId,
+    pub prim: NameId,
+    pub params: Vec<u128>,
+    pub shown: bool,
+}
+
+/// A guarded assignment.
+#[derive(Drop)]
+pub struct NetAssign {
+    pub dst: NameId,
+    pub guard: Option<Guard<NameId>>,
+    pub src: Src<NameId>,
+}
+
+/// A netlist. Each name is a number of `names`; the name of a port is its full, dotted name.
+#[derive(Drop)]
+pub struct Net {
+    pub names: Names,
+    pub name: NameId,
+    pub ins: Vec<NetPort>,
+    pub outs: Vec<NetPort>,
+    pub wires: Vec<NetPort>,
+    pub cells: Vec<NetCell>,
+    pub sets: Vec<NetAssign>,
+}
