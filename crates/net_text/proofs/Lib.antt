@@ -1,0 +1,15 @@
+pub mod WordLemmas
+pub mod NameLemmas
+pub mod ParamLemmas
+pub mod NetLemmas
+pub mod NumberLaws
+pub mod WordLaws
+pub mod LineLaws
+pub mod FeedLaws
+pub mod SectionLaws
+pub mod TextLaws
+pub mod OneNetlist
+pub mod NumberedLaws
+pub mod ReadLemmas
+pub mod GuardRows
+pub mod PrintLemmas

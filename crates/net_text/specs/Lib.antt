@@ -1,0 +1,6 @@
+pub use Rattle.net_core.specs.Netlist
+pub mod Layout
+pub mod Names
+pub mod Reading
+pub mod Reader
+pub mod View
