@@ -1,0 +1,287 @@
+//! The tokens of a whole text.
+ghost use Rattle.std.specs.Prelude.{◌≡◌, ◌+◌, ◌<◌, ◌≤◌, ◌^◌, ℕ, length, slice_get, slice_range, IfOk, IfSome};
+ghost use Rattle.std.specs.Option.{ForSome};
+ghost use Rattle.hw_lex.specs.declared.token.Kind.TheVariants as Kind;
+ghost use Rattle.hw_lex.specs.Number.{number_of, width_of, value_of, Fits};
+ghost use Rattle.hw_lex.specs.Word.{IsWord};
+ghost use Rattle.hw_lex.specs.Cut.{AreTokens, FaultsAt, token_texts};
+ghost use Rattle.hw_lex.specs.Nesting.{is_one_of, open_after, nesting_of};
+
+use crate::gap::after_gap;
+use crate::number::{Literal, read_literal, read_number};
+use crate::token::{Dialect, Kind, Span, Token};
+use crate::word::front_token;
+use hw_bits::Memory;
+use std::alloc::{AllocError, AllocFailed, Global};
+use std::marker::Model;
+
+/// Why a text has no tokens.
+#[derive(Clone, Copy, Debug, PartialEq, Eq)]
+pub enum LexEnd {
+    /// At this byte of the text no token, blank or comment starts, and at none before it.
+    Fault { at: usize },
+    /// There was no memory.
+    Memory,
+}
+
+impl From<Memory> for LexEnd {
+    ghost use Rattle.std.specs.Prelude.{◌≡◌};
+    ghost use Rattle.hw_lex.specs.declared.tokens.LexEnd.TheVariants as LexEnd;
+
+    ghost from_gives = { λ _ end. end ≡ LexEnd.Memory };
+
+    fn from(_memory: Memory) -> LexEnd {
+        LexEnd::Memory
+    }
+}
+
+impl<T: Drop> From<AllocFailed<T>> for LexEnd {
+    ghost use Rattle.std.specs.Prelude.{◌≡◌};
+    ghost use Rattle.hw_lex.specs.declared.tokens.LexEnd.TheVariants as LexEnd;
+
+    ghost from_gives = { λ _ end. end ≡ LexEnd.Memory };
+
+    fn from(_failed: AllocFailed<T>) -> LexEnd {
+        LexEnd::Memory
+    }
+}
+
+/// A text and its tokens, in their order.
+#[derive(Debug, Drop)]
+pub struct Tokens<'a> {
+    dialect: Dialect,
+    source: &'a [u8],
+    tokens: Vec<Token>,
+}
+
+impl<'a> Model for Tokens<'a> {
+    ghost use Rattle.hw_lex.specs.Cut.{Lexed, AreTokens};
+
+    ghost Value = { Lexed };
+
+    ghost view = { λ t. record { dialect = t.dialect; source = t.source.now; tokens = t.tokens.items } };
+
+    ghost invariant = { λ t. AreTokens t.dialect t.source.now t.tokens.items };
+}
+
+/// The tokens of a text. `Fault` exactly where it has none; `at` is the first byte at which nothing starts.
+pub fn lex<'a>(alloc: Global, text: &'a [u8], dialect: Dialect) -> Result<Tokens<'a>, LexEnd>
+    ensures text { IfOk result (λ t. (t.dialect ≡ dialect) × (t.source ≡ text.now)) }
+    ensures tokens { IfOk result (λ t. AreTokens dialect text.now t.tokens) }
+    ensures fault { (at : ℕ) → result ≡ Err (LexEnd.Fault at) → FaultsAt dialect text.now at }
+{
+    let mut tokens = Vec::new(alloc);
+    let mut rest = after_gap(text);
+    while !rest.is_empty() {
+        let from = text.len() - rest.len();
+        let Some((kind, len)) = front_token(dialect, rest) else {
+            return Err(LexEnd::Fault { at: from });
+        };
+        let to = from + len;
+        tokens.push(Token {
+            kind,
+            span: Span { from, to },
+        })?;
+        rest = after_gap(&rest[len..]);
+    }
+    Ok(Tokens {
+        dialect,
+        source: text,
+        tokens,
+    })
+}
+
+impl<'a> Tokens<'a> {
+    /// The language in which the text was cut.
+    pub fn dialect(&self) -> Dialect
+        ensures { result ≡ self.now.dialect }
+    {
+        self.dialect
+    }
+
+    /// How many tokens there are.
+    pub fn len(&self) -> usize
+        ensures { result ≡ length self.now.tokens }
+    {
+        self.tokens.len()
+    }
+
+    /// The token with this number.
+    pub fn token(&self, i: usize) -> Token
+        requires { i < length self.now.tokens }
+        ensures { slice_get self.now.tokens i ≡ Some result }
+    {
+        self.tokens[i]
+    }
+
+    /// The bytes of the token with this number. They have the form of its kind, and the numbers in them are below `2^128`.
+    pub fn text(&self, i: usize) -> &'a [u8]
+        requires { i < length self.now.tokens }
+        ensures bytes { slice_get (token_texts self.now.source self.now.tokens) i ≡ Some result.now }
+        ensures form { IfSome (slice_get self.now.tokens i) (λ token.
+            IsWord self.now.dialect token.kind result.now × Fits token.kind result.now) }
+    {
+        bytes_at(self.source, self.tokens[i].span)
+    }
+
+    /// The value of the number with this number among the tokens.
+    pub fn number(&self, i: usize) -> u128
+        requires within { i < length self.now.tokens }
+        requires kind { ForSome (slice_get self.now.tokens i) (λ token. token.kind ≡ Kind.Number) }
+        ensures { IfSome (slice_get (token_texts self.now.source self.now.tokens) i) (λ text. result ≡ number_of text) }
+    {
+        read_number(self.text(i)).unwrap()
+    }
+
+    /// The width and the value of the literal with this number among the tokens.
+    pub fn literal(&self, i: usize) -> Literal
+        requires within { i < length self.now.tokens }
+        requires kind { ForSome (slice_get self.now.tokens i) (λ token. token.kind ≡ Kind.Literal) }
+        ensures { IfSome (slice_get (token_texts self.now.source self.now.tokens) i) (λ text.
+            (result.width ≡ width_of text) × (result.value ≡ value_of text)) }
+    {
+        read_literal(self.text(i)).unwrap()
+    }
+
+    /// How deep brackets and `!` stand in one another: the greatest number of `(`, `[` and `{` that are open at a token,
+    /// plus the length of the run of `!` that ends at it. 0 where there is no token.
+    pub fn nesting(&self) -> usize
+        ensures { result ≡ nesting_of (token_texts self.now.source self.now.tokens) }
+    {
+        let mut brackets = 0usize;
+        let mut nots = 0usize;
+        let mut deepest = 0usize;
+        for i in 0..self.len() {
+            let text = self.text(i);
+            brackets = brackets_after(brackets, text);
+            nots = if is_one_of(b"!", text) { nots + 1 } else { 0 };
+            deepest = deepest.max(brackets + nots);
+        }
+        deepest
+    }
+}
+
+/// The bytes of a span.
+fn bytes_at(source: &[u8], span: Span) -> &[u8]
+    requires order { span.from ≤ span.to }
+    requires within { span.to ≤ length source.now }
+    ensures { result.now ≡ slice_range source.now span.from span.to }
+{
+    &source[span.from..span.to]
+}
+
+/// Whether the token is one of these marks of one byte.
+fn is_one_of(marks: &[u8], text: &[u8]) -> bool
+    ensures { result ≡ is_one_of marks.now text.now }
+{
+    match text {
+        [byte] => marks.contains(byte),
+        _ => false,
+    }
+}
+
+/// How many brackets are open after one more token.
+fn brackets_after(count: usize, text: &[u8]) -> usize
+    requires { count + 1 < 2 ^ 64 }
+    ensures is { result ≡ open_after count text.now }
+    ensures most { result ≤ count + 1 }
+{
+    if is_one_of(b"([{", text) {
+        count + 1
+    } else if is_one_of(b")]}", text) {
+        count.saturating_sub(1)
+    } else {
+        count
+    }
+}
+
+#[cfg(test)]
+mod tests {
+    use super::*;
+    use std::test::Fail;
+
+    const CUT: [(Dialect, &str, &[&str]); 5] = [
+        (
+            Dialect::Fil,
+            " p := M<G+1>(a, 8'd1); // one\r\n",
+            &[
+                "p", ":=", "M", "<", "G", "+", "1", ">", "(", "a", ",", "8'd1", ")", ";",
+            ],
+        ),
+        (
+            Dialect::Fil,
+            "a==12abc/*x**/->\"/*\"",
+            &["a", "=", "=", "12", "abc", "->", "\"/*\""],
+        ),
+        (
+            Dialect::Cal,
+            "x$1<=!y/* /* */>=4'xFf",
+            &["x$1", "<=", "!", "y", ">=", "4'xFf"],
+        ),
+        (Dialect::Cal, "8'b12 0'o7", &["8'b1", "2", "0'o7"]),
+        (Dialect::Cal, "", &[]),
+    ];
+
+    #[test]
+    fn cuts_texts_into_tokens(rt: HostRuntime) -> Result<(), Fail> {
+        for (dialect, text, words) in CUT {
+            let tokens = lex(rt.alloc(), text.as_bytes(), dialect)?;
+            assert_eq!(rt; tokens.len(), words.len(), "in {text:?}");
+            for i in 0..words.len() {
+                assert!(rt; i < tokens.len());
+                assert_eq!(rt; tokens.text(i), words[i].as_bytes(), "in {text:?}");
+            }
+        }
+        Ok(())
+    }
+
+    const FAULTS: [(Dialect, &str, usize); 10] = [
+        (Dialect::Fil, "a ! b", 2),
+        (Dialect::Fil, "a - b", 2),
+        (Dialect::Fil, "x$", 1),
+        (Dialect::Cal, "a + b", 2),
+        (Dialect::Fil, "8'd", 1),
+        (Dialect::Cal, " 8'q1", 2),
+        (Dialect::Cal, "a /*/", 2),
+        (Dialect::Fil, "\"a\nb\"", 0),
+        (Dialect::Fil, "a 340282366920938463463374607431768211456", 2),
+        (Dialect::Cal, "8'x100000000000000000000000000000000", 0),
+    ];
+
+    #[test]
+    fn faults_where_nothing_starts(rt: HostRuntime) {
+        for (dialect, text, at) in FAULTS {
+            let end = lex(rt.alloc(), text.as_bytes(), dialect).err();
+            assert_eq!(rt; end, Some(LexEnd::Fault { at }), "in {text:?}");
+        }
+    }
+
+    #[test]
+    fn tells_numbers_and_nesting(rt: HostRuntime) -> Result<(), Fail> {
+        let text = b"340282366920938463463374607431768211455 ((!!8'xfF < [) 16'b0101";
+        let tokens = lex(rt.alloc(), text, Dialect::Cal)?;
+        assert_eq!(rt; tokens.nesting(), 4);
+        assert!(rt; tokens.len() == 10);
+        let first = tokens.token(0);
+        assert_eq!(rt;
+            first,
+            Token {
+                kind: Kind::Number,
+                span: Span { from: 0, to: 39 }
+            }
+        );
+        if first.kind == Kind::Number {
+            assert_eq!(rt; tokens.number(0), u128::MAX);
+        }
+        if tokens.token(9).kind == Kind::Literal {
+            assert_eq!(rt;
+                tokens.literal(9),
+                Literal {
+                    width: 16,
+                    value: 5
+                }
+            );
+        }
+        Ok(())
+    }
+}
