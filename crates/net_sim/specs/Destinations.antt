@@ -1,0 +1,13 @@
+-- Entries of assignments' numbers by the ports that they drive.
+use Rattle.std.specs.Prelude.{◌≡◌, ℕ, ◌+◌, ◌<◌, List, [], ◌∷◌, length, slice_index_or}
+use Rattle.hw_names.specs.Name.{Text}
+use Rattle.net_core.specs.Netlist.{SetLine}
+use Rattle.net_sim.specs.declared.groups.Entry.{Entry}
+
+-- an entry for each assignment: its destination and its number, the first of which is k
+abbrev pub AreDestinations : List Text → ℕ → List Entry → List SetLine → Type 0
+AreDestinations names k [] [] = Unit {0}
+AreDestinations names k [] (a ∷ sets) = ⊥
+AreDestinations names k (e ∷ entries) [] = ⊥
+AreDestinations names k (e ∷ entries) (a ∷ sets) =
+    (e.key < length names) × (slice_index_or names e.key [] ≡ a.dst) × (e.value ≡ k) × AreDestinations names (k + 1) entries sets

@@ -1,0 +1,25 @@
+-- A graph as a list, for each port, of the ports that it reads; orders and loops in it.
+use Rattle.std.specs.Prelude.{◌≡◌, ℕ, ◌+◌, ◌-◌, ◌<◌, List, [], length, take, Contains, slice_index, slice_index_or}
+
+-- the port reads the other
+abbrev pub HasRead : List (List ℕ) → ℕ → ℕ → Type 0
+HasRead reads port other = Contains (slice_index_or reads port []) other
+
+-- what is read is one of the ports
+abbrev pub AreInRange : List (List ℕ) → Type 0
+AreInRange reads = (port other : ℕ) → HasRead reads port other → other < length reads
+
+-- each port once, after all ports that it reads
+pub record IsReadOrder (reads : List (List ℕ)) (order : List ℕ) : Type 0 where
+  pub in_range : (i : ℕ) → i < length order → slice_index order i < length reads
+  pub each : (port : ℕ) → port < length reads → Contains order port
+  pub once : (i j : ℕ) → i < length order → j < length order → slice_index order i ≡ slice_index order j → i ≡ j
+  pub after : (i port : ℕ) → i < length order → HasRead reads (slice_index order i) port → Contains (take i order) port
+
+-- distinct ports, of which each reads the next, and the last reads the first
+pub record IsCycle (reads : List (List ℕ)) (ports : List ℕ) : Type 0 where
+  pub some : 0 < length ports
+  pub in_range : (i : ℕ) → i < length ports → slice_index ports i < length reads
+  pub along : (i : ℕ) → i + 1 < length ports → HasRead reads (slice_index ports i) (slice_index ports (i + 1))
+  pub back : HasRead reads (slice_index ports (length ports - 1)) (slice_index ports 0)
+  pub once : (i j : ℕ) → i < length ports → j < length ports → slice_index ports i ≡ slice_index ports j → i ≡ j

@@ -1,0 +1,18 @@
+//! The order of a netlist's ports, and its simulation row by row.
+#![tactic(auto)]
+
+mod cells;
+mod evaluate;
+mod groups;
+mod laws;
+mod order_end;
+mod plan;
+mod port_order;
+mod search;
+mod sim;
+mod wires;
+
+pub use laws::{ends_after_all, ends_in_its_conflict, one_run, stands_at_next, stands_at_start};
+pub use order_end::OrderEnd;
+pub use port_order::{PortOrder, order};
+pub use sim::{Conflict, Phase, Sim};
