@@ -5,3 +5,4 @@ pub mod Words
 pub mod Cuts
 pub mod TokenTexts
 pub mod Nestings
+pub mod Pieces

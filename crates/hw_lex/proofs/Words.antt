@@ -597,3 +597,73 @@ literal_numbers bytes l =
     let w : take (prefix_len (is_digit Decimal) bytes) bytes ≡ l.width = ap (λ (x : ℕ). take x bytes) n ∙ ap (λ (x : List ℕ). take (length l.width) x) l.parts ∙ take-append_seam l.width after in
     let q : drop (prefix_len (is_digit Decimal) bytes) bytes ≡ after = ap (λ (x : ℕ). drop x bytes) n ∙ ap (λ (x : List ℕ). drop (length l.width) x) l.parts ∙ drop-append_seam l.width after in
     (ap (value_in Decimal) w, ap quoted_value q ∙ ap (λ (o : Option Base). value_by o l.digits) (base_of-base_letter l.base))
+
+-- digits, after which neither a digit nor a quote comes
+abbrev pub goes_on_a_number : ℕ → Bool
+goes_on_a_number byte = is_digit Decimal byte || eqb byte 39
+
+ends_left : (p q : ℕ → Bool) (rest : List ℕ) → Ends (λ byte. p byte || q byte) rest → Ends p rest
+ends_left p q [] h = tt
+ends_left p q (byte ∷ rest) h = by_test (λ v. (v || q byte) ≡ false → v ≡ false) (p byte) (λ _ h. absurd (false≢true (sym h))) (λ _ h. refl) h
+
+no_tail : (rest : List ℕ) → Ends goes_on_a_number rest → literal_tail rest ≡ 0
+no_tail [] h = refl
+no_tail (quote ∷ []) h = refl
+no_tail (quote ∷ letter ∷ digits) h =
+    let q : eqb quote 39 ≡ false = by_test (λ v. (v || eqb quote 39) ≡ false → eqb quote 39 ≡ false) (is_digit Decimal quote) (λ _ h. absurd (false≢true (sym h))) (λ _ h. h) h in
+    rw q refl
+
+front_digit : (dialect : Dialect) (first : ℕ) (others : List ℕ) → is_letter first ≡ false → is_digit Decimal first ≡ true → front_word dialect (first ∷ others) ≡ if_any (numeral (first ∷ others))
+front_digit dialect first others l d = rw (l, d) refl
+
+some_any : (kind : Kind) (len : ℕ) → 0 < len → if_any (kind, len) ≡ Some (kind, len)
+some_any kind len lt = rw (positive len lt) refl
+
+pub number_stands : (dialect : Dialect) (first : ℕ) (others rest : List ℕ) → IsDigits Decimal (first ∷ others) → Fits Number (first ∷ others) → Ends goes_on_a_number rest → Stands dialect Number (first ∷ (others ++ rest)) rest
+number_stands dialect first others rest digits fits ends =
+    let d = (and_true (is_digit Decimal first) (list_all (is_digit Decimal) others) digits.1).0 in
+    let n : prefix_len (is_digit Decimal) ((first ∷ others) ++ rest) ≡ length (first ∷ others) = run_ends (is_digit Decimal) (first ∷ others) rest digits.1 (ends_left (is_digit Decimal) (λ byte. eqb byte 39) rest ends) in
+    let text = (first ∷ others) ++ rest in
+    let tail : literal_tail (drop (prefix_len (is_digit Decimal) text) text) ≡ 0 = ap (λ (x : ℕ). literal_tail (drop x text)) n ∙ ap literal_tail (drop-append_seam (first ∷ others) rest) ∙ no_tail rest ends in
+    let found : numeral text ≡ (Number, length (first ∷ others)) = rw (tail, n) refl in
+    let word : front_word dialect text ≡ Some (Number, length (first ∷ others)) = front_digit dialect first (others ++ rest) (digit_no_letter first d) d ∙ ap if_any found ∙ some_any Number (length (first ∷ others)) (omega arith) in
+    stands_by dialect Number (first ∷ others) rest fits word
+
+-- a literal, after which no digit of its base comes
+pub literal_stands : (dialect : Dialect) (first : ℕ) (others : List ℕ) (base : Base) (digits rest : List ℕ) → IsDigits Decimal (first ∷ others) → IsDigits base digits
+    → Fits Literal (first ∷ (others ++ 39 ∷ base_letter base ∷ digits)) → Ends (is_digit base) rest
+    → Stands dialect Literal ((first ∷ (others ++ 39 ∷ base_letter base ∷ digits)) ++ rest) rest
+literal_stands dialect first others base digits rest width value fits ends =
+    let d = (and_true (is_digit Decimal first) (list_all (is_digit Decimal) others) width.1).0 in
+    let word = first ∷ (others ++ 39 ∷ base_letter base ∷ digits) in
+    let text = word ++ rest in
+    let after = 39 ∷ base_letter base ∷ (digits ++ rest) in
+    let whole : text ≡ (first ∷ others) ++ after = append_assoc (first ∷ others) (39 ∷ base_letter base ∷ digits) rest in
+    let n : prefix_len (is_digit Decimal) text ≡ length (first ∷ others) = ap (prefix_len (is_digit Decimal)) whole ∙ run_ends (is_digit Decimal) (first ∷ others) after width.1 refl in
+    let q : drop (prefix_len (is_digit Decimal) text) text ≡ after = ap (λ (x : ℕ). drop x text) n ∙ ap (λ (x : List ℕ). drop (length (first ∷ others)) x) whole ∙ drop-append_seam (first ∷ others) after in
+    let count : prefix_len (is_digit base) (digits ++ rest) ≡ length digits = run_ends (is_digit base) digits rest value.1 ends in
+    let based : literal_tail after ≡ length digits + 2 = rw (base_of-base_letter base, count, positive (length digits) value.0) refl in
+    let tail : literal_tail (drop (prefix_len (is_digit Decimal) text) text) ≡ length digits + 2 = ap literal_tail q ∙ based in
+    let size : length (first ∷ others) + (length digits + 2) ≡ length word = omega (arith, length-append others (39 ∷ base_letter base ∷ digits)) in
+    let found : numeral text ≡ (Literal, length word) = rw (tail, n, positive (length digits + 2) (omega arith)) (ap (λ (x : ℕ). (Literal, x)) size) in
+    stands_by dialect Literal word rest fits (front_digit dialect first ((others ++ 39 ∷ base_letter base ∷ digits) ++ rest) (digit_no_letter first d) d ∙ ap if_any found ∙ some_any Literal (length word) (omega arith))
+
+front_other : (dialect : Dialect) (first : ℕ) (others : List ℕ) → is_letter first ≡ false → is_digit Decimal first ≡ false → eqb first 34 ≡ false → front_word dialect (first ∷ others) ≡ if_any (Mark, mark_len dialect (first ∷ others))
+front_other dialect first others l d q = rw (l, d, q) refl
+
+single_len : (dialect : Dialect) (mark : ℕ) (rest : List ℕ) → is_single_mark dialect mark ≡ true → Ends (is_double_mark dialect mark) rest → mark_len dialect (mark ∷ rest) ≡ 1
+single_len dialect mark [] s e = rw s refl
+single_len dialect mark (next ∷ rest) s e = rw (e, s) refl
+
+-- a mark of one byte, with whose next byte it is none of two
+pub single_stands : (dialect : Dialect) (mark : ℕ) (rest : List ℕ) → is_single_mark dialect mark ≡ true → Ends (is_double_mark dialect mark) rest → Stands dialect Mark (mark ∷ rest) rest
+single_stands dialect mark rest s ends =
+    let o = other_parts mark (single_other dialect mark s) in
+    stands_by dialect Mark (mark ∷ []) rest tt (front_other dialect mark rest o.0 o.1 o.2 ∙ ap (λ (x : ℕ). if_any (Mark, x)) (single_len dialect mark rest s ends) ∙ some_any Mark 1 (omega arith))
+
+-- a mark of two bytes
+pub double_stands : (dialect : Dialect) (first second : ℕ) (rest : List ℕ) → is_double_mark dialect first second ≡ true → Stands dialect Mark (first ∷ second ∷ rest) rest
+double_stands dialect first second rest h =
+    let o = other_parts first (double_other dialect first second h) in
+    let two : mark_len dialect (first ∷ second ∷ rest) ≡ 2 = rw h refl in
+    stands_by dialect Mark (first ∷ second ∷ []) rest tt (front_other dialect first (second ∷ rest) o.0 o.1 o.2 ∙ ap (λ (x : ℕ). if_any (Mark, x)) two ∙ some_any Mark 2 (omega arith))

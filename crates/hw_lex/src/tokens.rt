@@ -99,6 +99,13 @@ impl<'a> Tokens<'a> {
         self.dialect
     }
 
+    /// The text that was cut.
+    pub fn source(&self) -> &'a [u8]
+        ensures { result.now ≡ self.now.source }
+    {
+        self.source
+    }
+
     /// How many tokens there are.
     pub fn len(&self) -> usize
         ensures { result ≡ length self.now.tokens }

@@ -26,3 +26,4 @@ pub mod WireLemmas
 pub mod PigeonholeLemmas
 pub mod OrderLemmas
 pub mod OneRunLemmas
+pub mod NoLoopLemmas

@@ -83,7 +83,7 @@ role_of n valid p has = elim (in_append (map (own_port true false) n.ins ++ map 
 ]
 
 -- a port's number, by its name
-number_of : (n : Netlist) (name : Text) → Contains (port_names n) name → (m : ℕ) × IsNamed n m name
+pub number_of : (n : Netlist) (name : Text) → Contains (port_names n) name → (m : ℕ) × IsNamed n m name
 number_of n name has =
     let k = at_of (port_names n) name (in_of (port_names n) name has) in
     let lt : k.0 < length (ports_of n) = omega (arith, slice_get_within (port_names n) k.0 name k.1, length-map (ports_of n) (λ (p : PortLine). p.name)) in
@@ -91,7 +91,7 @@ number_of n name has =
     (k.0, (p.0, p.1, same_Some p.0.name name (sym (named_at n k.0 p.0 p.1) ∙ k.1)))
 
 -- an input of a cell has a number
-input_number : (n : Netlist) (cell : Text) (prim : Primitive) → IsNetCell n cell prim → (input : Text) → Contains (pin_names (inputs_of prim)) input → (m : ℕ) × IsNamed n m (dotted cell input)
+pub input_number : (n : Netlist) (cell : Text) (prim : Primitive) → IsNetCell n cell prim → (input : Text) → Contains (pin_names (inputs_of prim)) input → (m : ℕ) × IsNamed n m (dotted cell input)
 input_number n cell prim (k, c, at, named, made) input has =
     let pin = pin_at (inputs_of prim) input has in
     let none : Pin = record { name = []; width = 0 } in

@@ -1,5 +1,5 @@
-//! Laws of the rows that a simulation makes, one after another.
-ghost use Rattle.net_sim.specs.OneRun.{OneRun};
+//! Laws of the rows that a simulation makes, one after another, and of orders.
+ghost use Rattle.net_sim.specs.OneRun.{OneRun, OrderRulesLoopsOut};
 ghost use Rattle.net_sim.specs.Standing.{StandsAtStart, StandsAtNext, EndsAfterAll, EndsInItsConflict};
 
 /// A new simulation stands at row 0 of each run without loads.
@@ -25,4 +25,9 @@ pub fn ends_in_its_conflict()
 /// Where a netlist has an order, rows of the same inputs and loads agree at every port: it has one run.
 pub fn one_run()
     ensures { OneRun }
+{}
+
+/// Where a netlist has an order, it has no loop.
+pub fn order_rules_loops_out()
+    ensures { OrderRulesLoopsOut }
 {}

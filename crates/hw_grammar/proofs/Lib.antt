@@ -1,0 +1,14 @@
+pub mod Sorts
+pub mod Exact
+pub mod Whole
+pub mod Loop
+pub mod Upto
+pub mod Limit
+pub mod Show
+pub mod By
+pub mod Examples
+pub mod PlainNames
+pub mod TerminalLemmas
+pub mod Texts
+pub mod Renaming
+pub mod Marks

@@ -1,0 +1,9 @@
+pub mod Sort
+pub mod Terminals
+pub mod Grammar
+pub mod Place
+pub mod Reading
+pub mod Ends
+pub mod Showing
+pub mod TextPlace
+pub mod Renaming

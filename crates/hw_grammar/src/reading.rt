@@ -1,0 +1,58 @@
+//! What every reader is made of.
+ghost use Rattle.std.specs.Prelude.{◌≡◌, [], ◌∷◌};
+ghost use Rattle.hw_grammar.specs.Reading.{Gives, one};
+ghost use Rattle.hw_grammar.specs.Sort.{has_sort, has};
+
+use crate::end::ReadEnd;
+use crate::sort::Sort;
+use crate::terminal::Terminal;
+
+/// Whether the first terminal has this sort.
+pub fn starts(ts: &[Terminal], sort: Sort) -> bool
+    ensures { result ≡ has (sort ∷ []) ts.now }
+{
+    match ts {
+        [] => false,
+        [t, ..] => t.sort == sort,
+    }
+}
+
+/// Whether the first terminal has one of these sorts.
+pub fn starts_any(ts: &[Terminal], sorts: &[Sort]) -> bool
+    ensures { result ≡ has sorts.now ts.now }
+{
+    match ts {
+        [] => false,
+        [t, ..] => is_among(t.sort, sorts),
+    }
+}
+
+/// Whether the sort is one of these.
+fn is_among(sort: Sort, sorts: &[Sort]) -> bool
+    ensures { result ≡ has_sort sort sorts.now }
+{
+    let mut rest = sorts;
+    while let [first, others @ ..] = rest {
+        if sort == *first {
+            return true;
+        }
+        rest = others;
+    }
+    false
+}
+
+/// The first terminal, which is to have this sort, and those after it.
+pub fn read_one(ts: &[Terminal], sort: Sort) -> Result<(Terminal, &[Terminal]), ReadEnd<'_>>
+    ensures { Gives (λ x. (x.0, x.1.now)) result (one sort ts.now) }
+{
+    match ts {
+        [] => Err(ReadEnd::Refused(ts)),
+        [t, rest @ ..] => {
+            if t.sort == sort {
+                Ok((*t, rest))
+            } else {
+                Err(ReadEnd::Refused(ts))
+            }
+        }
+    }
+}
