@@ -1,0 +1,90 @@
+-- What the program leaves in its two sinks at each answer, and the cause of each answer that is no verdict's. This project's.
+use Rattle.std.specs.Prelude.{◌≡◌, ◌≢◌, ℕ, ◌≤◌, List, [], Option, IsSome, Contains}
+use Rattle.std.specs.Io.KnownBytes.{Appends, Keeps}
+use Rattle.hw_io.specs.Faults.{Rose}
+use Rattle.hw_io.specs.Reading.{IsReadFault}
+use Rattle.hw_io.specs.Writing.{AppendsPrefix}
+use Rattle.hw_names.specs.Name.{Text}
+use Rattle.filc_core.specs.Lines.{as_line, read_fault_line}
+use Rattle.filc_core.specs.Request.{Request, file_of, Asks, AskNothing}
+use Rattle.net_core.specs.Netlist.{Netlist}
+use Rattle.filc_core.specs.Verdict.{Verdict, AsksForRun}
+use Rattle.filc_core.specs.declared.ended.Ended.{Ended}
+use Rattle.filc_core.specs.declared.ended.Ended.TheVariants.{Done, Refused, Usage, ReadFault, WriteFault, Memory, Stimulus, Conflict, Limit}
+
+-- the answer is a verdict's, and not one for a fault or for want of memory
+abbrev pub IsVerdictEnd : Ended → Type 0
+IsVerdictEnd ReadFault = ⊥
+IsVerdictEnd WriteFault = ⊥
+IsVerdictEnd Memory = ⊥
+IsVerdictEnd ended = Unit {0}
+
+-- the words call for such an answer, whatever the files tell
+abbrev pub IsCalledFor : List Text → Ended → Type 0
+IsCalledFor words Usage = AskNothing words
+IsCalledFor words Stimulus = ⊥
+IsCalledFor words WriteFault = Unit {0}
+IsCalledFor words Memory = Unit {0}
+IsCalledFor words ended = (r : Request) × Asks words r
+
+-- the files tell the content of what the words ask for
+abbrev pub AreTold : List Text → (Text → Option Text) → Type 0
+AreTold words contents = (r : Request) → Asks words r → IsSome (contents (file_of r))
+
+-- a verdict's report and its line were written, whole
+pub record IsAnswered (words : List Text) (contents : Text → Option Text) (ended : Ended) (out out' err err' : Option Text) : Type 0 where
+  pub report : Text
+  pub line : Text
+  pub verdict : Verdict words contents ended report line
+  pub reported : Appends out out' report
+  pub told : Appends err err' (as_line line)
+
+-- the words ask for a file, and reading it failed by its own cause
+pub record HasReadCause (words : List Text) (names : List Text) (before after : Text → ℕ) (file : Text) : Type 0 where
+  pub request : Request
+  pub asks : Asks words request
+  pub named : file_of request ≡ file
+  pub cause : IsReadFault names file (before file) (after file)
+
+-- reading failed: nothing is reported, and the line names the file
+pub record HasReadFault (words : List Text) (names : List Text) (before after : Text → ℕ) (out out' err err' : Option Text) : Type 0 where
+  pub file : Text
+  pub has_cause : HasReadCause words names before after file
+  pub unreported : Keeps out out'
+  pub told : Appends err err' (as_line (read_fault_line file))
+
+-- out gained a prefix of the report that the words and the contents call for, whatever the rest of it would be
+abbrev pub HasPartOfReport : List Text → (Text → Option Text) → Option Text → Option Text → Type 0
+HasPartOfReport words contents out out' =
+    (ended : Ended) (report line : Text) → Verdict words contents ended report line → AppendsPrefix out out' report
+
+-- writing failed, with a part of the report and of the line there: in the report, in a verdict's line, or in the line of a read fault
+pub data HasWriteFault (words : List Text) (contents : Text → Option Text) (names : List Text) (before after : Text → ℕ) (out out' err err' : Option Text) (out_rose err_rose : Type 0) : Type 0 where
+  InReport : out_rose → HasPartOfReport words contents out out' → Keeps err err' → HasWriteFault words contents names before after out out' err err' out_rose err_rose
+  InLine : (ended : Ended) (report line : Text) → Verdict words contents ended report line → line ≢ [] → err_rose → Appends out out' report → AppendsPrefix err err' (as_line line) → HasWriteFault words contents names before after out out' err err' out_rose err_rose
+  InReadFault : (file : Text) → HasReadCause words names before after file → err_rose → Keeps out out' → AppendsPrefix err err' (as_line (read_fault_line file)) → HasWriteFault words contents names before after out out' err err' out_rose err_rose
+
+-- Nothing of the files changes but the count of faults of the file that the words ask for, which doesn't fall.
+pub record KeepsOtherFiles {F : Type 0} (words : List Text) (names : F → List Text) (contents : F → Text → Option Text) (faults : F → Text → ℕ) (old new : F) : Type 0 where
+  pub names_kept : names new ≡ names old
+  pub contents_kept : (name : Text) → contents new name ≡ contents old name
+  pub others_kept : (name : Text) → ((r : Request) → Asks words r → file_of r ≢ name) → faults new name ≡ faults old name
+  pub never_fall : (name : Text) → faults old name ≤ faults new name
+
+-- the files know what the words ask for, and no count of faults rose: not that file's, and not those of the two sinks
+pub record MeetsNoFault (words : List Text) (names : List Text) (before after : Text → ℕ) (out_rose err_rose : Type 0) : Type 0 where
+  pub known : (r : Request) → Asks words r → Contains names (file_of r)
+  pub read : (r : Request) → Asks words r → Rose (before (file_of r)) (after (file_of r)) → ⊥
+  pub reported : out_rose → ⊥
+  pub told : err_rose → ⊥
+
+-- an answer where the words ask for a run that there is
+abbrev pub IsRunEnd : Ended → Type 0
+IsRunEnd Done = Unit {0}
+IsRunEnd Conflict = Unit {0}
+IsRunEnd Memory = Unit {0}
+IsRunEnd ended = ⊥
+
+-- what is asked for is run: no fault and no limit stands against it
+abbrev pub IsComplete : List Text → (Text → Option Text) → Ended → Type 0 → Type 0
+IsComplete words contents ended no_fault = (n : Netlist) (cycles : ℕ) → AsksForRun words contents n cycles → no_fault → IsRunEnd ended

@@ -1,0 +1,8 @@
+-- The program's own values, as what they say.
+use Rattle.filc_core.specs.Request.{Request, RowsOf}
+use Rattle.filc_core.specs.declared.request.Request.{Request as RequestValue}
+use Rattle.filc_core.specs.declared.request.Request.TheVariants.{Rows}
+
+-- what a command asks for
+abbrev pub request_of : RequestValue → Request
+request_of (Rows file cycles) = RowsOf file.now cycles

@@ -1,0 +1,88 @@
+//! The text of rows, passed on as they come.
+ghost use Rattle.std.specs.Prelude.{◌≡◌, ℕ, ◌<◌, ◌≤◌, [], ◌++◌, length, slice_get, slice_range, Some, OnOk, OnErr};
+ghost use Rattle.hw_io.specs.Faults.{Rose};
+ghost use Rattle.hw_io.specs.Writing.{AppendsPrefix, Passes};
+ghost use Rattle.filc_core.specs.Rows.{port_text, line_text};
+ghost use Rattle.filc_core.specs.Slots.{HasNumbers};
+ghost use Rattle.filc_core.specs.Stops.{joined};
+
+use hw_io::{Failed, Gather, Sink};
+use itoa::Buffer;
+use net_core::Table;
+use net_sim::Sim;
+use std::ops::Range;
+
+/// Passes the texts on, one after another.
+fn push_texts<O: Sink>(held: &mut Gather, out: &mut O, texts: &[&[u8]]) -> Result<(), Failed>
+    ensures passed { OnOk result (Passes (O.written out.old) held.old (O.written out.new) held.new (joined texts.now)) }
+    ensures prefix { OnErr result (AppendsPrefix (O.written out.old) (O.written out.new) (held.old ++ joined texts.now)) }
+    ensures emptied { OnErr result (held.new ≡ []) }
+    ensures failed { OnErr result (Rose (O.faults out.old) (O.faults out.new)) }
+    ensures never_falls { O.faults out.old ≤ O.faults out.new }
+{
+    for text in texts {
+        held.push(out, text)?;
+    }
+    Ok(())
+}
+
+/// Passes a port with its value on.
+fn push_port<O: Sink>(
+    held: &mut Gather,
+    out: &mut O,
+    port: &[u8],
+    value: u128,
+) -> Result<(), Failed>
+    ensures passed { OnOk result (Passes (O.written out.old) held.old (O.written out.new) held.new (port_text port.now value)) }
+    ensures prefix { OnErr result (AppendsPrefix (O.written out.old) (O.written out.new) (held.old ++ port_text port.now value)) }
+    ensures emptied { OnErr result (held.new ≡ []) }
+    ensures failed { OnErr result (Rose (O.faults out.old) (O.faults out.new)) }
+    ensures never_falls { O.faults out.old ≤ O.faults out.new }
+{
+    let mut digits = Buffer::new();
+    let texts = [
+        " ".as_bytes(),
+        port,
+        "=".as_bytes(),
+        digits.format(value).as_bytes(),
+    ];
+    push_texts(held, out, &texts)
+}
+
+/// The name of a port.
+pub(crate) fn name_of(table: &Table, port: usize) -> &[u8]
+    requires named { port < length table.now.names }
+    requires numbers { HasNumbers table.now }
+    ensures { slice_get table.now.names port ≡ Some result.now }
+{
+    table.names.text(table.ports[port].name)
+}
+
+/// Passes the line of a row on: the cycle, and these ports with their values in the row.
+pub(crate) fn push_row<O: Sink>(
+    sim: &Sim,
+    table: &Table,
+    ports: &Range<usize>,
+    cycle: u64,
+    held: &mut Gather,
+    out: &mut O,
+) -> Result<(), Failed>
+    requires in_order { ports.now.start ≤ ports.now.end }
+    requires named { ports.now.end ≤ length table.now.names }
+    requires numbers { HasNumbers table.now }
+    requires evaluated { ports.now.end ≤ length sim.now.values }
+    ensures passed { OnOk result (Passes (O.written out.old) held.old (O.written out.new) held.new
+        (line_text cycle (slice_range table.now.names ports.now.start ports.now.end) (slice_range sim.now.values ports.now.start ports.now.end))) }
+    ensures prefix { OnErr result (AppendsPrefix (O.written out.old) (O.written out.new)
+        (held.old ++ line_text cycle (slice_range table.now.names ports.now.start ports.now.end) (slice_range sim.now.values ports.now.start ports.now.end))) }
+    ensures emptied { OnErr result (held.new ≡ []) }
+    ensures failed { OnErr result (Rose (O.faults out.old) (O.faults out.new)) }
+    ensures never_falls { O.faults out.old ≤ O.faults out.new }
+{
+    let mut digits = Buffer::new();
+    held.push(out, digits.format(cycle).as_bytes())?;
+    for port in ports.start..ports.end {
+        push_port(held, out, name_of(table, port), sim.value(port).value())?;
+    }
+    held.push(out, "\n".as_bytes())
+}
