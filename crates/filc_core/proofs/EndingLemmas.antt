@@ -1,15 +1,13 @@
 -- From what a command and its line leave in the sinks to the causes of each answer.
-use Rattle.std.proofs.Common.{◌≡◌, ◌≢◌, ℕ, ◌≤◌, ◌⊎◌, List, [], ◌∷◌, Option, Some, IsSome, Contains, refl, sym, ap, subst, ◌∙◌, inl, inr, ⊎_elim}
-use Rattle.std.specs.Io.KnownBytes.{Appends, Keeps}
-use Rattle.hw_io.specs.Faults.{Rose}
+use Rattle.std.proofs.Common.{◌≡◌, ◌≢◌, ℕ, ◌⊎◌, List, [], Option, IsSome, refl, sym, ap, subst, ◌∙◌, inl, inr, ⊎_elim}
+use Rattle.std.specs.Io.KnownBytes.{Keeps}
 use Rattle.hw_io.specs.Reading.{IsReadFault}
-use Rattle.hw_io.specs.Writing.{AppendsPrefix}
 use Rattle.hw_io.proofs.WritingLemmas.{appends_none}
 use Rattle.hw_names.specs.Name.{Text}
 use Rattle.net_core.specs.Netlist.{Netlist}
-use Rattle.filc_core.specs.Ending.{IsVerdictEnd, IsCalledFor, AreTold, IsAnswered, HasReadFault, HasReadCause, HasWriteFault, InReport, InLine, InReadFault, HasPartOfReport, MeetsNoFault, IsRunEnd, IsComplete}
-use Rattle.filc_core.specs.Lines.{as_line, usage_line, memory_line, read_fault_line}
-use Rattle.filc_core.specs.Report.{HasReport, Leaves, LeavesAt}
+use Rattle.filc_core.specs.Ending.{IsVerdictEnd, IsCalledFor, AreTold, IsAnswered, HasReadFault, HasWriteFault, InReport, InLine, InReadFault, HasPartOfReport, MeetsNoFault, IsRunEnd}
+use Rattle.filc_core.specs.Lines.{usage_line}
+use Rattle.filc_core.specs.Report.{HasReport, LeavesAt}
 use Rattle.filc_core.specs.Request.{Request, RowsOf, file_of, Asks, AskNothing}
 use Rattle.filc_core.specs.Stops.{IsLineTold, IsTold, ended_of, untold_of, line_of}
 use Rattle.filc_core.specs.Verdict.{Verdict, NotAsked, AsksForRun}

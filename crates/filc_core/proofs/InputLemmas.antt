@@ -1,5 +1,5 @@
 -- The inputs of a run as they are set.
-use Rattle.std.proofs.Common.{◌≡◌, ℕ, zero, suc, ◌+◌, ◌-◌, ◌<◌, ◌≤◌, List, [], ◌∷◌, ◌++◌, length, take, drop, get_or, set, slice_get, slice_range, slice_set, replicate, Some, map, cond, false, ⊎_elim, refl, sym, ap, ap₂, subst, ◌∙◌, arith, append_assoc, get_or-drop}
+use Rattle.std.proofs.Common.{◌≡◌, ℕ, zero, suc, ◌+◌, ◌-◌, ◌<◌, ◌≤◌, List, [], ◌∷◌, ◌++◌, length, take, drop, get_or, set, slice_get, slice_range, slice_set, replicate, Some, cond, false, ⊎_elim, refl, sym, ap, ap₂, ◌∙◌, arith, get_or-drop}
 use Rattle.std.proofs.lemmas.List.{map-set, take_more, take_more_set, length-drop, length-map, get_or-map, replicate-append-replicate}
 use Rattle.std.proofs.lemmas.Option.{get_or_from_slice_get, slice_get_within, slice_get-get_or}
 use Rattle.std.proofs.Math.Seq.{map-set_same, take-add}

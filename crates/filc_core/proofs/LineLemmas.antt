@@ -1,5 +1,5 @@
 -- The texts of a line, one after another.
-use Rattle.std.proofs.Common.{◌≡◌, ℕ, List, [], ◌∷◌, ◌++◌, codes, decimal, sym, ap, ◌∙◌, append_assoc}
+use Rattle.std.proofs.Common.{◌≡◌, ℕ, [], ◌∷◌, ◌++◌, codes, decimal, sym, ap, ◌∙◌, append_assoc}
 use Rattle.hw_names.specs.Name.{Text}
 use Rattle.filc_core.specs.Lines.{as_line, conflict_line}
 

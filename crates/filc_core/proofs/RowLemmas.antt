@@ -5,7 +5,6 @@ use Rattle.std.proofs.lemmas.Option.{slice_get-get_or, get_or_from_slice_get}
 use Rattle.std.proofs.lemmas.List.Elements.{Contains-append_right}
 use Rattle.hw_names.specs.Name.{Text}
 use Rattle.hw_prims.specs.Row.{Row, Trace}
-use Rattle.hw_io.specs.Writing.{AppendsPrefix}
 use Rattle.filc_core.specs.Rows.{port_text, ports_text, line_text, row_text, rows_text}
 
 values_same : (row row' : Row) (ports : List Text) → ((port : Text) → Contains ports port → row port ≡ row' port) → flat_map (λ port. port_text port (row port)) ports ≡ flat_map (λ port. port_text port (row' port)) ports

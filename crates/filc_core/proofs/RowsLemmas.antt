@@ -1,11 +1,11 @@
 -- What `rows` leaves where no row was run.
-use Rattle.std.proofs.Common.{◌≡◌, ℕ, ◌<◌, ◌≤◌, List, [], length, Option, None, Some, refl, sym, ap, subst, arith}
+use Rattle.std.proofs.Common.{◌≡◌, ℕ, ◌<◌, ◌≤◌, List, [], length, Option, None, Some, refl, sym, ap, subst}
 use Rattle.std.specs.Prelude.{Result, Ok, Err, IsSome, IfSome}
 use Rattle.std.specs.Result.{IsErrAnd}
 use Rattle.hw_io.proofs.WritingLemmas.{appends_none}
 use Rattle.hw_names.specs.Name.{Text}
+use Rattle.filc_core.proofs.RunLemmas.{nothing_written}
 use Rattle.filc_core.specs.Built.{IsUnbuilt}
-use Rattle.filc_core.specs.Ending.{HasPartOfReport}
 use Rattle.filc_core.specs.Report.{HasReport, Leaves, LeavesAt}
 use Rattle.filc_core.specs.Request.{RowsOf, Asks}
 use Rattle.filc_core.specs.Stops.{line_of}
@@ -35,12 +35,9 @@ long_report words contents file cycles out asks is long =
     let over : MOST_NET_BYTES < length told.0 = subst (λ (o : Option Text). IfSome o (λ content. MOST_NET_BYTES < length content)) told.1 long in
     record { report = []; verdict = TooLong (RowsOf file cycles) told.0 asks told.1 over refl refl refl; reported = appends_none out }
 
-pub no_part : (words : List Text) (contents : Text → Option Text) (out : Option Text) → HasPartOfReport words contents out out
-no_part words contents out = λ ended report line verdict. record { gained = []; left = report; in_order = refl; appended = appends_none out }
-
 unbuilt_leaves : (words : List Text) (contents : Text → Option Text) (file bytes : Text) (cycles : ℕ) (why : Stop) (out : Option Text) → AsksForRows words contents bytes cycles → IsUnbuilt bytes why → LeavesAt words contents file why out out
 unbuilt_leaves words contents file bytes cycles stop.NotBuilt out asks unbuilt = record { report = []; verdict = NotBuilt bytes cycles asks unbuilt refl refl refl; reported = appends_none out }
-unbuilt_leaves words contents file bytes cycles stop.Memory out asks unbuilt = no_part words contents out
+unbuilt_leaves words contents file bytes cycles stop.Memory out asks unbuilt = nothing_written words contents out
 unbuilt_leaves words contents file bytes cycles stop.ReadFault out asks unbuilt = absurd unbuilt
 unbuilt_leaves words contents file bytes cycles stop.TooLong out asks unbuilt = absurd unbuilt
 unbuilt_leaves words contents file bytes cycles (stop.TooManyCycles many) out asks unbuilt = absurd unbuilt

@@ -1,5 +1,5 @@
 -- What a run leaves in the sink, at each of its ends.
-use Rattle.std.proofs.Common.{◌≡◌, ℕ, zero, suc, ◌+◌, ◌<◌, ◌≤◌, ◌⊎◌, List, [], ◌∷◌, ◌++◌, Bool, true, false, if◌then◌else◌, Option, Some, None, length, map, refl, sym, ap, subst, ◌∙◌, arith, inl, inr}
+use Rattle.std.proofs.Common.{◌≡◌, ℕ, zero, suc, ◌<◌, ◌⊎◌, List, [], ◌∷◌, Bool, true, false, if◌then◌else◌, Option, Some, length, refl, sym, ap, subst, ◌∙◌, arith, inl, inr}
 use mathlib.Core.Path.{fun_ext}
 use Rattle.std.specs.Prelude.{slice_get, replicate, bytes_eq}
 use Rattle.std.specs.Io.KnownBytes.{Appends}
@@ -28,8 +28,8 @@ use Rattle.filc_core.specs.Ending.{HasPartOfReport}
 use Rattle.filc_core.specs.Inputs.{driven}
 use Rattle.filc_core.specs.Report.{HasReport, LeavesAt}
 use Rattle.filc_core.specs.Rows.{rows_text, outputs_of_net}
-use Rattle.filc_core.specs.Streams.{RunsCleanly, RunsIntoConflict, StreamsAll, StreamsToConflict, StreamsPart, IsStreamed}
-use Rattle.filc_core.specs.Verdict.{Verdict, Clashes, Runs, AsksForRun, no_inputs, no_loads}
+use Rattle.filc_core.specs.Streams.{RunsCleanly, RunsIntoConflict, StreamsToConflict, IsStreamed}
+use Rattle.filc_core.specs.Verdict.{Clashes, Runs, AsksForRun, no_inputs, no_loads}
 use Rattle.filc_core.specs.declared.ended.Ended.TheVariants.{Done}
 use Rattle.filc_core.specs.declared.stop.Stop.{Stop}
 use Rattle.filc_core.specs.declared.stop.Stop.TheVariants as stop

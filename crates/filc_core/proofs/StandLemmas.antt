@@ -1,5 +1,5 @@
 -- A run grows by the row that a simulator evaluated.
-use Rattle.std.proofs.Common.{◌≡◌, ◌≢◌, ℕ, zero, suc, ◌+◌, ◌-◌, ◌<◌, ◌≤◌, ◌⊎◌, take, drop, slice_range, decimal, List, [], ◌∷◌, ◌++◌, Bool, true, false, cond, eqb, length, get_or, map, flat_map, Option, None, Some, Contains, refl, sym, ap, ap₂, subst, ◌∙◌, arith, inl, inr, ⊎_elim}
+use Rattle.std.proofs.Common.{◌≡◌, ◌≢◌, ℕ, zero, suc, ◌-◌, ◌<◌, ◌≤◌, ◌⊎◌, take, drop, slice_range, decimal, List, [], ◌∷◌, ◌++◌, Bool, true, false, cond, eqb, length, get_or, map, flat_map, Option, None, Some, refl, sym, ap, ap₂, subst, ◌∙◌, arith, inl, inr, ⊎_elim}
 use Rattle.std.specs.Prelude.{bytes_eq}
 use Rattle.std.proofs.lemmas.Bool.{ne_eqb, cases_lt}
 use Rattle.std.proofs.lemmas.Bool.Decides.{eqb_tells}
@@ -14,11 +14,11 @@ use Rattle.hw_prims.specs.State.{State}
 use Rattle.hw_prims.specs.Table.{inputs_of, pin_names}
 use Rattle.hw_prims.specs.declared.prim.Primitive.{Primitive}
 use Rattle.net_core.specs.Circuit.{IsRow, IsComputed, HasConflict, IsReported, EndsInConflict, state_before, states_before}
-use Rattle.net_core.specs.NetRun.{NetRun, net_circuit, IsNetCell, HasPin}
+use Rattle.net_core.specs.NetRun.{net_circuit, IsNetCell, HasPin}
 use Rattle.net_core.specs.Netlist.{Netlist, netlist_of}
 use Rattle.net_sim.specs.Sim.{SimValue, IsRowOfSim, IsEdgeOfSim, IsEvaluated, AreStepped, AreConflicts, states_of, input_row, port_row}
 use Rattle.net_core.specs.Rules.{PortLine, ports_of}
-use Rattle.net_sim.specs.Standing.{StandsAt, StandsOn}
+use Rattle.net_sim.specs.Standing.{StandsOn}
 use Rattle.net_sim.specs.Slots.{row_of}
 use Rattle.net_sim.specs.Layout.{name_of, port_names}
 use Rattle.filc_core.specs.Streams.{RunsCleanly, RunsIntoConflict}

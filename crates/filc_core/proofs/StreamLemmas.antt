@@ -1,5 +1,5 @@
 -- A stream of rows, one row after another.
-use Rattle.std.proofs.Common.{◌≡◌, ℕ, zero, suc, ◌+◌, ◌<◌, ◌≤◌, List, [], ◌∷◌, ◌++◌, Option, None, Some, length, map, slice_get, refl, sym, ap, subst, ◌∙◌, arith, append_assoc, false, get_or, inl, inr}
+use Rattle.std.proofs.Common.{◌≡◌, ℕ, suc, ◌<◌, List, [], ◌++◌, Option, None, Some, length, refl, sym, ap, subst, ◌∙◌, arith, false, get_or, inl}
 use Rattle.std.proofs.lemmas.List.{append-nil, length-map, get_or-map}
 use Rattle.std.proofs.lemmas.Option.{slice_get-get_or}
 use Rattle.hw_io.specs.Writing.{AppendsPrefix, Passes}
@@ -7,7 +7,7 @@ use Rattle.hw_io.proofs.WritingLemmas.{passed_none, passed_both, passed_prefix}
 use Rattle.hw_names.specs.Name.{Text}
 use Rattle.hw_prims.specs.Row.{Row, Trace}
 use Rattle.net_core.specs.NetRun.{HasPin}
-use Rattle.net_core.specs.Netlist.{Netlist, netlist_of}
+use Rattle.net_core.specs.Netlist.{Netlist}
 use Rattle.net_core.specs.Rules.{PortLine, ports_of}
 use Rattle.net_sim.specs.Layout.{name_of, port_names}
 use Rattle.net_sim.specs.Order.{IsNamed}
@@ -16,9 +16,7 @@ use Rattle.net_sim.specs.declared.sim.Phase.{Phase}
 use Rattle.net_sim.specs.declared.sim.Phase.TheVariants.{Fresh, Evaluated, Stepped, Stopped}
 use Rattle.net_sim.specs.Standing.{StandsAt, StandsOn}
 use Rattle.filc_core.specs.Rows.{row_text, rows_text}
-use Rattle.filc_core.specs.Streams.{IsStopped, RunsCleanly, RunsIntoConflict, StreamsAll, StreamsToConflict, StreamsPart, IsStreamed, PassesRow, FindsConflict, FailsInRow}
-use Rattle.filc_core.specs.declared.stream.RowEnd.{RowEnd}
-use Rattle.filc_core.specs.declared.stream.RowEnd.TheVariants as ends
+use Rattle.filc_core.specs.Streams.{IsStopped, RunsCleanly, StreamsAll, StreamsToConflict, StreamsPart, PassesRow, FindsConflict, FailsInRow}
 use Rattle.filc_core.proofs.RowLemmas.{rows_same}
 use Rattle.filc_core.proofs.StandLemmas.{runs_on, runs_into, steps_on, reported_at, longer, before, this_row}
 

@@ -1,12 +1,11 @@
 -- The verdict is one: words ask for one request, and what is printed of a run is a part of the verdict's report.
-use Rattle.std.proofs.Common.{◌≡◌, ◌≢◌, ℕ, zero, suc, ◌+◌, ◌<◌, ◌≤◌, ◌⊎◌, ◌^◌, List, [], ◌∷◌, ◌++◌, codes, decimal, Option, Some, Contains, length, refl, sym, ap, subst, ◌∙◌, arith, append_assoc, inl, inr, ⊎_elim}
+use Rattle.std.proofs.Common.{◌≡◌, ℕ, suc, ◌<◌, ◌≤◌, List, [], ◌∷◌, ◌++◌, codes, Option, Some, length, refl, sym, ap, subst, ◌∙◌, arith, append_assoc, inl, ⊎_elim}
 use Rattle.std.proofs.lemmas.Fmt.{decimal_injective}
 use Rattle.std.proofs.lemmas.Bool.{cases_lt}
-use Rattle.std.specs.Io.KnownBytes.{Appends, Keeps}
 use Rattle.hw_io.specs.Writing.{AppendsPrefix}
 use Rattle.hw_names.specs.Name.{Text}
-use Rattle.hw_prims.specs.Row.{Row, Trace}
-use Rattle.net_core.specs.Circuit.{HasConflict, IsReported}
+use Rattle.hw_prims.specs.Row.{Trace}
+use Rattle.net_core.specs.Circuit.{HasConflict}
 use Rattle.net_core.specs.NetRun.{NetRun, net_circuit}
 use Rattle.net_core.specs.Netlist.{Netlist}
 use Rattle.net_sim.specs.Order.{IsOrderOf}

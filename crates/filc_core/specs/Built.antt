@@ -1,5 +1,5 @@
 -- What reading a netlist that can be run makes of a text.
-use Rattle.std.specs.Prelude.{◌≡◌, List, All, false}
+use Rattle.std.specs.Prelude.{◌≡◌, All, false}
 use Rattle.hw_names.specs.Name.{Text}
 use Rattle.net_core.specs.Netlist.{Netlist, CellLine, netlist_of}
 use Rattle.net_core.specs.Numbers.{HasNumbers}

@@ -10,7 +10,7 @@ use Rattle.filc_core.specs.Request.{Request, file_of, Asks, AskNothing}
 use Rattle.net_core.specs.Netlist.{Netlist}
 use Rattle.filc_core.specs.Verdict.{Verdict, AsksForRun}
 use Rattle.filc_core.specs.declared.ended.Ended.{Ended}
-use Rattle.filc_core.specs.declared.ended.Ended.TheVariants.{Done, Refused, Usage, ReadFault, WriteFault, Memory, Stimulus, Conflict, Limit}
+use Rattle.filc_core.specs.declared.ended.Ended.TheVariants.{Done, Usage, ReadFault, WriteFault, Memory, Stimulus, Conflict}
 
 -- the answer is a verdict's, and not one for a fault or for want of memory
 abbrev pub IsVerdictEnd : Ended → Type 0

@@ -1,11 +1,8 @@
 -- How a stimulus drives the inputs of a netlist: each input is 0 until it is set, and keeps its value until it is set again. This project's.
-use Rattle.std.specs.Prelude.{◌≡◌, ℕ, Bool, nat_le, List, [], ◌∷◌, length, map, filter, replicate, slice_get, slice_set, Some, All}
+use Rattle.std.specs.Prelude.{◌≡◌, ℕ, Bool, nat_le, List, [], ◌∷◌, length, filter, replicate, slice_get, slice_set, Some, All}
 use Rattle.std.specs.List.Sorted.{IsNonDecreasingBy}
-use Rattle.hw_bits.specs.Values.{widths_of}
-use Rattle.hw_bits.specs.declared.bits.Bits.{Bits}
-use Rattle.hw_names.specs.Name.{Text}
-use Rattle.hw_prims.specs.Row.{Row, Trace}
-use Rattle.hw_prims.specs.Table.{Pin, pin_names, pin_widths}
+use Rattle.hw_prims.specs.Row.{Trace}
+use Rattle.hw_prims.specs.Table.{pin_names}
 use Rattle.net_core.specs.Netlist.{Netlist}
 use Rattle.net_core.specs.declared.stimulus.InputSet.{InputSet}
 use Rattle.net_sim.specs.Slots.{row_of}

@@ -1,5 +1,5 @@
 -- The line of each refusal, without its line feed. This project's.
-use Rattle.std.specs.Prelude.{ℕ, List, [], ◌∷◌, ◌++◌, codes, decimal}
+use Rattle.std.specs.Prelude.{ℕ, [], ◌∷◌, ◌++◌, codes, decimal}
 use Rattle.hw_names.specs.Name.{Text}
 
 abbrev pub usage_line : Text

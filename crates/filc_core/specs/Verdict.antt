@@ -1,11 +1,11 @@
 -- The verdict: the answer, the report and the line of a refusal that words and told contents call for. One case for each answer. This project's.
-use Rattle.std.specs.Prelude.{◌≡◌, ℕ, suc, ◌+◌, ◌<◌, ◌≤◌, List, [], ◌∷◌, ◌++◌, length, codes, Option, Some, false, All}
+use Rattle.std.specs.Prelude.{◌≡◌, ℕ, suc, ◌+◌, ◌<◌, ◌≤◌, List, [], length, codes, Option, Some, false, All}
 use Rattle.hw_names.specs.Name.{Text}
 use Rattle.hw_prims.specs.Row.{Trace}
 use Rattle.net_core.specs.Circuit.{IsReported, HasConflict}
 use Rattle.net_core.specs.Graph.{HasNoLoop}
 use Rattle.net_core.specs.NetRun.{NetRun, net_circuit}
-use Rattle.net_core.specs.Netlist.{Netlist, SetLine, CellLine}
+use Rattle.net_core.specs.Netlist.{Netlist, CellLine}
 use Rattle.net_core.specs.Rules.{IsValid}
 use Rattle.net_text.specs.Reading.{Spells}
 use Rattle.filc_core.specs.Lines.{usage_line, limit_line, not_built_line, conflict_line}

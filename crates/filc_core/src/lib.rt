@@ -16,3 +16,6 @@ pub use command::filc;
 pub use ended::Ended;
 pub use limits::{MOST_CYCLES, MOST_NET_BYTES};
 pub use stream::{Drive, RowEnd, stream_rows};
+
+#[cfg(test)]
+mod tests;

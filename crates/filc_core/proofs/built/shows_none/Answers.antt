@@ -1,8 +1,8 @@
-use Rattle.std.proofs.Common.{◌≡◌, ◌<◌, length, map, sym, ap, ◌∙◌, arith, get_or, subst, List}
+use Rattle.std.proofs.Common.{◌≡◌, ◌<◌, length, sym, ap, ◌∙◌, arith, get_or, List}
 use Rattle.std.proofs.lemmas.List.{length-map}
 use Rattle.net_core.specs.Netlist.{cell_of}
 use Rattle.net_core.specs.declared.net.NetCell.{NetCell}
-use Rattle.filc_core.proofs.BuiltLemmas.{AreUnshown, shown_at, unshown_more}
+use Rattle.filc_core.proofs.BuiltLemmas.{shown_at, unshown_more}
 use Rattle.filc_core.proofs.built.shows_none.Goals as goal
 
 pub loop-cell-init : goal.loop-cell-init

@@ -1,6 +1,5 @@
 use Rattle.std.proofs.Common.{map, List, ℕ, Err, ap}
 use Rattle.std.specs.Borrow.{Bor}
-use Rattle.hw_io.specs.Faults.{Rose}
 use Rattle.hw_io.proofs.WritingLemmas.{appends_none}
 use Rattle.filc_core.specs.Request.{RowsOf}
 use Rattle.filc_core.specs.Words.{request_of}

@@ -1,4 +1,4 @@
-use Rattle.std.proofs.Common.{◌∙◌, ap, arith}
+use Rattle.std.proofs.Common.{◌∙◌, arith}
 use Rattle.std.proofs.Math.Seq.{map-set_same}
 use Rattle.hw_bits.specs.declared.bits.Bits.{Bits}
 use Rattle.filc_core.proofs.InputLemmas.{clear_more}

@@ -1,4 +1,4 @@
-use Rattle.std.proofs.Common.{rules, ◌≡◌, ℕ, get_or, set, slice_get, Some, ap, ap₂, sym, ◌∙◌, arith}
+use Rattle.std.proofs.Common.{rules, ◌≡◌, get_or, set, slice_get, Some, ap, ap₂, ◌∙◌, arith}
 use Rattle.std.proofs.lemmas.Option.{get_or_from_slice_get}
 use Rattle.hw_bits.specs.Values.{values_of, widths_of}
 use Rattle.net_core.specs.declared.stimulus.InputSet.{InputSet}

@@ -1,10 +1,7 @@
-use Rattle.std.proofs.Common.{rules, ◌≡◌, ◌+◌, ◌<◌, ◌≤◌, ◌++◌, [], ◌∷◌, length, slice_range, decimal, get_or, refl, sym, ◌∙◌, arith}
-use Rattle.std.proofs.lemmas.List.{append-nil}
-use Rattle.std.proofs.lemmas.Option.{get_or_from_slice_get, slice_get-get_or}
+use Rattle.std.proofs.Common.{rules, [], ◌∷◌, decimal, refl, sym, ◌∙◌, arith}
+use Rattle.std.proofs.lemmas.Option.{get_or_from_slice_get}
 use Rattle.std.proofs.lemmas.Result.{on_ok_weaker, on_err_weaker}
-use Rattle.hw_io.specs.Writing.{AppendsPrefix, Passes}
-use Rattle.filc_core.specs.Rows.{port_text, line_text}
-use Rattle.filc_core.proofs.RowLemmas.{rest_of_line, next_of_line, end_of_line, line_from}
+use Rattle.filc_core.proofs.RowLemmas.{next_of_line, end_of_line, line_from}
 use Rattle.filc_core.proofs.SinkLemmas.{passed_up_to_none, passed_up_to_more, passed_up_to_prefix, passed_up_to_all}
 use Rattle.filc_core.proofs.report.push_row.Goals as goal
 

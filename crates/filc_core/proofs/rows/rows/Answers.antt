@@ -1,4 +1,4 @@
-use Rattle.std.proofs.Common.{◌≡◌, ◌≤◌, [], length, refl, ap, subst, arith}
+use Rattle.std.proofs.Common.{[], refl, ap, subst, arith}
 use Rattle.std.specs.Prelude.{Err}
 use Rattle.hw_io.proofs.WritingLemmas.{appends_none}
 use Rattle.hw_names.specs.Name.{Text}

@@ -1,8 +1,7 @@
-use Rattle.std.proofs.Common.{rules, ◌≡◌, ◌∙◌, ◌<◌, ◌≤◌, List, ℕ, Option, length, map, take, refl, sym, ap, subst, arith}
+use Rattle.std.proofs.Common.{rules, ◌≡◌, ◌∙◌, ◌≤◌, List, length, map, take, sym, ap, subst, arith}
 use Rattle.std.proofs.lemmas.List.{length-map, length-take-le}
 use Rattle.std.specs.Prelude.{All}
 use Rattle.hw_bits.specs.Values.{widths_of}
-use Rattle.hw_prims.specs.Table.{pin_widths}
 use Rattle.net_core.specs.Netlist.{netlist_of, pin_of}
 use Rattle.net_core.specs.declared.table.PortInfo.{PortInfo}
 use Rattle.filc_core.specs.Inputs.{driven}

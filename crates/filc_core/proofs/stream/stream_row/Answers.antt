@@ -1,4 +1,4 @@
-use Rattle.std.proofs.Common.{◌≡◌, ◌++◌, None, slice_range, refl, subst, ◌∙◌}
+use Rattle.std.proofs.Common.{◌++◌, None, subst, ◌∙◌}
 use Rattle.std.proofs.lemmas.List.{length-map}
 use Rattle.hw_bits.specs.Values.{values_of}
 use Rattle.hw_io.specs.Writing.{AppendsPrefix, Passes}

@@ -1,22 +1,19 @@
-use Rattle.std.proofs.Common.{rules, ◌≡◌, ◌≤◌, Option, Some, slice_get, ℕ, suc, List, [], length, replicate, slice_range, ◌+◌, ◌<◌, refl, sym, ap, subst, ◌∙◌, arith, add-one}
+use Rattle.std.proofs.Common.{◌≡◌, ◌≤◌, Option, Some, slice_get, ℕ, List, length, replicate, slice_range, ◌+◌, ◌<◌, refl, sym, ap, subst, ◌∙◌, arith, add-one}
 use Rattle.std.proofs.lemmas.List.{length-map}
 use Rattle.std.specs.List.{AllWithin}
 use Rattle.hw_bits.specs.Values.{values_of, widths_of}
 use Rattle.hw_bits.specs.declared.bits.Bits.{Bits}
 use Rattle.hw_io.proofs.WritingLemmas.{rose_at_last}
-use Rattle.hw_io.specs.Faults.{Rose}
-use Rattle.hw_names.specs.Name.{Text, AreDistinct}
+use Rattle.hw_names.specs.Name.{Text}
 use Rattle.hw_prims.specs.Row.{Trace}
 use Rattle.hw_prims.specs.Table.{Pin, pin_names, pin_widths}
 use Rattle.net_core.specs.NetRun.{HasPin}
 use Rattle.net_core.specs.Netlist.{Netlist, netlist_of}
-use Rattle.net_core.specs.Table.{IsTableOf}
 use Rattle.net_core.specs.declared.stimulus.InputSet.{InputSet}
 use Rattle.net_sim.specs.Sim.{SimValue, input_row}
 use Rattle.net_sim.specs.Standing.{StandsAt}
 use Rattle.net_sim.specs.Slots.{row_of}
-use Rattle.net_sim.specs.declared.sim.Phase.TheVariants.{Fresh}
-use Rattle.filc_core.specs.Inputs.{driven, with_sets, values_in_row, AreSetsFor}
+use Rattle.filc_core.specs.Inputs.{driven, with_sets, values_in_row}
 use Rattle.filc_core.specs.Streams.{sets_of, shown_ports, IsStopped, IsStreamed, IsRowStreamed}
 use Rattle.filc_core.specs.declared.stream.RowEnd.{RowEnd}
 use Rattle.filc_core.specs.declared.stream.RowEnd.TheVariants as ends
