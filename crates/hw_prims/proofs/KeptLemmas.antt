@@ -1,15 +1,14 @@
 -- What cells keep.
-use Rattle.std.proofs.Common.{◌≡◌, ℕ, zero, suc, ◌+◌, ◌^◌, ◌<◌, List, [], ◌∷◌, Bool, true, length, get_or, replicate, set, refl, sym, ap, ap₂, ◌∙◌, arith}
+use Rattle.std.proofs.Common.{◌≡◌, ℕ, zero, suc, ◌+◌, ◌<◌, List, [], ◌∷◌, Bool, true, length, get_or, replicate, set, refl, sym, ap, ap₂, ◌∙◌, arith}
 use Rattle.std.proofs.lemmas.List.{map-set, take-replicate, get_or-map, length-map}
 use Rattle.std.specs.Prelude.{slice_index}
 use Rattle.hw_bits.specs.Values.{values_of}
-use Rattle.hw_bits.specs.Width.{low_bits}
 use Rattle.hw_bits.specs.declared.bits.Bits.{Bits}
-use Rattle.hw_bits.proofs.WidthLemmas.{low_bits-of_lt}
 use Rattle.hw_prims.specs.Cell.{AreInputs}
 use Rattle.hw_prims.specs.Kept.{IsKept}
 use Rattle.hw_prims.specs.Table.{Pin, inputs_of}
-use Rattle.hw_prims.specs.Meaning.{keeps_words, address_count, is_stateless, word_count, padded_words}
+use Rattle.hw_prims.specs.Meaning.{is_stateless}
+use Rattle.hw_prims.specs.Memory.{keeps_words, address_count, word_count, padded_words}
 use Rattle.hw_prims.specs.declared.prim.Primitive.{Primitive}
 use Rattle.hw_prims.specs.declared.prim.Primitive.TheVariants.{StdMemD1, StdMemD2}
 use Rattle.hw_prims.specs.declared.kept.Kept.{Kept}
@@ -44,10 +43,6 @@ values_of_equal (suc count) word is = let others : values_of (replicate count wo
 -- a word put among values
 pub values_of_set : (words : List Bits) (place : ℕ) (word : Bits) → values_of (set words place word) ≡ set (values_of words) place word.value
 values_of_set words place word = map-set (λ (x : Bits). x.value) words place word
-
--- a constant fits its width
-pub constant_value : (w v : ℕ) → v < 2 ^ w → low_bits w v ≡ v
-constant_value w v fits = low_bits-of_lt w v fits
 
 -- there is an input for each pin
 pub length-inputs : (prim : Primitive) (inputs : List Bits) → AreInputs prim inputs → length inputs ≡ length (inputs_of prim)

@@ -1,4 +1,5 @@
 pub mod NameLemmas
+pub mod GateLemmas
 pub mod KeptLemmas
 pub mod PrimLemmas
 pub mod LoadLemmas

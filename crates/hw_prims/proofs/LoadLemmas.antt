@@ -3,7 +3,8 @@ use Rattle.std.proofs.Common.{◌≡◌, ℕ, zero, suc, ◌+◌, ◌-◌, ◌*�
 use Rattle.std.proofs.lemmas.List.{append-nil, take-replicate, take_more}
 use Rattle.std.specs.Prelude.{slice_index}
 use Rattle.hw_prims.specs.Laws.{LoadsGiveOpening}
-use Rattle.hw_prims.specs.Meaning.{opening_state, padded_words, word_count, state_with_word, state_with_words}
+use Rattle.hw_prims.specs.Meaning.{opening_state}
+use Rattle.hw_prims.specs.Memory.{padded_words, word_count, state_with_word, state_with_words}
 use Rattle.hw_prims.specs.State.{Memory}
 use Rattle.hw_prims.specs.declared.prim.Primitive.{Primitive}
 use Rattle.hw_prims.specs.declared.prim.Primitive.TheVariants.{StdMemD1, StdMemD2}

@@ -10,7 +10,7 @@ use Rattle.std.proofs.lemmas.List.Elements.{All-nil, All-cons}
 use Rattle.std.proofs.lemmas.List.{map-append, length-map}
 use Rattle.std.proofs.lemmas.List.Kept.{AllPairs-cons}
 use Rattle.std.proofs.lemmas.Slice.Eq.{bytes_eq-Decides}
-use Rattle.hw_prims.specs.Meaning.{keeps_words, word_count}
+use Rattle.hw_prims.specs.Memory.{keeps_words, word_count}
 use Rattle.hw_prims.specs.Row.{Text}
 use Rattle.hw_prims.specs.Table.{Pin, prim_name, prim_of, prim_in_range, is_primitive, is_made, IsMade, with_params, one, two, three, five, pins_of, inputs_of, outputs_of, input_names, output_names, inputs_named, outputs_named, names_memory, is_memory, pin_names}
 use Rattle.hw_prims.specs.declared.name.PrimName.{PrimName}

@@ -13,7 +13,9 @@ use Rattle.hw_bits.specs.declared.bits.Bits.{Bits}
 use Rattle.hw_bits.specs.Width.{product_bits}
 use Rattle.hw_bits.proofs.WidthLemmas.{low_bits-lt, sum_bits-lt, difference_bits-lt, product_bits-lt, inverted_bits-lt, left_shifted_bits-lt, right_shifted_bits-lt, bits_between-lt, joined_bits-lt, bit_and-lt, lt-wider}
 use Rattle.hw_prims.specs.Laws.{OutputsFollowThrough, StatesKeepWidths, IsStateOf, IsRegister, IsMemory, IsMultPipe, IsDelay, IsFastMult, IsSeqMult, AreValuesOf}
-use Rattle.hw_prims.specs.Meaning.{opening_state, output_values, next_state, is_through, out_of, done_of, words_of, kept_of, first_of, second_of, phase_of, seq_mult_out, bit, padded_words, place_of, word_at, words_with, next_mult_pipe, next_seq_mult}
+use Rattle.hw_prims.specs.Meaning.{opening_state, output_values, next_state, is_through, seq_mult_out, bit, next_mult_pipe, next_seq_mult}
+use Rattle.hw_prims.specs.Memory.{padded_words, place_of, word_at, words_with}
+use Rattle.hw_prims.specs.State.{out_of, done_of, words_of, kept_of, first_of, second_of, phase_of}
 use Rattle.hw_prims.specs.Row.{Text, Row, values_at}
 use Rattle.hw_prims.specs.State.{State, Register, Memory, MultPipe, Delay, FastMult, SeqMult}
 use Rattle.hw_prims.specs.Table.{Pin, pin, pins_of, inputs_of, outputs_of, pin_names, pin_widths, is_made, IsMade}

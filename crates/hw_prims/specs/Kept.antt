@@ -2,7 +2,8 @@
 use Rattle.std.specs.Prelude.{◌≡◌, List, length, All, true}
 use Rattle.hw_bits.specs.Values.{values_of}
 use Rattle.hw_bits.specs.declared.bits.Bits.{Bits}
-use Rattle.hw_prims.specs.Meaning.{bit, is_stateless, keeps_words, word_count, word_width}
+use Rattle.hw_prims.specs.Meaning.{bit, is_stateless}
+use Rattle.hw_prims.specs.Memory.{keeps_words, word_count, word_width}
 use Rattle.hw_prims.specs.State.{State}
 use Rattle.hw_prims.specs.State as state
 use Rattle.hw_prims.specs.Table.{IsMade}

@@ -4,7 +4,8 @@ use Rattle.std.specs.List.{AllZip}
 use Rattle.hw_prims.specs.Row.{Text}
 use Rattle.hw_prims.specs.State.{State, Stateless, Register, Memory, MultPipe, Delay, FastMult, SeqMult}
 use Rattle.hw_prims.specs.Table.{IsMade, Pin, inputs_of, outputs_of, pin_names}
-use Rattle.hw_prims.specs.Meaning.{opening_state, output_values, next_state, is_through, word_count, state_with_words}
+use Rattle.hw_prims.specs.Meaning.{opening_state, output_values, next_state, is_through}
+use Rattle.hw_prims.specs.Memory.{word_count, state_with_words}
 use Rattle.hw_prims.specs.declared.prim.Primitive.{Primitive}
 use Rattle.hw_prims.specs.declared.prim.Primitive.TheVariants.{StdReg, StdMemD1, StdMemD2, StdMultPipe, FilDelay, FilFastMult, FilSeqMult}
 

@@ -3,6 +3,7 @@ pub mod Table
 pub mod Port
 pub mod Pinout
 pub mod State
+pub mod Memory
 pub mod Meaning
 pub mod Cell
 pub mod Kept

@@ -1,19 +1,14 @@
 -- What each primitive computes: its opening state, its outputs, its next state, and which outputs follow which inputs within a row.
 -- Calyx, ASPLOS 2021, and Filament, PLDI 2023, in this project's profile.
-use Rattle.std.specs.Prelude.{ℕ, ◌+◌, ◌*◌, ◌==◌, Bool, true, false, not, ◌&&◌, ◌||◌, nat_lt, nat_le, List, [], ◌∷◌, ◌++◌, take, replicate, slice_index, slice_set, codes, bytes_eq, bit_and, bit_or, bit_xor, Option, Some, None, if◌then◌else◌}
+use Rattle.std.specs.Prelude.{ℕ, ◌*◌, ◌==◌, Bool, true, false, not, ◌&&◌, ◌||◌, nat_lt, nat_le, List, [], ◌∷◌, slice_index, codes, bytes_eq, bit_and, bit_or, bit_xor, if◌then◌else◌}
 use Rattle.hw_bits.specs.Width.{low_bits, sum_bits, difference_bits, product_bits, inverted_bits, left_shifted_bits, right_shifted_bits, bits_between, joined_bits}
+use Rattle.hw_prims.specs.Memory.{keeps_words, padded_words, place_of, word_at, words_with}
 use Rattle.hw_prims.specs.Row.{Text}
-use Rattle.hw_prims.specs.State.{State, Stateless, Register, Memory, MultPipe, Delay, FastMult, SeqMult}
+use Rattle.hw_prims.specs.State.{State, Stateless, Register, Memory, MultPipe, Delay, FastMult, SeqMult, out_of, done_of, words_of, phase_of, kept_of, first_of, second_of}
 use Rattle.hw_prims.specs.declared.phase.Phase.{Phase}
 use Rattle.hw_prims.specs.declared.phase.Phase.TheVariants.{Idle, First, Second, Third}
 use Rattle.hw_prims.specs.declared.prim.Primitive.{Primitive}
 use Rattle.hw_prims.specs.declared.prim.Primitive.TheVariants.{StdConst, StdWire, StdAdd, StdSub, StdAnd, StdOr, StdXor, StdNot, StdEq, StdNeq, StdLt, StdGt, StdLe, StdGe, StdLsh, StdRsh, StdSlice, StdPad, FilMux, FilSlice, FilConcat, StdReg, StdMemD1, StdMemD2, StdMultPipe, FilDelay, FilFastMult, FilSeqMult}
-
--- the primitives that keep words
-unfoldable pub keeps_words : Primitive → Bool
-keeps_words (StdMemD1 w size idx) = true
-keeps_words (StdMemD2 w size0 size1 idx0 idx1) = true
-keeps_words prim = false
 
 -- the primitives that keep nothing
 unfoldable pub is_stateless : Primitive → Bool
@@ -23,27 +18,6 @@ is_stateless (FilDelay w) = false
 is_stateless (FilFastMult w) = false
 is_stateless (FilSeqMult w) = false
 is_stateless prim = not (keeps_words prim)
-
--- how many addresses a memory has; its data and its write_en follow them
-unfoldable pub address_count : Primitive → ℕ
-address_count (StdMemD1 w size idx) = 1
-address_count (StdMemD2 w size0 size1 idx0 idx1) = 2
-address_count prim = 0
-
--- how many words a memory has, and of which width
-unfoldable pub word_count : Primitive → ℕ
-word_count (StdMemD1 w size idx) = size
-word_count (StdMemD2 w size0 size1 idx0 idx1) = size0 * size1
-word_count prim = 0
-
-unfoldable pub word_width : Primitive → ℕ
-word_width (StdMemD1 w size idx) = w
-word_width (StdMemD2 w size0 size1 idx0 idx1) = w
-word_width prim = 0
-
--- so many words: these, then zeros
-abbrev pub padded_words : ℕ → List ℕ → List ℕ
-padded_words count words = take count (words ++ replicate count 0)
 
 -- the state before row 0, where a memory's words are those loaded, then zeros
 unfoldable pub opening_state : Primitive → List ℕ → State
@@ -58,70 +32,6 @@ opening_state prim words = Stateless
 
 abbrev pub bit : Bool → ℕ
 bit on = if on then 1 else 0
-
--- parts of a state
-abbrev pub out_of : State → ℕ
-out_of (Register out done) = out
-out_of (MultPipe phase kept out) = out
-out_of state = 0
-
-abbrev pub done_of : State → ℕ
-done_of (Register out done) = done
-done_of (Memory words done) = done
-done_of (MultPipe Third kept out) = 1
-done_of state = 0
-
-abbrev pub words_of : State → List ℕ
-words_of (Memory words done) = words
-words_of state = []
-
-abbrev pub phase_of : State → Phase
-phase_of (MultPipe phase kept out) = phase
-phase_of (SeqMult phase kept) = phase
-phase_of state = Idle
-
-abbrev pub kept_of : State → ℕ
-kept_of (MultPipe phase kept out) = kept
-kept_of (Delay kept) = kept
-kept_of (SeqMult phase kept) = kept
-kept_of state = 0
-
-abbrev pub first_of : State → ℕ
-first_of (FastMult first second) = first
-first_of state = 0
-
-abbrev pub second_of : State → ℕ
-second_of (FastMult first second) = second
-second_of state = 0
-
--- the number of the addressed word, from the inputs; none where an address is out of range
-unfoldable pub place_of : Primitive → List ℕ → Option ℕ
-place_of (StdMemD1 w size idx) ins = if nat_lt (slice_index ins 0) size then Some (slice_index ins 0) else None
-place_of (StdMemD2 w size0 size1 idx0 idx1) ins =
-    if nat_lt (slice_index ins 0) size0 && nat_lt (slice_index ins 1) size1
-    then Some (slice_index ins 0 * size1 + slice_index ins 1)
-    else None
-place_of prim ins = None
-
--- the word there, and 0 out of range
-abbrev pub word_at : List ℕ → Option ℕ → ℕ
-word_at words (Some place) = slice_index words place
-word_at words None = 0
-
--- the words with one put there; none is changed out of range
-abbrev pub words_with : List ℕ → Option ℕ → ℕ → List ℕ
-words_with words (Some place) word = slice_set words place word
-words_with words None word = words
-
--- a memory with a word put there; any other state as it is
-abbrev pub state_with_word : State → ℕ → ℕ → State
-state_with_word (Memory words done) place word = Memory (slice_set words place word) done
-state_with_word state place word = state
-
--- words put there one after another
-abbrev pub state_with_words : State → ℕ → List ℕ → State
-state_with_words state place [] = state
-state_with_words state place (word ∷ words) = state_with_words (state_with_word state place word) (place + 1) words
 
 -- what fil_seq_mult shows
 abbrev pub seq_mult_out : Phase → ℕ → ℕ

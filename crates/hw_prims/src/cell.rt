@@ -2,8 +2,9 @@
 ghost use Rattle.std.specs.Prelude.{◌≡◌, ◌<◌, [], length, slice_get, slice_index, Some, IfOk};
 ghost use Rattle.hw_bits.specs.Values.{values_of};
 ghost use Rattle.hw_prims.specs.Cell.{AreInputs};
-ghost use Rattle.hw_prims.specs.Meaning.{output_values, next_state, opening_state, word_count, word_width, words_of, state_with_word};
-ghost use Rattle.hw_prims.specs.State.{State};
+ghost use Rattle.hw_prims.specs.Meaning.{output_values, next_state, opening_state};
+ghost use Rattle.hw_prims.specs.Memory.{word_count, word_width, state_with_word};
+ghost use Rattle.hw_prims.specs.State.{State, words_of};
 ghost use Rattle.hw_prims.specs.Table.{IsMade, outputs_of, pin_widths};
 ghost use Rattle.hw_prims.specs.declared.prim.Primitive.{Primitive};
 

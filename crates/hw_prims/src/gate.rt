@@ -37,7 +37,7 @@ pub fn zero(width: u8) -> Bits
 
 impl Primitive {
     /// The output of a primitive without a state.
-    #[tactic(auto, using(crate::proofs::KeptLemmas::constant_value), unfolding(crate::specs::Table::inputs_of, crate::specs::Table::outputs_of, crate::specs::Table::is_made, crate::specs::Meaning::output_values, crate::specs::Meaning::is_stateless, crate::specs::Meaning::keeps_words))]
+    #[tactic(auto, using(crate::proofs::GateLemmas::constant_value), unfolding(crate::specs::Table::inputs_of, crate::specs::Table::outputs_of, crate::specs::Table::is_made, crate::specs::Meaning::output_values, crate::specs::Meaning::is_stateless, crate::specs::Memory::keeps_words))]
     pub fn combine(self, inputs: &[Bits]) -> Bits
         requires stateless { is_stateless self ≡ true }
         requires made { IsMade self }

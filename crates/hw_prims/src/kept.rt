@@ -1,11 +1,12 @@
 //! What cells keep from one row to the next.
-ghost use Rattle.std.specs.Prelude.{◌≡◌, ◌<◌, ◌==◌, [], ◌∷◌, true, length, slice_get, slice_index, Some, IfOk};
+ghost use Rattle.std.specs.Prelude.{◌≡◌, ◌<◌, ◌==◌, [], ◌∷◌, length, slice_get, slice_index, Some, IfOk};
 ghost use Rattle.hw_bits.specs.Values.{values_of};
 ghost use Rattle.hw_bits.specs.Width.{product_bits};
-ghost use Rattle.hw_bits.specs.declared.bits.Bits.{Bits};
 ghost use Rattle.hw_prims.specs.Cell.{AreInputs};
 ghost use Rattle.hw_prims.specs.Kept.{state_of, IsKept};
-ghost use Rattle.hw_prims.specs.Meaning.{bit, output_values, next_state, opening_state, next_mult_pipe, next_seq_mult, word_count, word_width, words_with, words_of, state_with_word};
+ghost use Rattle.hw_prims.specs.Meaning.{bit, output_values, next_state, opening_state, next_mult_pipe, next_seq_mult};
+ghost use Rattle.hw_prims.specs.Memory.{word_count, word_width, state_with_word};
+ghost use Rattle.hw_prims.specs.State.{words_of};
 ghost use Rattle.hw_prims.specs.State as state;
 ghost use Rattle.hw_prims.specs.Table.{IsMade, outputs_of, pin_widths};
 
@@ -76,7 +77,7 @@ fn step_seq_mult(phase: &mut Phase, kept: &mut Bits, go: bool, left: Bits, right
     };
 }
 
-#[tactic(auto, using(crate::proofs::KeptLemmas::no_words_padded, crate::proofs::KeptLemmas::values_of_equal, crate::proofs::KeptLemmas::values_of_set), unfolding(crate::specs::Table::inputs_of, crate::specs::Table::outputs_of, crate::specs::Table::is_made, crate::specs::Meaning::opening_state, crate::specs::Meaning::output_values, crate::specs::Meaning::next_state, crate::specs::Meaning::is_stateless, crate::specs::Meaning::keeps_words, crate::specs::Meaning::address_count, crate::specs::Meaning::word_count, crate::specs::Meaning::word_width))]
+#[tactic(auto, using(crate::proofs::KeptLemmas::no_words_padded, crate::proofs::KeptLemmas::values_of_equal, crate::proofs::KeptLemmas::values_of_set), unfolding(crate::specs::Table::inputs_of, crate::specs::Table::outputs_of, crate::specs::Table::is_made, crate::specs::Meaning::opening_state, crate::specs::Meaning::output_values, crate::specs::Meaning::next_state, crate::specs::Meaning::is_stateless, crate::specs::Memory::keeps_words, crate::specs::Memory::address_count, crate::specs::Memory::word_count, crate::specs::Memory::word_width))]
 impl Kept {
     /// The state before the first row: all 0. Takes memory for a memory's words alone.
     pub fn new(alloc: Global, prim: Primitive) -> Result<Kept, Memory>

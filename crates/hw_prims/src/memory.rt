@@ -1,10 +1,9 @@
 //! The words of memories.
-ghost use Rattle.std.specs.Prelude.{◌≡◌, ◌<◌, ◌==◌, ◌+◌, true, length, All, IfSome, SomeIff, slice_index, if◌then◌else◌};
+ghost use Rattle.std.specs.Prelude.{◌≡◌, ◌<◌, ◌==◌, ◌+◌, true, IfSome, SomeIff, slice_index, if◌then◌else◌};
 ghost use Rattle.hw_bits.specs.Values.{values_of};
-ghost use Rattle.hw_bits.specs.declared.bits.Bits.{Bits};
 ghost use Rattle.hw_prims.specs.Cell.{AreInputs};
 ghost use Rattle.hw_prims.specs.Kept.{AreWords};
-ghost use Rattle.hw_prims.specs.Meaning.{place_of, word_at, words_with, word_count, word_width, keeps_words, address_count};
+ghost use Rattle.hw_prims.specs.Memory.{place_of, word_at, words_with, word_count, word_width, keeps_words, address_count};
 ghost use Rattle.hw_prims.specs.Table.{IsMade};
 
 use crate::gate::{is_on, zero};
@@ -22,7 +21,7 @@ fn within(address: Bits, size: u64) -> Option<u64>
     }
 }
 
-#[tactic(auto, unfolding(crate::specs::Table::inputs_of, crate::specs::Table::is_made, crate::specs::Meaning::place_of, crate::specs::Meaning::keeps_words, crate::specs::Meaning::address_count, crate::specs::Meaning::word_count, crate::specs::Meaning::word_width))]
+#[tactic(auto, unfolding(crate::specs::Table::inputs_of, crate::specs::Table::is_made, crate::specs::Memory::place_of, crate::specs::Memory::keeps_words, crate::specs::Memory::address_count, crate::specs::Memory::word_count, crate::specs::Memory::word_width))]
 impl Primitive {
     /// The number of a memory's words; 0 for what isn't a memory.
     pub fn word_count(self) -> u64
@@ -93,7 +92,7 @@ impl Primitive {
     }
 
     /// The edge of a memory: whether it is written, and the word that the inputs address takes the data.
-    #[tactic(auto, unfolding(crate::specs::Table::inputs_of, crate::specs::Meaning::keeps_words, crate::specs::Meaning::address_count, crate::specs::Meaning::word_width))]
+    #[tactic(auto, unfolding(crate::specs::Table::inputs_of, crate::specs::Memory::keeps_words, crate::specs::Memory::address_count, crate::specs::Memory::word_width))]
     pub fn write(self, words: &mut [Bits], inputs: &[Bits]) -> bool
         requires made { IsMade self }
         requires memory { keeps_words self ≡ true }

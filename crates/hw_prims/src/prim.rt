@@ -139,7 +139,7 @@ pub enum Primitive {
     },
 }
 
-/// A short name.
+/// The short name for a primitive.
 pub type Prim = Primitive;
 
 /// Whether a port is read or driven by the primitive.
@@ -166,6 +166,7 @@ pub enum PrimEnd {
     BadParams,
 }
 
+/// Whether a width is 1 to 128 bits.
 fn is_width(w: u8) -> bool
     ensures { result ≡ is_width w }
 {
@@ -180,7 +181,9 @@ fn is_grid(rows: u64, row: u64) -> bool
 }
 
 impl Primitive {
-    /// The primitive of this name with these parameters.
+    /// The primitive of this name with these parameters, in the table's order. `comb_mem_d1` and `comb_mem_d2` are
+    /// second names of `std_mem_d1` and `std_mem_d2`. `UnknownPrim` where the table doesn't have the name, else
+    /// `BadParams` where the number or the range of the parameters is wrong.
     #[tactic(auto, unfolding(crate::specs::Table::prim_of, crate::specs::Table::is_primitive))]
     pub fn make(name: &[u8], params: &[u128]) -> Result<Primitive, PrimEnd>
         ensures made { IfOk result

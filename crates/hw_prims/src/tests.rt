@@ -270,7 +270,7 @@ fn each_primitive_has_its_values(rt: HostRuntime) -> Result<(), Fail> {
 }
 
 #[test]
-#[tactic(auto, unfolding(crate::specs::Table::is_made, crate::specs::Meaning::word_count, crate::specs::Meaning::word_width))]
+#[tactic(auto, unfolding(crate::specs::Table::is_made, crate::specs::Memory::word_count, crate::specs::Memory::word_width))]
 fn a_loaded_word_is_read(rt: HostRuntime) -> Result<(), Fail> {
     let prim = Primitive::StdMemD1 {
         w: 8,

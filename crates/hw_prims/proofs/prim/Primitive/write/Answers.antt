@@ -1,7 +1,7 @@
 use Rattle.std.proofs.Common.{◌≡◌, ℕ, ◌<◌, Some, length, ap₂, sym, ◌∙◌, arith}
 use Rattle.std.specs.Prelude.{slice_index, Option}
 use Rattle.hw_bits.specs.Values.{values_of}
-use Rattle.hw_prims.specs.Meaning.{place_of, words_with, address_count}
+use Rattle.hw_prims.specs.Memory.{place_of, words_with, address_count}
 use Rattle.hw_prims.proofs.KeptLemmas.{values_of_set, value_at, data_is_input}
 use Rattle.hw_prims.proofs.prim.Primitive.write.Goals as goal
 
