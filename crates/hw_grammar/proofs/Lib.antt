@@ -12,3 +12,4 @@ pub mod TerminalLemmas
 pub mod Texts
 pub mod Renaming
 pub mod Marks
+pub mod Carried

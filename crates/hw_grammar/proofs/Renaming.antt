@@ -17,13 +17,14 @@ use Rattle.hw_lex.proofs.Cuts.{tokens_unique}
 use Rattle.hw_grammar.specs.Place.{Spells}
 use Rattle.hw_grammar.specs.Terminals.{IsNumbered, IsTerminal, AreTerminals}
 use Rattle.hw_grammar.specs.TextPlace.{SpellsText}
+use Rattle.hw_grammar.proofs.Sorts.{same_sort-refl}
 use Rattle.hw_grammar.proofs.Texts.{same_terminal}
 use Rattle.hw_grammar.specs.declared.sort.Sort.{Sort}
 use Rattle.hw_grammar.specs.declared.sort.Sort.TheVariants as sorts
 use Rattle.hw_grammar.specs.declared.terminal.Terminal.{Terminal}
 use Rattle.hw_grammar.specs.Sort.{same_sort}
 use Rattle.hw_grammar.specs.Renaming.{index_of, renumbered, renamed}
-use Rattle.hw_grammar.specs.Grammar.{Lang, One, Empty, Then, ThenBy, Either, Mapped, Optional, After, Many, Separated, ListTail, Listed}
+use Rattle.hw_grammar.specs.Grammar.{Lang, AnyName, AnyNumber, AnyLiteral, One, Empty, Then, ThenBy, Either, Mapped, Optional, After, Many, Separated, ListTail, Listed}
 
 -- where names get other numbers, the value is seen by f
 abbrev pub Renames : {A : Type 0} → (NameId → NameId) → Lang A → (A → A) → Type 0
@@ -50,6 +51,19 @@ module _ (rename : NameId → NameId) where
 
   pub renames-mapped : {A B : Type 0} (h : A → B) (P : Lang A) (f : A → A) (g : B → B) → Renames rename P f → ((a : A) → g (h a) ≡ h (f a)) → Renames rename (Mapped h P) g
   renames-mapped h P f g p e ts b rest (a, l, is) = (f a, p ts a rest l, ap g is ∙ e a)
+
+  -- the same, where the function's equation holds of what P spells
+  pub renames-mapped_where : {A B : Type 0} (h : A → B) (P : Lang A) (f : A → A) (g : B → B) → Renames rename P f → ((ts : List Terminal) (a : A) (rest : List Terminal) → P ts a rest → g (h a) ≡ h (f a)) → Renames rename (Mapped h P) g
+  renames-mapped_where h P f g p e ts b rest (a, l, is) = (f a, p ts a rest l, ap g is ∙ e ts a rest l)
+
+  pub renames-any_name : Renames rename AnyName rename
+  renames-any_name = renames-mapped_where (λ t. t.name) (One sorts.Name) (renamed rename) rename (renames-one sorts.Name) (λ ts t rest l. let is : same_sort t.sort sorts.Name ≡ true = rw l.1 (same_sort-refl sorts.Name) in rw is refl)
+
+  pub renames-any_number : Renames rename AnyNumber (λ n. n)
+  renames-any_number = renames-mapped (λ t. t.value) (One sorts.Number) (renamed rename) (λ n. n) (renames-one sorts.Number) (λ t. refl)
+
+  pub renames-any_literal : Renames rename AnyLiteral (λ n. n)
+  renames-any_literal = renames-mapped (λ t. (t.width, t.value)) (One sorts.Literal) (renamed rename) (λ n. n) (renames-one sorts.Literal) (λ t. refl)
 
   pub renames-many : {A : Type 0} (P : Lang A) (f : A → A) → Renames rename P f → Renames rename (Many P) (map f)
   renames-many P f p ts [] rest e = ap (map (renamed rename)) e

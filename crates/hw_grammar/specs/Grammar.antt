@@ -1,8 +1,10 @@
 -- Grammars as relations. A language with values relates terminals, a value, and the terminals after those that spell it:
 -- L ts a rest says that the terminals of ts before rest spell a. The combinators are the marks of a written grammar
 -- (Wirth's extended BNF); that values are part of the relation is this project's own.
-use Rattle.std.specs.Prelude.{◌≡◌, true, false, List, [], ◌∷◌, ◌⊎◌, Option, Some, None}
+use Rattle.std.specs.Prelude.{◌≡◌, ℕ, true, false, List, [], ◌∷◌, ◌⊎◌, Option, Some, None}
+use Rattle.hw_names.specs.declared.names.NameId.{NameId}
 use Rattle.hw_grammar.specs.declared.sort.Sort.{Sort}
+use Rattle.hw_grammar.specs.declared.sort.Sort.TheVariants.{Name, Number, Literal}
 use Rattle.hw_grammar.specs.declared.terminal.Terminal.{Terminal}
 
 -- a language whose values are of this type
@@ -17,6 +19,22 @@ One sort ts t rest = (ts ≡ t ∷ rest) × (t.sort ≡ sort)
 abbrev pub Empty : {A : Type 0} → A → Lang A
 Empty v ts a rest = (a ≡ v) × (ts ≡ rest)
 
+-- P, with its value seen by f
+abbrev pub Mapped : {A B : Type 0} → (A → B) → Lang A → Lang B
+Mapped f P ts b rest = (a : _) × P ts a rest × (b ≡ f a)
+
+-- NAME, whose value is the name's number
+abbrev pub AnyName : Lang NameId
+AnyName = Mapped (λ t. t.name) (One Name)
+
+-- NUMBER, with its value
+abbrev pub AnyNumber : Lang ℕ
+AnyNumber = Mapped (λ t. t.value) (One Number)
+
+-- LITERAL, with its width and its value
+abbrev pub AnyLiteral : Lang (ℕ × ℕ)
+AnyLiteral = Mapped (λ t. (t.width, t.value)) (One Literal)
+
 -- P, then Q
 abbrev pub Then : {A B : Type 0} → Lang A → Lang B → Lang (A × B)
 Then P Q ts x rest = (mid : List Terminal) × P ts x.0 mid × Q mid x.1 rest
@@ -28,10 +46,6 @@ ThenBy P Q ts x rest = (mid : List Terminal) × P ts x.0 mid × Q x.0 mid x.1 re
 -- P or Q
 abbrev pub Either : {A : Type 0} → Lang A → Lang A → Lang A
 Either P Q ts a rest = P ts a rest ⊎ Q ts a rest
-
--- P, with its value seen by f
-abbrev pub Mapped : {A B : Type 0} → (A → B) → Lang A → Lang B
-Mapped f P ts b rest = (a : _) × P ts a rest × (b ≡ f a)
 
 -- P or nothing
 abbrev pub Optional : {A : Type 0} → Lang A → Lang (Option A)

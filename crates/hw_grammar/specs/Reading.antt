@@ -1,7 +1,9 @@
 -- Reading from the front, on lists: what the functions of readers give. A reader has the names of its language in lower
 -- case, with the set of sorts by which it chooses. That it is exact for its language is proved in proofs/.
 use Rattle.std.specs.Prelude.{◌≡◌, ℕ, zero, suc, List, [], ◌∷◌, ◌++◌, length, cond, Option, Some, None, Result, Ok, Err}
+use Rattle.hw_names.specs.declared.names.NameId.{NameId}
 use Rattle.hw_grammar.specs.declared.sort.Sort.{Sort}
+use Rattle.hw_grammar.specs.declared.sort.Sort.TheVariants.{Name, Number, Literal}
 use Rattle.hw_grammar.specs.declared.terminal.Terminal.{Terminal}
 use Rattle.hw_grammar.specs.declared.end.ReadEnd.{ReadEnd}
 use Rattle.hw_grammar.specs.declared.end.ReadEnd.TheVariants as ends
@@ -40,6 +42,15 @@ either set p q ts = let r = q ts in cond (has set ts) (p ts) r
 
 abbrev pub mapped : {A B : Type 0} → (A → B) → Reader A → Reader B
 mapped f p ts = p ts >>= λ x. Ok (f x.0, x.1)
+
+abbrev pub any_name : Reader NameId
+any_name = mapped (λ t. t.name) (one Name)
+
+abbrev pub any_number : Reader ℕ
+any_number = mapped (λ t. t.value) (one Number)
+
+abbrev pub any_literal : Reader (ℕ × ℕ)
+any_literal = mapped (λ t. (t.width, t.value)) (one Literal)
 
 abbrev pub optional : {A : Type 0} → List Sort → Reader A → Reader (Option A)
 optional set p = either set (mapped Some p) (empty None)

@@ -1,11 +1,12 @@
 //! What every reader is made of.
 ghost use Rattle.std.specs.Prelude.{◌≡◌, [], ◌∷◌};
-ghost use Rattle.hw_grammar.specs.Reading.{Gives, one};
+ghost use Rattle.hw_grammar.specs.Reading.{Gives, one, any_name, any_number};
 ghost use Rattle.hw_grammar.specs.Sort.{has_sort, has};
 
 use crate::end::ReadEnd;
 use crate::sort::Sort;
 use crate::terminal::Terminal;
+use hw_names::NameId;
 
 /// Whether the first terminal has this sort.
 pub fn starts(ts: &[Terminal], sort: Sort) -> bool
@@ -55,4 +56,20 @@ pub fn read_one(ts: &[Terminal], sort: Sort) -> Result<(Terminal, &[Terminal]), 
             }
         }
     }
+}
+
+/// The number of the name at the front, and what follows it.
+pub fn read_name(ts: &[Terminal]) -> Result<(NameId, &[Terminal]), ReadEnd<'_>>
+    ensures { Gives (λ x. (x.0, x.1.now)) result (any_name ts.now) }
+{
+    let (t, rest) = read_one(ts, Sort::Name)?;
+    Ok((t.name, rest))
+}
+
+/// The value of the number at the front, and what follows it.
+pub fn read_number(ts: &[Terminal]) -> Result<(u128, &[Terminal]), ReadEnd<'_>>
+    ensures { Gives (λ x. (x.0, x.1.now)) result (any_number ts.now) }
+{
+    let (t, rest) = read_one(ts, Sort::Number)?;
+    Ok((t.value, rest))
 }
