@@ -136,23 +136,29 @@ module _ {prim : Primitive} {cell : Text} {before ports : List PortLine} {i : �
       ap (λ ps. ps ++ line ∷ []) s.ports_are ∙ append_assoc before (take i (cell_ports prim cell)) (line ∷ [])
       ∙ ap (λ ls. before ++ ls) (sym (take_more (cell_ports prim cell) i line within ∙ ap (λ x. take i (cell_ports prim cell) ++ x ∷ []) (get_or_from_slice_get (cell_ports prim cell) i line line s.at)))
 
+-- the names of the ports of a cell for which no primitive was made
+pub port_names-unsized_ports : (cell name : Text) → port_names (ports_from None cell name) ≡ full_names cell (input_names name ++ output_names name)
+port_names-unsized_ports cell name =
+    let as_input = λ (pin : Text). cell_input cell (unsized pin) in
+    let as_output = λ (pin : Text). cell_output cell (unsized pin) in
+    map-append (λ (p : PortLine). p.name) (map as_input (input_names name)) (map as_output (output_names name))
+    ∙ ap₂ ◌++◌ (port_names-unsized cell as_input (input_names name) (λ p. refl)) (port_names-unsized cell as_output (output_names name) (λ p. refl))
+    ∙ sym (map-append (dotted cell) (input_names name) (output_names name))
+  where
+    port_names-unsized : (c : Text) (line : Text → PortLine) (pins : List Text) → ((p : Text) → (line p).name ≡ dotted c p) → port_names (map line pins) ≡ full_names c pins
+    port_names-unsized c line [] named = refl
+    port_names-unsized c line (p ∷ pins) named = ap₂ ◌∷◌ (named p) (port_names-unsized c line pins named)
+
 pub length-cell_ports : (prim : Primitive) (cell : Text) → length (cell_ports prim cell) ≡ length (pins_of prim)
 length-cell_ports prim cell =
     length-append (map (cell_input cell) (inputs_of prim)) (map (cell_output cell) (outputs_of prim))
     ∙ ap₂ ◌+◌ (length-map (inputs_of prim) (cell_input cell)) (length-map (outputs_of prim) (cell_output cell))
     ∙ sym (length-append (inputs_of prim) (outputs_of prim))
 
--- the names of the ports of a cell for which no primitive was made
+-- whether the names of such ports are new
 pub are_new-unsized : (names : List Text) (cell name : Text) (inputs outputs : List Text) → inputs ≡ input_names name → outputs ≡ output_names name
     → are_new names (port_names (ports_from None cell name)) ≡ (are_new names (full_names cell inputs) && are_new names (full_names cell outputs))
 are_new-unsized names cell name inputs outputs same_inputs same_outputs =
-    let as_input = λ (pin : Text). cell_input cell (unsized pin) in
-    let as_output = λ (pin : Text). cell_output cell (unsized pin) in
-    ap (are_new names) (map-append (λ (p : PortLine). p.name) (map as_input (input_names name)) (map as_output (output_names name)))
-    ∙ ap₂ (λ a b. are_new names (a ++ b)) (port_names-unsized cell as_input (input_names name) (λ p. refl)) (port_names-unsized cell as_output (output_names name) (λ p. refl))
+    ap (are_new names) (port_names-unsized_ports cell name ∙ map-append (dotted cell) (input_names name) (output_names name))
     ∙ list_all-append (λ n. not (is_among names n)) (full_names cell (input_names name)) (full_names cell (output_names name))
     ∙ ap₂ (λ a b. are_new names (full_names cell a) && are_new names (full_names cell b)) (sym same_inputs) (sym same_outputs)
-  where
-    port_names-unsized : (c : Text) (line : Text → PortLine) (pins : List Text) → ((p : Text) → (line p).name ≡ dotted c p) → port_names (map line pins) ≡ full_names c pins
-    port_names-unsized c line [] named = refl
-    port_names-unsized c line (p ∷ pins) named = ap₂ ◌∷◌ (named p) (port_names-unsized c line pins named)

@@ -5,3 +5,5 @@ pub mod CellLemmas
 pub mod LineLemmas
 pub mod KeptLemmas
 pub mod RuleLemmas
+pub mod ValidLemmas
+pub mod WritableLemmas

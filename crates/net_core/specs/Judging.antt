@@ -1,4 +1,4 @@
--- The first broken rule as a function of the lines, part by part, and answers that agree with it.
+-- The first broken rule as a function of the lines, part by part, and answers that agree with it. This project's.
 use Rattle.std.specs.Prelude.{◌≡◌, ℕ, ◌+◌, Bool, not, ◌||◌, List, [], ◌∷◌, ◌++◌, map, Option, Some, None, Result, Ok, Err, if◌then◌else◌}
 use Rattle.hw_names.specs.Name.{Text}
 use Rattle.hw_prims.specs.Table.{Pin}

@@ -1,4 +1,4 @@
--- Ports as code keeps them, as the rules speak of them.
+-- Ports as code keeps them, as the rules speak of them. This project's.
 use Rattle.std.specs.Prelude.{◌≡◌, List, [], ◌∷◌, ◌++◌, map, Option, Some, None}
 use Rattle.hw_names.specs.Name.{Text, dotted}
 use Rattle.hw_prims.specs.Table.{IsMade, inputs_of, outputs_of, input_names, output_names, pin_names}

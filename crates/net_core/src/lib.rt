@@ -16,3 +16,6 @@ pub use rules::{NetEnd, valid};
 pub use stimulus::{CycleList, InputSet, MemLoad, MemShape};
 pub use table::{PortInfo, Table};
 pub use weight::{guard_nodes, net_weight};
+
+#[cfg(test)]
+mod tests;

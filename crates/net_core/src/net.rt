@@ -20,13 +20,27 @@ pub enum Cmp {
 }
 
 /// When an assignment drives its destination. `All` and `Any` have two guards or more.
-#[derive(Drop)]
 pub enum Guard<P> {
     Read(Src<P>),
     Test(Cmp, Src<P>, Src<P>),
     Not(Box<Guard<P>>),
     All(Vec<Guard<P>>),
     Any(Vec<Guard<P>>),
+}
+
+impl<P: Drop> Drop for Guard<P> {
+    /// Goes over a run of `!` by a loop, since there may be more of them than the stack holds.
+    fn drop(mut self) {
+        loop {
+            match self {
+                Guard::Not(negated) => self = Box::into_inner(negated),
+                Guard::All(_guards) => return,
+                Guard::Any(_guards) => return,
+                Guard::Read(_source) => return,
+                Guard::Test(_, _left, _right) => return,
+            }
+        }
+    }
 }
 
 /// A port of the netlist itself, of a width in bits.
