@@ -1,12 +1,12 @@
 -- How deep tokens stand, token by token.
 use Rattle.std.proofs.Common.{◌≡◌, ℕ, zero, suc, ◌+◌, ◌-◌, ◌≤◌, true, false, eqb, cond, inl, inr, List, [], ◌∷◌, ◌++◌, take, max, reverse, Some, refl, sym, ap, ◌∙◌, arith, add-one}
-use Rattle.std.specs.Prelude.{slice_get}
+use Rattle.std.specs.Prelude.{slice_get, slice_range, length, ◌<◌}
 use Rattle.std.specs.List.{prefix_len}
 use Rattle.std.proofs.lemmas.List.{reverse-append}
 use Rattle.std.proofs.lemmas.List.Sums.{fold-append}
 use Rattle.std.proofs.lemmas.Bool.{eqb-true, false≢true}
 use Rattle.hw_lex.proofs.Fronts.{by_test, or_true}
-use Rattle.hw_lex.specs.Nesting.{is_not, opens, closes, open_after, open_count, run_of_nots, deepest}
+use Rattle.hw_lex.specs.Nesting.{byte_tokens, is_not, opens, closes, open_after, open_count, run_of_nots, deepest}
 
 -- one more token
 pub take-get : {X : Type 0} (xs : List X) (i : ℕ) (x : X) → slice_get xs i ≡ Some x → take (i + 1) xs ≡ take i xs ++ x ∷ []
@@ -63,3 +63,12 @@ depth-most i brackets nots brackets' nots' token le b n =
     (λ _ h n. let same = not_opens_none brackets token h in omega (arith, b, n, same))
     (λ _ h n. let most = open_after-most brackets token in omega (arith, b, n, most))
     refl n
+
+-- the byte with this number as a token
+pub byte_token_at : (text : List ℕ) (i : ℕ) → i < length text → slice_get (byte_tokens text) i ≡ Some (slice_range text i (i + 1))
+byte_token_at [] i h = absurd (omega (arith, h))
+byte_token_at (byte ∷ text) zero h = refl
+byte_token_at (byte ∷ text) (suc i) h =
+    let e : suc i + 1 ≡ suc (i + 1) = omega arith in
+    let d : suc (i + 1) - suc i ≡ i + 1 - i = omega arith in
+    rw e (rw d (byte_token_at text i (omega (arith, h))))

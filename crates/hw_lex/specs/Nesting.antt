@@ -1,6 +1,10 @@
 -- How deep brackets and `!` stand in one another in a list of tokens, each told by its bytes. This project's own.
-use Rattle.std.specs.Prelude.{ℕ, zero, suc, ◌+◌, ◌-◌, Bool, false, ◌==◌, max, if◌then◌else◌, List, [], ◌∷◌, length, take, fold, reverse, codes}
+use Rattle.std.specs.Prelude.{ℕ, zero, suc, ◌+◌, ◌-◌, Bool, false, ◌==◌, max, if◌then◌else◌, List, [], ◌∷◌, length, map, take, fold, reverse, codes}
 use Rattle.std.specs.List.{prefix_len, list_any}
+
+-- a text of which each byte counts as a token
+abbrev pub byte_tokens : List ℕ → List (List ℕ)
+byte_tokens text = map (λ byte. byte ∷ []) text
 
 -- the token is this mark of one byte
 abbrev pub is_one_of : List ℕ → List ℕ → Bool

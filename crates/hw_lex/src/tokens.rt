@@ -5,9 +5,10 @@ ghost use Rattle.hw_lex.specs.declared.token.Kind.TheVariants as Kind;
 ghost use Rattle.hw_lex.specs.Number.{number_of, width_of, value_of, Fits};
 ghost use Rattle.hw_lex.specs.Word.{IsWord};
 ghost use Rattle.hw_lex.specs.Cut.{AreTokens, FaultsAt, token_texts};
-ghost use Rattle.hw_lex.specs.Nesting.{is_one_of, open_after, nesting_of};
+ghost use Rattle.hw_lex.specs.Nesting.{nesting_of};
 
 use crate::gap::after_gap;
+use crate::nesting::{brackets_after, is_one_of};
 use crate::number::{Literal, read_literal, read_number};
 use crate::token::{Dialect, Kind, Span, Token};
 use crate::word::front_token;
@@ -175,31 +176,6 @@ fn bytes_at(source: &[u8], span: Span) -> &[u8]
     ensures { result.now ≡ slice_range source.now span.from span.to }
 {
     &source[span.from..span.to]
-}
-
-/// Whether the token is one of these marks of one byte.
-fn is_one_of(marks: &[u8], text: &[u8]) -> bool
-    ensures { result ≡ is_one_of marks.now text.now }
-{
-    match text {
-        [byte] => marks.contains(byte),
-        _ => false,
-    }
-}
-
-/// How many brackets are open after one more token.
-fn brackets_after(count: usize, text: &[u8]) -> usize
-    requires { count + 1 < 2 ^ 64 }
-    ensures is { result ≡ open_after count text.now }
-    ensures most { result ≤ count + 1 }
-{
-    if is_one_of(b"([{", text) {
-        count + 1
-    } else if is_one_of(b")]}", text) {
-        count.saturating_sub(1)
-    } else {
-        count
-    }
 }
 
 #[cfg(test)]
