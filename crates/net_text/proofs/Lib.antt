@@ -13,3 +13,8 @@ pub mod NumberedLaws
 pub mod ReadLemmas
 pub mod GuardRows
 pub mod PrintLemmas
+pub mod GuardLaws
+pub mod GuardTurns
+pub mod ExitLemmas
+pub mod GuardLoops
+pub mod CompareLemmas

@@ -1,4 +1,5 @@
 -- Lines: what is read is the text of the line, and the text of a line is read.
+use Rattle.net_core.specs.Guard.{GuardTree, Reads, Compares, Negates, AllOf, AnyOf}
 use Rattle.std.proofs.Common.{◌≡◌, ℕ, zero, suc, ◌≤◌, ◌&&◌, Bool, true, false, cond, List, [], ◌∷◌, ◌++◌, length, codes, Option, Some, None, option_map, refl, sym, ap, ◌∙◌, append_assoc, subst, inl, inr, ◌⊎◌, arith}
 use Rattle.std.specs.Fmt.{decimal}
 use Rattle.std.specs.List.{list_all}
@@ -6,9 +7,12 @@ use Rattle.std.proofs.lemmas.List.{append-nil, length-append}
 use Rattle.hw_names.specs.Name.{Text}
 use Rattle.hw_prims.specs.Table.{Pin}
 use Rattle.net_core.specs.Netlist.{Line, InLine, OutLine, WireLine, CellOf, SetOf, CellLine, SetLine}
-use Rattle.net_text.specs.Layout.{source_text, when_text, pin_text, parameters_text, line_text}
-use Rattle.net_text.specs.Names.{is_segment, is_path, is_number, source_has_text, is_unguarded, line_has_text}
-use Rattle.net_text.specs.Reader.{Read, Value, ◌>>=◌, whole, after, is_word_byte, word_at, number_at, source_at, pin_from, pin_of_text, param_at, params_of_text, cell_of_text, value_of_text, set_of_text, where_after, line_of_text}
+use Rattle.net_text.specs.Layout.{source_text, guard_text, when_text, pin_text, parameters_text, line_text}
+use Rattle.net_text.specs.Names.{is_segment, is_path, is_number, source_has_text, guard_has_text, when_has_text, line_has_text}
+use Rattle.net_text.specs.ReadWords.{Read, ◌>>=◌, whole, after, is_word_byte, word_at, number_at, source_at, where_after}
+use Rattle.net_text.specs.ReadLines.{Value, pin_from, pin_of_text, param_at, params_of_text, cell_of_text, guarded_of_text, value_from, value_of_text, set_of_text, line_of_text}
+use Rattle.net_text.specs.ReadGuards.{guard_at, guard_within}
+use Rattle.net_text.proofs.GuardLaws.{guard_takes, guard_again}
 use Rattle.net_text.proofs.NumberLaws.{both_true}
 use Rattle.net_text.proofs.ParamLemmas.{bind_some}
 use Rattle.net_text.proofs.WordLaws.{Apart, some_is, segment_word, path_word, after_takes, name_again, name_takes, number_at_again, number_at_takes, source_again, source_takes}
@@ -106,22 +110,51 @@ cell_takes shown text c e =
 
 -- ---- assignments
 
-pub value_again : (value : Value) → is_unguarded value.0 ≡ true → source_has_text value.1 ≡ true → value_of_text (when_text value.0 ++ source_text value.1) ≡ Some value
-unfolding value_of_text
-value_again (None, src) h fits = rw (ap source_at (sym (append-nil (source_text src))) ∙ source_again src [] fits tt) refl
-value_again (Some g, src) h fits = absurd cc
+pub value_again : (value : Value) → when_has_text value.0 ≡ true → source_has_text value.1 ≡ true → value_of_text (when_text value.0 ++ source_text value.1) ≡ Some value
+unfolding value_of_text value_from guarded_of_text
+value_again (None, src) h fits =
+    let read : guard_at (source_text src) ≡ Some (Reads src, []) =
+    ap (guard_within (length (source_text src))) (sym (append-nil (source_text src))) ∙ guard_again (Reads src) (length (source_text src)) [] fits tt (omega arith) in
+    rw read refl
+value_again (Some g, src) h fits =
+    let text : Text = when_text (Some g) ++ source_text src in
+    let regrouped : text ≡ guard_text g ++ (codes " ? " ++ source_text src) = append_assoc (guard_text g) (codes " ? ") (source_text src) in
+    let long : length (guard_text g) ≤ length text = omega (arith, ap length regrouped, length-append (guard_text g) (codes " ? " ++ source_text src)) in
+    let read : guard_at text ≡ Some (g, codes " ? " ++ source_text src) = ap (guard_within (length text)) regrouped ∙ guard_again g (length text) (codes " ? " ++ source_text src) h refl long in
+    rw (read, ap source_at (sym (append-nil (source_text src))) ∙ source_again src [] fits tt) refl
 
-pub value_takes : (text : Text) (value : Value) → value_of_text text ≡ Some value → (text ≡ when_text value.0 ++ source_text value.1) × (is_unguarded value.0 ≡ true) × (source_has_text value.1 ≡ true)
+-- the text is what an assignment takes, and when
+abbrev IsValue : Text → Value → Type 0
+IsValue text value = (text ≡ when_text value.0 ++ source_text value.1) × (when_has_text value.0 ≡ true) × (source_has_text value.1 ≡ true)
+
+value_from_takes : (rest : Text) (g : GuardTree Text) (value : Value) → guard_has_text g ≡ true → value_from rest g ≡ Some value → IsValue (guard_text g ++ rest) value
+unfolding value_from guarded_of_text
+value_from_takes [] (Reads src) value h e = subst (IsValue (source_text src ++ [])) (some_is (None, src) value e) (append-nil (source_text src), refl, h)
+value_from_takes [] (Compares op a b) value h e = absurd cc
+value_from_takes [] (Negates g) value h e = absurd cc
+value_from_takes [] (AllOf gs) value h e = absurd cc
+value_from_takes [] (AnyOf gs) value h e = absurd cc
+value_from_takes (c ∷ cs) g value h e =
+    let src = bind_some (guarded_of_text (c ∷ cs)) (λ src. Some (Some g, src)) value e in
+    let mark = bind_some (after (codes " ? ") (c ∷ cs)) (λ rest. whole (source_at rest)) src.0 src.1 in
+    let s = source_takes mark.0 src.0 [] (whole_is (source_at mark.0) src.0 mark.2) in
+    let parts : guard_text g ++ (c ∷ cs) ≡ when_text (Some g) ++ source_text src.0 =
+    ap (λ (t : Text). guard_text g ++ t) (after_takes (codes " ? ") (c ∷ cs) mark.0 mark.1 ∙ ap (λ (t : Text). codes " ? " ++ t) (s.0 ∙ append-nil (source_text src.0)))
+    ∙ sym (append_assoc (guard_text g) (codes " ? ") (source_text src.0)) in
+    subst (IsValue (guard_text g ++ (c ∷ cs))) (some_is (Some g, src.0) value src.2) (parts, h, s.1)
+
+pub value_takes : (text : Text) (value : Value) → value_of_text text ≡ Some value → IsValue text value
 unfolding value_of_text
 value_takes text value e =
-    let a = bind_some (whole (source_at text)) (λ src. Some (None, src)) value e in
-    let s = source_takes text a.0 [] (whole_is (source_at text) a.0 a.1) in
-    subst (λ (v : Value). (text ≡ when_text v.0 ++ source_text v.1) × (is_unguarded v.0 ≡ true) × (source_has_text v.1 ≡ true)) (some_is (None, a.0) value a.2) (s.0 ∙ append-nil (source_text a.0), refl, s.1)
+    let g = bind_some (guard_at text) (λ guard. value_from guard.1 guard.0) value e in
+    let is = guard_takes (length text) text g.0.0 g.0.1 g.1 in
+    let v = value_from_takes g.0.1 g.0.0 value is.has g.2 in
+    (is.parts ∙ v.0, v.1, v.2)
 
 abbrev pub set_text : SetLine → Text
 set_text a = a.dst ++ (codes " = " ++ (when_text a.guard ++ source_text a.src))
 
-pub set_again : (a : SetLine) → is_path a.dst ≡ true → is_unguarded a.guard ≡ true → source_has_text a.src ≡ true → set_of_text (set_text a) ≡ Some a
+pub set_again : (a : SetLine) → is_path a.dst ≡ true → when_has_text a.guard ≡ true → source_has_text a.src ≡ true → set_of_text (set_text a) ≡ Some a
 unfolding set_of_text
 set_again a h g fits =
     rw (name_again is_path a.dst (codes " = " ++ (when_text a.guard ++ source_text a.src)) h (path_word a.dst h) refl, value_again (a.guard, a.src) g fits) refl
@@ -174,8 +207,8 @@ line_again (OutLine p) h = let b = both_true (is_segment p.name) (is_number p.wi
 line_again (WireLine p) h = let b = both_true (is_path p.name) (is_number p.width) h in ap (option_map WireLine) (pin_again is_path p b.0 (path_word p.name b.0) b.1)
 line_again (CellOf c) h = ap line_of_text (cell_line c.shown c.name c.prim c.params) ∙ cell_line_again c.shown c refl h
 line_again (SetOf a) h =
-    let b = both_true (is_path a.dst && is_unguarded a.guard) (source_has_text a.src) h in
-    let d = both_true (is_path a.dst) (is_unguarded a.guard) b.0 in
+    let b = both_true (is_path a.dst && when_has_text a.guard) (source_has_text a.src) h in
+    let d = both_true (is_path a.dst) (when_has_text a.guard) b.0 in
     ap line_of_text (set_line a) ∙ ap (option_map SetOf) (set_again a d.0 d.1 b.1)
 
 -- the line is the text's

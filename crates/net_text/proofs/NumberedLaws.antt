@@ -1,22 +1,23 @@
 -- A netlist with a text has its names in its list.
-use Rattle.std.proofs.Common.{◌≡◌, ◌&&◌, Bool, true, false, List, [], ◌∷◌, ◌++◌, length, map, All, Option, Some, None, refl, sym, ap, ◌∙◌, inl, inr}
+use Rattle.std.proofs.Common.{◌≡◌, ◌&&◌, Bool, true, false, leb, List, [], ◌∷◌, ◌++◌, length, map, All, Option, Some, None, refl, sym, ap, ◌∙◌, inl, inr}
 use Rattle.std.specs.List.{list_all, AllByRecursion}
 use Rattle.std.proofs.lemmas.Bool.{cases_lt}
 use Rattle.std.proofs.lemmas.List.{get_or_past}
 use Rattle.std.proofs.lemmas.List.Elements.{All-from_recursion}
 use Rattle.hw_names.specs.Name.{Text, text_of}
 use Rattle.hw_names.specs.declared.names.NameId.{NameId}
-use Rattle.net_core.specs.Guard.{source_tree, guard_option}
+use Rattle.net_core.specs.Guard.{source_tree, guard_tree, guard_trees, guard_option}
 use Rattle.net_core.specs.Netlist.{Line, InLine, OutLine, WireLine, CellOf, SetOf, pin_of, cell_of, set_of, netlist_of}
-use Rattle.net_core.specs.Numbers.{IsNumberOf, SourceHasNumbers, WhenHasNumbers, PortHasNumbers, CellHasNumbers, SetHasNumbers, HasNumbers}
-use Rattle.net_core.specs.declared.net.Guard.{Guard}
+use Rattle.net_core.specs.Numbers.{IsNumberOf, SourceHasNumbers, GuardHasNumbers, GuardsHaveNumbers, WhenHasNumbers, PortHasNumbers, CellHasNumbers, SetHasNumbers, HasNumbers}
+use Rattle.net_core.specs.declared.net.Guard.{Guard, Row_of-Guard, end_of-Guard, more_of-Guard}
+use Rattle.net_core.specs.declared.net.Guard as code
 use Rattle.net_core.specs.declared.net.Net.{Net}
 use Rattle.net_core.specs.declared.net.NetAssign.{NetAssign}
 use Rattle.net_core.specs.declared.net.NetCell.{NetCell}
 use Rattle.net_core.specs.declared.net.NetPort.{NetPort}
 use Rattle.net_core.specs.declared.net.Src.{Src}
 use Rattle.net_core.specs.declared.net.Src.TheVariants.{Port, Lit}
-use Rattle.net_text.specs.Names.{is_segment, is_path, is_number, source_has_text, is_unguarded, line_has_text, HasText}
+use Rattle.net_text.specs.Names.{is_segment, is_path, is_number, source_has_text, count_guards, guard_has_text, guards_have_text, when_has_text, line_has_text, HasText}
 use Rattle.net_text.proofs.NumberLaws.{both_true}
 
 below : (test : Text → Bool) (names : List Text) (id : NameId) → test [] ≡ false → test (text_of names id) ≡ true → IsNumberOf names id
@@ -30,9 +31,25 @@ source_below : (names : List Text) (s : Src NameId) → source_has_text (source_
 source_below names (Port p) h = below is_path names p refl h
 source_below names (Lit width value) h = tt
 
-when_below : (names : List Text) (guard : Option (Guard NameId)) → is_unguarded (guard_option (text_of names) guard) ≡ true → WhenHasNumbers names guard
+mutual
+  guard_below : (names : List Text) (g : Guard NameId) → guard_has_text (guard_tree (text_of names) g) ≡ true → GuardHasNumbers names g
+  guard_below names (code.Read s) h = source_below names s h
+  guard_below names (code.Test op a b) h =
+      let k = both_true (source_has_text (source_tree (text_of names) a)) (source_has_text (source_tree (text_of names) b)) h in
+      (source_below names a k.0, source_below names b k.1)
+  guard_below names (code.Not' p g) h = guard_below names g h
+  guard_below names (code.All' shape gs) h = row_below names gs (both_true (leb 2 (count_guards (guard_trees (text_of names) gs))) (guards_have_text (guard_trees (text_of names) gs)) h).1
+  guard_below names (code.Any' shape gs) h = row_below names gs (both_true (leb 2 (count_guards (guard_trees (text_of names) gs))) (guards_have_text (guard_trees (text_of names) gs)) h).1
+
+  row_below : {m : _} (names : List Text) (gs : Row_of-Guard NameId m) → guards_have_text (guard_trees (text_of names) gs) ≡ true → GuardsHaveNumbers names gs
+  row_below names end_of-Guard h = tt
+  row_below names (more_of-Guard g gs) h =
+      let b = both_true (guard_has_text (guard_tree (text_of names) g)) (guards_have_text (guard_trees (text_of names) gs)) h in
+      (guard_below names g b.0, row_below names gs b.1)
+
+when_below : (names : List Text) (guard : Option (Guard NameId)) → when_has_text (guard_option (text_of names) guard) ≡ true → WhenHasNumbers names guard
 when_below names None h = tt
-when_below names (Some g) h = absurd cc
+when_below names (Some g) h = guard_below names g h
 
 in_below : (names : List Text) (p : NetPort) → line_has_text (InLine (pin_of names p)) ≡ true → PortHasNumbers names p
 in_below names p h = below is_segment names p.name refl (both_true (is_segment (text_of names p.name)) (is_number p.width) h).0
@@ -48,8 +65,8 @@ cell_below names c h =
 
 set_below : (names : List Text) (a : NetAssign) → line_has_text (SetOf (set_of names a)) ≡ true → SetHasNumbers names a
 set_below names a h =
-    let b = both_true (is_path (text_of names a.dst) && is_unguarded (guard_option (text_of names) a.guard)) (source_has_text (source_tree (text_of names) a.src)) h in
-    let d = both_true (is_path (text_of names a.dst)) (is_unguarded (guard_option (text_of names) a.guard)) b.0 in
+    let b = both_true (is_path (text_of names a.dst) && when_has_text (guard_option (text_of names) a.guard)) (source_has_text (source_tree (text_of names) a.src)) h in
+    let d = both_true (is_path (text_of names a.dst)) (when_has_text (guard_option (text_of names) a.guard)) b.0 in
     (below is_path names a.dst refl d.0, when_below names a.guard d.1, source_below names a.src b.1)
 
 all_below : {A : Type 0} (of : A → Line) (P : A → Type 0) → ((a : A) → line_has_text (of a) ≡ true → P a) → (xs : List A) → list_all line_has_text (map of xs) ≡ true → AllByRecursion P xs

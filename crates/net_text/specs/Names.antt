@@ -58,18 +58,13 @@ abbrev pub when_has_text : Option (GuardTree Text) → Bool
 when_has_text None = true
 when_has_text (Some g) = guard_has_text g
 
--- assignments with guards come later
-abbrev pub is_unguarded : Option (GuardTree Text) → Bool
-is_unguarded None = true
-is_unguarded (Some g) = false
-
 -- the netlist's inputs and outputs have plain names, all else paths
 abbrev pub line_has_text : Line → Bool
 line_has_text (InLine p) = is_segment p.name && is_number p.width
 line_has_text (OutLine p) = is_segment p.name && is_number p.width
 line_has_text (WireLine p) = is_path p.name && is_number p.width
 line_has_text (CellOf c) = is_path c.name && is_segment c.prim && list_all is_number c.params
-line_has_text (SetOf a) = is_path a.dst && is_unguarded a.guard && source_has_text a.src
+line_has_text (SetOf a) = is_path a.dst && when_has_text a.guard && source_has_text a.src
 
 abbrev pub HasText : Netlist → Type 0
 HasText n = (is_segment n.name ≡ true) × (list_all line_has_text (lines_of n) ≡ true)

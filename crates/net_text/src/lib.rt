@@ -1,6 +1,7 @@
 //! The text of netlists, both ways.
 #![tactic(auto)]
 
+mod guards;
 mod line_end;
 mod lines;
 mod net_text_end;
@@ -12,3 +13,6 @@ mod words;
 pub use net_text_end::NetTextEnd;
 pub use print::print_net;
 pub use read::{one_netlist, read_net};
+
+#[cfg(test)]
+mod tests;

@@ -1,13 +1,16 @@
 //! Lines of a netlist's text, each read by itself.
-ghost use Rattle.std.specs.Prelude.{◌≡◌, ℕ, ◌+◌, ◌<◌, ◌≤◌, length, Some, IfOk, [], codes, option_map, option_and_then};
-ghost use Rattle.hw_names.specs.Name.{text_of};
+ghost use Rattle.std.specs.Prelude.{◌≡◌, ℕ, ◌+◌, ◌<◌, ◌≤◌, length, Some, IfOk, List, [], codes, option_map, option_and_then};
+ghost use Rattle.hw_names.specs.Name.{Text, text_of};
 ghost use Rattle.hw_prims.specs.Table.{Pin};
-ghost use Rattle.net_core.specs.Guard.{source_tree, guard_option};
+ghost use Rattle.net_core.specs.Guard.{source_tree, guard_tree, guard_option};
 ghost use Rattle.net_core.specs.Netlist.{pin_of, cell_of, set_of};
 ghost use Rattle.net_text.specs.Names.{is_segment, is_path};
-ghost use Rattle.net_text.specs.Reader.{GivesNamed, Gives, Grows, HasRoom, pin_from, pin_of_text, param_at, params_of_text, cell_of_text, source_at, literal_at, value_of_text, set_of_text, line_of_text};
+ghost use Rattle.net_text.specs.ReadResults.{GivesNamed, Gives, Grows, HasRoom};
+ghost use Rattle.net_text.specs.ReadLines.{pin_from, pin_of_text, param_at, params_of_text, cell_of_text, guarded_of_text, value_from, value_of_text, set_of_text, line_of_text};
+ghost use Rattle.net_text.specs.ReadWords.{source_at, literal_at};
 ghost use Rattle.net_text.specs.View.{line_of};
 
+use crate::guards::guard;
 use crate::line_end::LineEnd;
 use crate::words::{after, expect, is_path, number, path, segment, whole_number, word};
 use hw_names::{NameId, Names};
@@ -35,7 +38,7 @@ pub fn numbered(names: &mut Names, name: &[u8]) -> Result<NameId, LineEnd>
 }
 
 /// The port of this name, from the space before its width on.
-#[tactic(auto, unfolding(crate::specs::Reader::pin_from))]
+#[tactic(auto, unfolding(crate::specs::ReadLines::pin_from))]
 fn port_from(names: &mut Names, name: &[u8], text: &[u8]) -> Result<NetPort, LineEnd>
     requires some { 0 < length name.now }
     requires room { HasRoom names.old name.now }
@@ -48,7 +51,7 @@ fn port_from(names: &mut Names, name: &[u8], text: &[u8]) -> Result<NetPort, Lin
 }
 
 /// An input or an output, after its keyword.
-#[tactic(auto, unfolding(crate::specs::Reader::pin_of_text))]
+#[tactic(auto, unfolding(crate::specs::ReadLines::pin_of_text))]
 fn own_port(names: &mut Names, text: &[u8]) -> Result<NetPort, LineEnd>
     requires { HasRoom names.old text.now }
     ensures read { GivesNamed names.new pin_of result (pin_of_text is_segment text.now) }
@@ -59,7 +62,7 @@ fn own_port(names: &mut Names, text: &[u8]) -> Result<NetPort, LineEnd>
 }
 
 /// A wire, after its keyword.
-#[tactic(auto, unfolding(crate::specs::Reader::pin_of_text))]
+#[tactic(auto, unfolding(crate::specs::ReadLines::pin_of_text))]
 fn wire(names: &mut Names, text: &[u8]) -> Result<NetPort, LineEnd>
     requires { HasRoom names.old text.now }
     ensures read { GivesNamed names.new pin_of result (pin_of_text is_path text.now) }
@@ -70,7 +73,7 @@ fn wire(names: &mut Names, text: &[u8]) -> Result<NetPort, LineEnd>
 }
 
 /// A parameter, from the space before it on, and what follows.
-#[tactic(auto, unfolding(crate::specs::Reader::param_at))]
+#[tactic(auto, unfolding(crate::specs::ReadLines::param_at))]
 fn param(text: &[u8]) -> Result<(u128, &[u8]), LineEnd>
     ensures read { Gives (λ x. (x.0, x.1.now)) result (param_at text.now) }
     ensures length { IfOk result (λ x. length x.1.now < length text.now) }
@@ -93,7 +96,7 @@ fn params(alloc: Global, text: &[u8]) -> Result<Vec<u128>, LineEnd>
 }
 
 /// A cell, after its keyword.
-#[tactic(auto, unfolding(crate::specs::Reader::cell_of_text))]
+#[tactic(auto, unfolding(crate::specs::ReadLines::cell_of_text))]
 fn cell(alloc: Global, names: &mut Names, shown: bool, text: &[u8]) -> Result<NetCell, LineEnd>
     requires { HasRoom names.old text.now }
     ensures read { GivesNamed names.new cell_of result (cell_of_text shown text.now) }
@@ -113,7 +116,7 @@ fn cell(alloc: Global, names: &mut Names, shown: bool, text: &[u8]) -> Result<Ne
 }
 
 /// A literal at the front, and what follows.
-#[tactic(auto, unfolding(crate::specs::Reader::literal_at))]
+#[tactic(auto, unfolding(crate::specs::ReadWords::literal_at))]
 fn literal(text: &[u8]) -> Result<(Src<NameId>, &[u8]), LineEnd>
     ensures read { GivesNamed [] (λ names x. (source_tree (text_of names) x.0, x.1.now)) result (literal_at text.now) }
     ensures length { IfOk result (λ x. length x.1.now ≤ length text.now) }
@@ -124,7 +127,7 @@ fn literal(text: &[u8]) -> Result<(Src<NameId>, &[u8]), LineEnd>
 }
 
 /// A source at the front, and what follows.
-#[tactic(auto, unfolding(crate::specs::Reader::source_at))]
+#[tactic(auto, unfolding(crate::specs::ReadWords::source_at))]
 pub fn source<'a>(names: &mut Names, text: &'a [u8]) -> Result<(Src<NameId>, &'a [u8]), LineEnd>
     requires { HasRoom names.old text.now }
     ensures read { GivesNamed names.new (λ names x. (source_tree (text_of names) x.0, x.1.now)) result (source_at text.now) }
@@ -138,23 +141,52 @@ pub fn source<'a>(names: &mut Names, text: &'a [u8]) -> Result<(Src<NameId>, &'a
     }
 }
 
+/// The source that is taken where a guard is true, from what follows the guard on.
+#[tactic(auto, unfolding(crate::specs::ReadLines::guarded_of_text))]
+fn guarded(names: &mut Names, text: &[u8]) -> Result<Src<NameId>, LineEnd>
+    requires { HasRoom names.old text.now }
+    ensures read { GivesNamed names.new (λ names x. source_tree (text_of names) x) result (guarded_of_text text.now) }
+    ensures grows { IfOk result (λ _. Grows names.old names.new text.now []) }
+{
+    let (src, rest) = source(names, expect(text, b" ? ")?)?;
+    if !rest.is_empty() {
+        return Err(LineEnd::Grammar);
+    }
+    Ok(src)
+}
+
+/// A source that is taken at all times, where a guard is all that there is.
+fn unguarded(guard: &Guard<NameId>) -> Result<(Option<Guard<NameId>>, Src<NameId>), LineEnd>
+    ensures { (names : List Text) → Gives (λ x. (guard_option (text_of names) x.0, source_tree (text_of names) x.1)) result (value_from [] (guard_tree (text_of names) guard.now)) }
+{
+    match guard {
+        Guard::Read(src) => Ok((None, *src)),
+        _ => Err(LineEnd::Grammar),
+    }
+}
+
 /// What an assignment takes and when, up to the end.
-#[tactic(auto, unfolding(crate::specs::Reader::value_of_text))]
-fn value(names: &mut Names, text: &[u8]) -> Result<(Option<Guard<NameId>>, Src<NameId>), LineEnd>
+#[tactic(auto, unfolding(crate::specs::ReadLines::value_of_text))]
+fn value(
+    alloc: Global,
+    names: &mut Names,
+    text: &[u8],
+) -> Result<(Option<Guard<NameId>>, Src<NameId>), LineEnd>
     requires { HasRoom names.old text.now }
     ensures read { GivesNamed names.new (λ names x. (guard_option (text_of names) x.0, source_tree (text_of names) x.1)) result (value_of_text text.now) }
     ensures grows { IfOk result (λ _. Grows names.old names.new text.now []) }
 {
-    let (src, rest) = source(names, text)?;
-    if !rest.is_empty() {
-        return Err(LineEnd::Grammar);
+    let (guard, rest) = guard(alloc, names, text)?;
+    if rest.is_empty() {
+        return unguarded(&guard);
     }
-    Ok((None, src))
+    let src = guarded(names, rest)?;
+    Ok((Some(guard), src))
 }
 
 /// An assignment, after its keyword.
-#[tactic(auto, unfolding(crate::specs::Reader::set_of_text))]
-fn set(names: &mut Names, text: &[u8]) -> Result<NetAssign, LineEnd>
+#[tactic(auto, unfolding(crate::specs::ReadLines::set_of_text))]
+fn set(alloc: Global, names: &mut Names, text: &[u8]) -> Result<NetAssign, LineEnd>
     requires { HasRoom names.old text.now }
     ensures read { GivesNamed names.new set_of result (set_of_text text.now) }
     ensures grows { IfOk result (λ _. Grows names.old names.new text.now []) }
@@ -162,12 +194,12 @@ fn set(names: &mut Names, text: &[u8]) -> Result<NetAssign, LineEnd>
     let (dst, rest) = path(text)?;
     let rest = expect(rest, b" = ")?;
     let dst = numbered(names, dst)?;
-    let (guard, src) = value(names, rest)?;
+    let (guard, src) = value(alloc, names, rest)?;
     Ok(NetAssign { dst, guard, src })
 }
 
 /// A line without its line feed.
-#[tactic(auto, unfolding(crate::specs::Reader::line_of_text))]
+#[tactic(auto, unfolding(crate::specs::ReadLines::line_of_text))]
 pub fn line(alloc: Global, names: &mut Names, text: &[u8]) -> Result<NetLine, LineEnd>
     requires { HasRoom names.old text.now }
     ensures read { GivesNamed names.new line_of result (line_of_text text.now) }
@@ -184,7 +216,7 @@ pub fn line(alloc: Global, names: &mut Names, text: &[u8]) -> Result<NetLine, Li
     } else if let Some(rest) = after(text, b"ext ") {
         Ok(NetLine::Cell(cell(alloc, names, true, rest)?))
     } else if let Some(rest) = after(text, b"set ") {
-        Ok(NetLine::Set(set(names, rest)?))
+        Ok(NetLine::Set(set(alloc, names, rest)?))
     } else {
         Err(LineEnd::Grammar)
     }
