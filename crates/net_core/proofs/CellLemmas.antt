@@ -1,8 +1,6 @@
 -- Laws of the ports of a cell.
-use Rattle.std.proofs.Common.{◌≡◌, ◌≢◌, ℕ, zero, suc, ◌+◌, ◌<◌, Bool, true, false, not, ◌&&◌, ◌||◌, List, [], ◌∷◌, ◌++◌, length, map, take, get_or, slice_get, Contains, Option, Some, None, option_map, refl, sym, ap, ap₂, subst, append_assoc, length-append, Bor, nat_lt, ◌∙◌, arith}
+use Rattle.std.proofs.Common.{◌≡◌, ℕ, zero, suc, ◌+◌, ◌<◌, Bool, true, false, not, ◌&&◌, ◌||◌, List, [], ◌∷◌, ◌++◌, length, map, take, get_or, slice_get, Some, None, option_map, refl, sym, ap, ap₂, subst, append_assoc, length-append, Bor, nat_lt, ◌∙◌, arith}
 use Rattle.std.proofs.lemmas.Bool.Decides.{nat_tests}
-use Rattle.std.specs.Prelude.{◌↔◌, IsTrue}
-use Rattle.std.specs.List.{list_any, list_all}
 use Rattle.std.proofs.lemmas.List.{append_cancel_left, get_or-map, length-map, map-append, take_more, take-map}
 use Rattle.std.proofs.lemmas.List.Folds.{list_all-append, list_all_at, list_any-append}
 use Rattle.std.proofs.Math.Bool.{or-false}
@@ -13,7 +11,6 @@ use Rattle.hw_prims.specs.Table.{Pin, pin, inputs_of, outputs_of, pins_of, pin_n
 use Rattle.hw_prims.specs.declared.prim.Primitive.{Primitive}
 use Rattle.net_core.specs.PortList.{port_line, cell_ports, full_names}
 use Rattle.net_core.specs.Rules.{PortLine, cell_input, cell_output, ports_from, unsized, port_names, is_among, are_new}
-use Rattle.net_core.specs.declared.ports.Port.{Port}
 use Rattle.net_core.proofs.PortListLemmas.{not_before}
 
 -- full names of one cell are equal only where the pins are

@@ -11,7 +11,7 @@ use Rattle.net_core.specs.Netlist.{cell_of, set_of, netlist_of}
 use Rattle.net_core.specs.declared.net.Net.{Net}
 use Rattle.net_core.specs.declared.net.NetAssign.{NetAssign}
 use Rattle.net_core.specs.Numbers.{GuardHasNumbers, GuardsHaveNumbers}
-use Rattle.net_core.specs.Guard.{GuardTree, GuardTrees, AllOf, AnyOf, NoGuards, MoreGuards, guards_of, guard_tree, guard_trees, guard_option}
+use Rattle.net_core.specs.Guard.{GuardTree, AllOf, AnyOf, MoreGuards, guards_of, guard_tree, guard_trees, guard_option}
 use Rattle.net_core.specs.Weight.{node_count, nodes_count, option_nodes, set_weight, weight_of, saturated}
 use Rattle.net_core.specs.declared.net.Guard.{Guard, Row_of-Guard, end_of-Guard, more_of-Guard, items-the_row-Guard, items_hidden-the_row-Guard-0}
 use Rattle.net_core.specs.declared.net.Guard as code

@@ -1,20 +1,14 @@
 -- Laws of the first broken rule: part by part, line by line.
-use Rattle.std.proofs.Common.{◌≡◌, ℕ, zero, suc, ◌+◌, ◌<◌, Bool, true, false, not, ◌&&◌, List, [], ◌∷◌, ◌++◌, length, map, take, flat_map, slice_get, Option, Some, None, is_some, unwrap_or, Result, Ok, Err, refl, sym, ap, ap₂, subst, ◌∙◌, append_assoc, length-append, get_or, drop, arith}
+use Rattle.std.proofs.Common.{◌≡◌, ℕ, ◌+◌, ◌<◌, List, [], ◌∷◌, ◌++◌, length, take, flat_map, Option, Some, None, Result, Ok, Err, refl, sym, ap, ap₂, subst, ◌∙◌, append_assoc, length-append, get_or, drop, arith}
 use Rattle.std.proofs.lemmas.Grind.{flat_map-append}
 use Rattle.std.proofs.lemmas.List.{append-nil, take_more, flat_map_more, length-take-le, take-append-drop}
-use Rattle.std.proofs.Math.ListN.{get_or-map}
-use Rattle.std.proofs.lemmas.List.{length-map}
-use Rattle.std.specs.Prelude.{if◌then◌else◌, IsErr, IsErrAnd}
+use Rattle.std.specs.Prelude.{IsErr, IsErrAnd}
 use Rattle.hw_names.specs.Name.{Text}
-use Rattle.hw_prims.specs.Table.{Pin, is_width}
-use Rattle.net_core.specs.Judging.{own_line, own_lines, first_not_kept, or_later, first_broken, Tells}
-use Rattle.net_core.specs.Netlist.{Line, InLine, OutLine, WireLine, CellOf, SetOf, pin_of}
-use Rattle.net_core.specs.declared.net.NetPort.{NetPort}
-use Rattle.net_core.specs.Rules.{PortLine, ports_at, cell_names_at, port_names, is_among, rules_after}
+use Rattle.net_core.specs.Judging.{first_not_kept, or_later, first_broken, Tells}
+use Rattle.net_core.specs.Netlist.{Line}
+use Rattle.net_core.specs.Rules.{PortLine, ports_at, cell_names_at, rules_after}
 use Rattle.net_core.specs.declared.rules.NetEnd.{NetEnd}
 use Rattle.net_core.specs.declared.rules.NetEnd.TheVariants.{Refused, Memory}
-use Rattle.net_core.specs.declared.ports.Side.{Side}
-use Rattle.net_core.specs.declared.ports.Side.TheVariants.{In, Out, Wire}
 
 abbrev pub Fault : Type 0
 Fault = Option (ℕ × ℕ)

@@ -1,9 +1,8 @@
 -- Laws of what guards keep of the rules: part by part.
-use Rattle.std.proofs.Common.{◌≡◌, ℕ, zero, suc, ◌+◌, ◌<◌, Bool, true, false, ◌&&◌, ◌==◌, List, [], ◌∷◌, ◌++◌, length, map, take, get_or, Option, Some, None, is_some, option_map, refl, sym, ap, ap₂, ◌∙◌, inl, inr, ◌⊎◌, Vec, Global, arith}
+use Rattle.std.proofs.Common.{◌≡◌, ℕ, zero, suc, ◌<◌, Bool, true, false, ◌&&◌, ◌==◌, List, [], ◌∷◌, ◌++◌, length, map, get_or, Option, Some, None, is_some, option_map, refl, sym, ap, ap₂, ◌∙◌, inl, inr, ◌⊎◌, Vec, Global, arith}
 use Rattle.std.proofs.lemmas.Bool.{and_parts}
-use Rattle.std.proofs.lemmas.List.{take_more, map-append}
 use Rattle.hw_names.specs.Name.{Text}
-use Rattle.net_core.specs.Guard.{GuardTree, GuardTrees, Reads, Compares, Negates, NoGuards, MoreGuards, guards_of, guard_tree, source_tree}
+use Rattle.net_core.specs.Guard.{GuardTree, Reads, Compares, Negates, guards_of, guard_tree, source_tree}
 use Rattle.net_core.specs.Kept.{all_kept, both_kept, kept_alone, kept_compared, kept_driven, kept_by_guard, kept_by_guards, kept_by_option, kept_by_set}
 use Rattle.net_core.specs.Netlist.{SetLine}
 use Rattle.net_core.specs.PortList.{port_line}

@@ -1,16 +1,15 @@
 -- Laws of lists of ports: their names, a port put last, and the port of a name.
-use Rattle.std.proofs.Common.{◌≡◌, ◌≢◌, ℕ, zero, suc, ◌+◌, ◌<◌, nat_lt, Bool, true, false, not, List, [], ◌∷◌, ◌++◌, length, map, slice_get, Contains, Option, Some, None, cond, is_some, take, ◌||◌, option_map, refl, sym, ap, ap₂, subst, ◌∙◌, arith, length-append}
+use Rattle.std.proofs.Common.{◌≡◌, ◌≢◌, ℕ, zero, suc, ◌+◌, nat_lt, Bool, true, false, not, List, [], ◌∷◌, ◌++◌, length, map, slice_get, Contains, Option, Some, None, cond, is_some, take, ◌||◌, option_map, refl, sym, ap, subst, ◌∙◌, arith, length-append}
 use Rattle.std.specs.Cmp.Lexicographic.{nat_list_eq_equiv}
 use Rattle.std.specs.Str.{bytes_eq}
-use Rattle.std.specs.List.{list_any, find}
 use Rattle.std.proofs.lemmas.Bool.{or_parts}
 use Rattle.std.proofs.lemmas.Bool.Decides.{nat_tests}
 use Rattle.std.proofs.lemmas.Map.Views.{Contains-from_any, list_any-from_Contains}
 use Rattle.std.proofs.lemmas.Slice.Eq.{bytes_eq-Decides}
-use Rattle.std.proofs.lemmas.Option.{slice_get-get_or, slice_get_within, slice_get-map, get_or_from_slice_get}
+use Rattle.std.proofs.lemmas.Option.{slice_get_within, slice_get-map, get_or_from_slice_get}
 use Rattle.hw_names.specs.Name.{Text, AreDistinct}
 use Rattle.net_core.specs.PortList.{port_line, port_lines}
-use Rattle.net_core.specs.Rules.{PortLine, port_names, port_named, ports_of, is_among, has_name}
+use Rattle.net_core.specs.Rules.{PortLine, port_names, port_named, ports_of, is_among}
 use Rattle.net_core.specs.Netlist.{Netlist}
 use Rattle.net_core.specs.Table.{IsTableOf}
 use Rattle.net_core.specs.declared.ports.Port.{Port}

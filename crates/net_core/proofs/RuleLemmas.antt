@@ -1,5 +1,5 @@
 -- Laws of the rules: the first broken one is found by judging part by part, there is at most one, and then the netlist isn't valid.
-use Rattle.std.proofs.Common.{◌≡◌, ◌≢◌, ℕ, zero, suc, ◌+◌, ◌<◌, Bool, true, false, List, [], ◌∷◌, ◌++◌, length, take, drop, flat_map, slice_get, get_or, Option, Some, None, Result, Ok, Err, refl, sym, ap, ap₂, subst, ◌∙◌, append_assoc, arith}
+use Rattle.std.proofs.Common.{◌≡◌, ℕ, zero, suc, ◌+◌, ◌<◌, Bool, true, false, List, [], ◌∷◌, ◌++◌, length, take, drop, flat_map, slice_get, Option, Some, None, Result, Ok, Err, refl, sym, ap, ap₂, subst, ◌∙◌, append_assoc, arith}
 use Rattle.std.proofs.lemmas.Bool.{and_parts}
 use Rattle.std.proofs.lemmas.List.{append-nil, take-append-drop}
 use Rattle.std.proofs.lemmas.Option.{slice_get_within, get_or_from_slice_get}
@@ -9,7 +9,7 @@ use Rattle.std.specs.Prelude.{IfErr, IsErrAnd}
 use Rattle.hw_names.specs.Name.{Text}
 use Rattle.net_core.specs.Judging.{first_not_kept, or_later, first_broken, Tells, IsCauseIn}
 use Rattle.net_core.specs.Netlist.{Netlist, Line, lines_of}
-use Rattle.net_core.specs.Rules.{PortLine, ports_at, ports_of, cell_names_at, rules_after, rules_at, KeepsRules, IsValid, FirstBroken}
+use Rattle.net_core.specs.Rules.{PortLine, ports_at, ports_of, cell_names_at, rules_after, rules_at, IsValid, FirstBroken}
 use Rattle.net_core.specs.declared.rules.NetEnd.{NetEnd}
 use Rattle.net_core.specs.declared.rules.NetEnd.TheVariants.{Refused, Memory}
 use Rattle.net_core.proofs.JudgingLemmas.{Fault, or_next, first_broken-append}

@@ -1,24 +1,19 @@
 -- What the rules give of a valid netlist: names are distinct, cells have primitives, assignments fit their ports.
-use Rattle.std.proofs.Common.{◌≡◌, ◌≢◌, ℕ, zero, suc, ◌+◌, ◌<◌, Bool, true, false, not, ◌&&◌, ◌||◌, ◌==◌, List, [], ◌∷◌, ◌++◌, length, map, take, flat_map, get_or, slice_get, Option, Some, None, is_some, refl, sym, ap, ap₂, subst, append_assoc, ◌∙◌, arith}
-use Rattle.std.specs.Prelude.{All, AllPairs}
+use Rattle.std.proofs.Common.{◌≡◌, ◌≢◌, ℕ, suc, Bool, true, false, not, ◌&&◌, ◌||◌, List, [], ◌∷◌, ◌++◌, map, take, flat_map, slice_get, Option, Some, None, refl, sym, ap, ap₂, subst, append_assoc, ◌∙◌, arith}
+use Rattle.std.specs.Prelude.{All}
 use Rattle.std.specs.Str.{bytes_eq}
-use Rattle.std.specs.List.{list_all}
-use Rattle.std.proofs.Math.Seq.{take-length}
 use Rattle.std.proofs.lemmas.Bool.{and_parts, or_parts}
-use Rattle.std.proofs.lemmas.Bool.Decides.{Decides-eqb}
-use Rattle.std.proofs.lemmas.List.{append-nil, map-append, take_more}
+use Rattle.std.proofs.lemmas.List.{append-nil, map-append}
 use Rattle.std.proofs.lemmas.List.Elements.{All-nil, All-cons, All-append}
 use Rattle.std.proofs.lemmas.List.Kept.{AllPairs-cons}
 use Rattle.std.proofs.lemmas.Grind.{flat_map-append}
-use Rattle.std.proofs.lemmas.Option.{slice_get-get_or}
 use Rattle.std.proofs.lemmas.Slice.Eq.{bytes_eq-Decides}
 use Rattle.hw_names.specs.Name.{Text, AreDistinct}
 use Rattle.hw_prims.proofs.PortNameLemmas.{has_names, pins_differ, names_differ}
-use Rattle.hw_prims.specs.Table.{prim_of, is_primitive, is_memory, input_names, output_names, pins_of, pin_names}
+use Rattle.hw_prims.specs.Table.{prim_of, input_names, output_names, pins_of, pin_names}
 use Rattle.hw_prims.specs.declared.prim.Primitive.{Primitive}
-use Rattle.net_core.specs.Netlist.{Netlist, Line, InLine, OutLine, WireLine, CellOf, SetOf, CellLine, SetLine, lines_of}
-use Rattle.net_core.specs.PortList.{full_names}
-use Rattle.net_core.specs.Rules.{PortLine, ports_at, ports_from, ports_of, port_names, cell_names_at, is_among, are_new, has_new_names, has_known_names, has_good_widths, has_good_sides, has_good_parameters, KeepsRules, IsValid}
+use Rattle.net_core.specs.Netlist.{Netlist, Line, InLine, OutLine, WireLine, CellOf, SetOf, CellLine, lines_of}
+use Rattle.net_core.specs.Rules.{PortLine, ports_at, ports_from, ports_of, port_names, cell_names_at, is_among, are_new, has_new_names, has_known_names, has_good_widths, has_good_sides, has_good_parameters, IsValid}
 use Rattle.net_core.proofs.CellLemmas.{AreDistinct-full_names, port_names-cell_ports, port_names-unsized_ports}
 
 abbrev Differs : Text → Text → Type 0

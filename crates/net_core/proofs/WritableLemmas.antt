@@ -1,5 +1,5 @@
 -- A valid netlist's cells have primitives, its assignments fit their ports, and what assignments may drive are the writable ports.
-use Rattle.std.proofs.Common.{◌≡◌, ℕ, zero, suc, ◌<◌, Bool, true, false, List, [], ◌∷◌, ◌++◌, map, flat_map, slice_get, Contains, Option, Some, None, is_some, not, ◌&&◌, ◌||◌, ◌==◌, refl, sym, ap, subst, ◌∙◌, inl, inr, ◌⊎◌}
+use Rattle.std.proofs.Common.{◌≡◌, ℕ, zero, suc, Bool, true, false, List, [], ◌∷◌, ◌++◌, map, flat_map, slice_get, Contains, Option, Some, None, is_some, not, ◌&&◌, ◌||◌, ◌==◌, refl, sym, ap, subst, ◌∙◌, inl, inr, ◌⊎◌}
 use Rattle.std.proofs.lemmas.Bool.{and_parts}
 use Rattle.std.proofs.lemmas.Bool.Decides.{Decides-eqb}
 use Rattle.std.proofs.lemmas.Option.{slice_get-get_or}
@@ -8,9 +8,9 @@ use Rattle.std.specs.Prelude.{cond}
 use Rattle.std.specs.Str.{bytes_eq}
 use Rattle.hw_names.specs.Name.{Text, dotted}
 use Rattle.hw_names.proofs.NameLemmas.{Contains-slice_get}
-use Rattle.hw_prims.specs.Table.{Pin, prim_of, is_memory, inputs_of, outputs_of, pin_names}
+use Rattle.hw_prims.specs.Table.{Pin, prim_of, is_memory, inputs_of, outputs_of}
 use Rattle.hw_prims.specs.declared.prim.Primitive.{Primitive}
-use Rattle.net_core.specs.NetRun.{HasPin, IsNetCell, IsCellInput, IsWritable}
+use Rattle.net_core.specs.NetRun.{HasPin, IsCellInput, IsWritable}
 use Rattle.net_core.specs.Netlist.{Netlist, Line, InLine, OutLine, WireLine, CellOf, SetOf, CellLine, SetLine, lines_of}
 use Rattle.net_core.specs.Rules.{PortLine, ports_at, ports_from, ports_of, port_named, cell_input, cell_output, is_writable, each_source, source_exists, literal_fits, port_width, source_width, option_widths_agree, source_is_readable, IsValid}
 use Rattle.net_core.proofs.PortListLemmas.{port_named-there}

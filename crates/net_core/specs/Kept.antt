@@ -1,5 +1,5 @@
 -- Which of the rules N2 to N4 an assignment, a guard or several keep, as code finds it. This project's.
-use Rattle.std.specs.Prelude.{ℕ, Bool, true, false, ◌&&◌, ◌==◌, List, Option, Some, None, if◌then◌else◌}
+use Rattle.std.specs.Prelude.{ℕ, true, false, ◌&&◌, ◌==◌, List, Option, Some, None, if◌then◌else◌}
 use Rattle.hw_names.specs.Name.{Text}
 use Rattle.net_core.specs.Guard.{GuardTree, GuardTrees}
 use Rattle.net_core.specs.Netlist.{SetLine, SetOf}

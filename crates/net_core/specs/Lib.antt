@@ -9,6 +9,7 @@ pub mod Numbers
 pub mod Table
 pub mod Graph
 pub mod Weight
+pub mod Words
 pub mod PortList
 pub mod Judging
 pub mod Kept

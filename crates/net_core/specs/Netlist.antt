@@ -1,7 +1,6 @@
 -- A netlist as a tree of texts: what its lines say, whatever numbers its names have. This project's.
 use Rattle.std.specs.Prelude.{ℕ, Bool, List, ◌++◌, map, Option}
 use Rattle.hw_names.specs.Name.{Text, text_of}
-use Rattle.hw_names.specs.declared.names.NameId.{NameId}
 use Rattle.hw_prims.specs.Table.{Pin}
 use Rattle.net_core.specs.Guard.{GuardTree, source_tree, guard_option}
 use Rattle.net_core.specs.declared.net.Net.{Net}

@@ -1,5 +1,5 @@
 -- That each name of a netlist is a number of its list of names. This project's.
-use Rattle.std.specs.Prelude.{ℕ, ◌<◌, List, length, All, Option, Some, None}
+use Rattle.std.specs.Prelude.{◌<◌, List, length, All, Option, Some, None}
 use Rattle.hw_names.specs.Name.{Text}
 use Rattle.hw_names.specs.declared.names.NameId.{NameId}
 use Rattle.net_core.specs.declared.net.Src.{Src}

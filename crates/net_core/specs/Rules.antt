@@ -5,7 +5,7 @@ use Rattle.hw_names.specs.Name.{Text, dotted}
 use Rattle.hw_prims.specs.Table.{Pin, prim_of, is_primitive, is_memory, is_width, inputs_of, outputs_of, input_names, output_names}
 use Rattle.hw_prims.specs.declared.prim.Primitive.{Primitive}
 use Rattle.net_core.specs.Guard.{GuardTree, GuardTrees, Reads, Compares, Negates, AllOf, AnyOf, NoGuards, MoreGuards}
-use Rattle.net_core.specs.Netlist.{Netlist, Line, InLine, OutLine, WireLine, CellOf, SetOf, CellLine, SetLine, lines_of}
+use Rattle.net_core.specs.Netlist.{Netlist, Line, InLine, OutLine, WireLine, CellOf, SetOf, SetLine, lines_of}
 use Rattle.net_core.specs.declared.net.Src.{Src}
 use Rattle.net_core.specs.declared.net.Src.TheVariants.{Port, Lit}
 

@@ -1,8 +1,5 @@
 -- The numbers of a netlist's ports, and the conditions on trees of names.
-use Rattle.std.specs.Prelude.{◌≡◌, ℕ, ◌<◌, List, length, map, slice_get, Some, Option, None}
-use Rattle.hw_names.specs.Name.{Text, text_of}
-use Rattle.hw_names.specs.declared.names.NameId.{NameId}
-use Rattle.hw_prims.specs.Table.{Pin}
+use Rattle.std.specs.Prelude.{◌≡◌, ℕ, map, slice_get, Some}
 use Rattle.net_core.specs.Netlist.{Netlist}
 use Rattle.net_core.specs.Rules.{PortLine, ports_of, port_names}
 use Rattle.net_core.specs.declared.table.PortInfo.{PortInfo}

@@ -1,10 +1,8 @@
-use Rattle.std.proofs.Common.{◌≡◌, ◌<◌, ◌≤◌, ◌^◌, [], ◌∷◌, ◌++◌, length, slice_get, take, Some, Ok, not, nat_lt, ap, sym, ◌∙◌, arith}
+use Rattle.std.proofs.Common.{◌<◌, ◌^◌, length, Ok, not, nat_lt, ap, sym, ◌∙◌, arith}
 use Rattle.std.proofs.lemmas.Option.{slice_get_within}
-use Rattle.std.proofs.Math.Seq.{take-length}
 use Rattle.hw_prims.specs.Table.{pins_of, pin}
-use Rattle.net_core.specs.PortList.{port_line, cell_ports}
-use Rattle.net_core.specs.Rules.{port_names, are_new}
-use Rattle.net_core.proofs.CellLemmas.{CellStep, cell_port_of, cell_stops, cell_goes_on, cell_adds, length-cell_ports}
+use Rattle.net_core.specs.PortList.{port_line}
+use Rattle.net_core.proofs.CellLemmas.{CellStep, cell_port_of, cell_stops, cell_goes_on, cell_adds}
 use Rattle.net_core.proofs.cells.add_cell_ports.Goals as goal
 
 pub returns-then-not-branch-clause-new : goal.returns-then-not-branch-clause-new

@@ -1,7 +1,7 @@
 use Rattle.std.proofs.Common.{◌≡◌, ◌<◌, [], length, map, slice_get, Some, Bor, not, ap, sym, ◌∙◌, arith}
 use Rattle.hw_names.specs.Name.{Text}
 use Rattle.net_core.specs.PortList.{full_names, port_line}
-use Rattle.net_core.specs.Rules.{port_names, is_among}
+use Rattle.net_core.specs.Rules.{port_names}
 use Rattle.net_core.proofs.CellLemmas.{full_name_at, are_new-more, are_new-stop}
 use Rattle.net_core.proofs.PortListLemmas.{found_among}
 use Rattle.net_core.proofs.cells.are_new_pins.Goals as goal

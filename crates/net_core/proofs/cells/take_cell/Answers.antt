@@ -1,13 +1,12 @@
-use Rattle.std.proofs.Common.{◌≡◌, ◌++◌, [], ◌∷◌, List, true, false, not, None, Some, Ok, refl, ap, ap₂, subst, sym, ◌∙◌}
+use Rattle.std.proofs.Common.{◌≡◌, ◌++◌, [], ◌∷◌, not, None, Ok, refl, ap, subst, sym, ◌∙◌}
 use Rattle.std.specs.Prelude.{IsSome}
-use Rattle.std.specs.Result.{result_ok}
-use Rattle.hw_names.specs.Name.{Text, text_of}
+use Rattle.hw_names.specs.Name.{Text}
 use Rattle.hw_names.proofs.NameLemmas.{text_of-slice_get}
 use Rattle.hw_prims.specs.Table.{prim_of, is_memory}
 use Rattle.net_core.specs.Judging.{made_fault, or_later}
-use Rattle.net_core.specs.Netlist.{CellOf, cell_of}
-use Rattle.net_core.specs.Rules.{ports_at, ports_from, are_new, port_names, is_among}
-use Rattle.net_core.proofs.LineLemmas.{Makes, makes_from, prim_of-result_ok, named_as, made_where_good, cell_named_twice, cell_ports_taken, cell_made}
+use Rattle.net_core.specs.Netlist.{cell_of}
+use Rattle.net_core.specs.Rules.{ports_from, are_new, port_names, is_among}
+use Rattle.net_core.proofs.LineLemmas.{makes_from, prim_of-result_ok, named_as, made_where_good, cell_named_twice, cell_ports_taken, cell_made}
 use Rattle.net_core.proofs.cells.take_cell.Goals as goal
 
 pub take_ports-requires : goal.take_ports-requires

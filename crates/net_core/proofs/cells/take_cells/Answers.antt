@@ -1,6 +1,5 @@
-use Rattle.std.proofs.Common.{◌≡◌, ◌<◌, ◌++◌, [], List, length, take, get_or, ap, sym, ◌∙◌, arith}
+use Rattle.std.proofs.Common.{◌<◌, [], List, length, ap, sym, ◌∙◌, arith}
 use Rattle.std.proofs.lemmas.List.{append-nil}
-use Rattle.hw_names.specs.Name.{Text}
 use Rattle.net_core.specs.Judging.{cell_lines}
 use Rattle.net_core.specs.Netlist.{CellOf, cell_of}
 use Rattle.net_core.specs.Rules.{PortLine}

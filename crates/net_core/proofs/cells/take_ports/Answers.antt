@@ -1,4 +1,4 @@
-use Rattle.std.proofs.Common.{◌≡◌, ◌≤◌, ap, ap₂, subst, sym, ◌∙◌, ◌&&◌, map, Bor, None, Some, arith}
+use Rattle.std.proofs.Common.{◌≡◌, ap, ap₂, subst, sym, ◌∙◌, ◌&&◌, Some, arith}
 use Rattle.hw_names.specs.Name.{Text}
 use Rattle.hw_prims.proofs.PortNameLemmas.{HasNames, pins_differ, few_pins}
 use Rattle.hw_prims.specs.declared.prim.Primitive.{Primitive}

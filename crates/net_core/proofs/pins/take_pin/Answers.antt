@@ -1,9 +1,7 @@
-use Rattle.std.proofs.Common.{◌≡◌, [], ◌∷◌, ◌++◌, Ok, ap, sym, ◌∙◌, false, true}
+use Rattle.std.proofs.Common.{[], ◌∷◌, ◌++◌, Ok, ap, sym, ◌∙◌, false, true}
 use Rattle.hw_names.proofs.NameLemmas.{text_of-slice_get}
-use Rattle.net_core.specs.Judging.{own_line}
 use Rattle.net_core.specs.Netlist.{pin_of}
 use Rattle.net_core.specs.PortList.{port_line}
-use Rattle.net_core.specs.Rules.{ports_at}
 use Rattle.net_core.proofs.LineLemmas.{own_taken, own_wide, own_good, is_width-from_found, width-from_found}
 use Rattle.net_core.proofs.pins.take_pin.Goals as goal
 

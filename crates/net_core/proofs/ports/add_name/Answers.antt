@@ -1,5 +1,4 @@
-use Rattle.std.proofs.Common.{◌≡◌, true, false, not, Ok, ap, ap₂, sym, ◌∙◌, nat_lt, length}
-use Rattle.net_core.specs.Rules.{is_among}
+use Rattle.std.proofs.Common.{◌≡◌, true, false, ap₂, sym, ◌∙◌, nat_lt}
 use Rattle.net_core.proofs.PortListLemmas.{grows_by_new, added_where_new, same_where_there}
 use Rattle.net_core.proofs.ports.add_name.Goals as goal
 

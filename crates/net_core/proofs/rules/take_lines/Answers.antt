@@ -1,11 +1,11 @@
-use Rattle.std.proofs.Common.{◌≡◌, ◌+◌, ◌++◌, [], List, None, Result, Ok, Err, subst, sym, ap}
+use Rattle.std.proofs.Common.{◌+◌, ◌++◌, [], List, Result, Ok, Err, subst}
 use Rattle.std.specs.Prelude.{OnOk}
 use Rattle.net_core.specs.Judging.{own_part, cell_lines, set_lines, first_broken, Tells}
 use Rattle.net_core.specs.Netlist.{netlist_of, lines_of}
 use Rattle.net_core.specs.Rules.{PortLine, ports_of}
 use Rattle.net_core.specs.declared.net.NetAssign.{NetAssign}
 use Rattle.net_core.specs.declared.net.NetCell.{NetCell}
-use Rattle.net_core.proofs.JudgingLemmas.{Begun, begun_none, tells_begun, tells_broken, tells_prefix}
+use Rattle.net_core.proofs.JudgingLemmas.{begun_none, tells_begun, tells_broken, tells_prefix}
 use Rattle.net_core.proofs.LineLemmas.{begun_own, begun_cells, all_ports}
 use Rattle.net_core.proofs.rules.take_lines.Goals as goal
 

@@ -1,10 +1,8 @@
 use Rattle.std.proofs.Common.{◌+◌, ◌++◌, []}
 use Rattle.net_core.specs.Judging.{own_lines}
-use Rattle.net_core.specs.Rules.{PortLine}
-use Rattle.net_core.specs.declared.net.NetPort.{NetPort}
 use Rattle.net_core.specs.declared.ports.Side.TheVariants.{In, Out, Wire}
 use Rattle.net_core.proofs.JudgingLemmas.{tells_prefix}
-use Rattle.net_core.proofs.LineLemmas.{own_more, own_broken, own_tells, begun_empty, none_are_own, own_lines_are_own, append_is_own}
+use Rattle.net_core.proofs.LineLemmas.{own_more, own_broken, own_tells, begun_empty, none_are_own, own_lines_are_own}
 use Rattle.net_core.proofs.rules.take_own.Goals as goal
 
 pub returns-in_err-take_pins-clause-judged : goal.returns-in_err-take_pins-clause-judged

@@ -1,4 +1,4 @@
-use Rattle.std.proofs.Common.{◌≡◌, sym}
+use Rattle.std.proofs.Common.{sym}
 use Rattle.net_core.specs.Netlist.{netlist_of}
 use Rattle.net_core.proofs.RuleLemmas.{valid_where_none, refused_from}
 use Rattle.net_core.proofs.rules.valid.Goals as goal

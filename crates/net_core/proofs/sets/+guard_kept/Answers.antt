@@ -1,4 +1,4 @@
-use Rattle.std.proofs.Common.{◌≡◌, All, List, [], ◌∷◌, ◌++◌, ap₂, map, take, ap, subst, sym, ◌∙◌, ◌<◌, length, rules, arith}
+use Rattle.std.proofs.Common.{All, List, [], ◌∷◌, ◌++◌, ap₂, map, take, ap, subst, sym, ◌∙◌, ◌<◌, length, rules, arith}
 use Rattle.std.proofs.lemmas.List.{take_more, map-append}
 use Rattle.hw_names.specs.Name.{text_of}
 use Rattle.hw_names.specs.declared.names.NameId.{NameId}
@@ -7,7 +7,6 @@ use Rattle.net_core.specs.Kept.{both_kept, kept_by_guard, kept_by_guards}
 use Rattle.net_core.specs.Numbers.{GuardHasNumbers}
 use Rattle.net_core.proofs.GuardLemmas.{list_numbers}
 use Rattle.net_core.specs.declared.net.Guard.{Guard, the_lemmas}
-use Rattle.net_core.specs.declared.net.Src.{Src}
 use Rattle.net_core.proofs.KeptLemmas.{kept_by_guards-none, kept_by_guards-push, kept_by_guard-Negates, kept_by_guard-list, kept_by_guard-Reads, kept_by_guard-Compares}
 use Rattle.net_core.proofs.sets.+guard_kept.Goals as goal
 

@@ -1,4 +1,4 @@
-use Rattle.std.proofs.Common.{◌≡◌, None, ap, sym, ◌∙◌}
+use Rattle.std.proofs.Common.{None, ap, sym, ◌∙◌}
 use Rattle.net_core.specs.Judging.{or_later}
 use Rattle.net_core.specs.Kept.{fault_of}
 use Rattle.net_core.specs.Netlist.{set_of}

@@ -1,4 +1,4 @@
-use Rattle.std.proofs.Common.{◌≡◌, ◌<◌, ◌++◌, [], List, length, take, flat_map, refl, ap, sym, ◌∙◌, arith}
+use Rattle.std.proofs.Common.{◌<◌, ◌++◌, [], List, length, take, flat_map, refl, ap, sym, ◌∙◌, arith}
 use Rattle.hw_names.specs.Name.{Text}
 use Rattle.net_core.specs.Judging.{set_lines}
 use Rattle.net_core.specs.Netlist.{SetOf, set_of}

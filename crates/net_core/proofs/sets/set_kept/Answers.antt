@@ -1,5 +1,4 @@
-use Rattle.std.proofs.Common.{◌≡◌, ap, ap₂, sym, ◌∙◌, option_map}
-use Rattle.hw_names.specs.Name.{text_of}
+use Rattle.std.proofs.Common.{ap, ap₂, sym, ◌∙◌, option_map}
 use Rattle.hw_names.proofs.NameLemmas.{text_of-slice_get}
 use Rattle.net_core.specs.Kept.{both_kept}
 use Rattle.net_core.specs.Netlist.{set_of}

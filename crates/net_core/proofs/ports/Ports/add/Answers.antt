@@ -1,4 +1,4 @@
-use Rattle.std.proofs.Common.{◌≡◌, [], ◌∷◌, ◌++◌, Ok, ap, ap₂, sym, ◌∙◌, not}
+use Rattle.std.proofs.Common.{[], ◌∷◌, ◌++◌, Ok, ap, ap₂, sym, ◌∙◌, not}
 use Rattle.net_core.specs.PortList.{port_line, port_lines}
 use Rattle.net_core.specs.Rules.{is_among, port_names}
 use Rattle.net_core.proofs.PortListLemmas.{port_names-port_lines, port_lines-push}

@@ -1,6 +1,6 @@
-use Rattle.std.proofs.Common.{◌≡◌, false, ap, sym, ◌∙◌, length, option_map, Some, ◌<◌, arith}
+use Rattle.std.proofs.Common.{ap, sym, ◌∙◌, length, option_map, Some, ◌<◌, arith}
 use Rattle.std.proofs.lemmas.Option.{slice_get-get_or, slice_get_within}
-use Rattle.net_core.specs.PortList.{port_line, port_lines}
+use Rattle.net_core.specs.PortList.{port_line}
 use Rattle.net_core.specs.Rules.{is_among, port_names, port_named}
 use Rattle.net_core.proofs.PortListLemmas.{port_names-port_lines, port_named-port_lines, port_named-absent, is_among-absent}
 use Rattle.net_core.proofs.ports.Ports.find.Goals as goal
