@@ -25,5 +25,6 @@ pub mod SearchLemmas
 pub mod WireLemmas
 pub mod PigeonholeLemmas
 pub mod OrderLemmas
+pub mod AgreeLemmas
 pub mod OneRunLemmas
 pub mod NoLoopLemmas

@@ -1,29 +1,23 @@
 -- An order rules loops out: along a loop the places in the order would fall without end.
-use Rattle.std.proofs.Common.{◌≡◌, ℕ, zero, suc, ◌+◌, ◌<◌, List, [], ◌∷◌, ◌++◌, Option, Some, None, arith, length, subst, ap, sym}
-use Rattle.std.specs.Prelude.{slice_get, Contains, map}
-use Rattle.std.proofs.lemmas.List.Elements.{All-contains}
-use Rattle.hw_names.specs.Name.{Text, dotted}
-use Rattle.net_core.specs.Graph.{ReadsPort, ByAssignment, ByCell, ReadsAlong, IsLoop, HasNoLoop, source_ports, option_ports, set_ports}
-use Rattle.net_core.specs.Netlist.{Netlist, SetLine}
+use Rattle.std.proofs.Common.{◌≡◌, ℕ, zero, suc, ◌<◌, List, [], ◌∷◌, Some, arith, length, subst}
+use Rattle.std.specs.Prelude.{slice_get}
+use Rattle.hw_names.specs.Name.{Text}
+use Rattle.net_core.specs.Graph.{ReadsPort, ByAssignment, ByCell, ReadsAlong, set_ports}
+use Rattle.net_core.specs.Netlist.{Netlist}
 use Rattle.net_core.specs.Rules.{IsValid}
 use Rattle.net_sim.proofs.OneRunLemmas.{number_of, input_number}
 use Rattle.net_sim.proofs.CoverLemmas.{cover}
-use Rattle.net_sim.proofs.ValidLemmas.{source_there}
-use Rattle.net_sim.specs.Layout.{port_names}
-use Rattle.net_sim.specs.NoGuards.{HasNoGuards}
+use Rattle.net_sim.proofs.AgreeLemmas.{set_reads}
+use Rattle.net_sim.proofs.MemberLemmas.{in_of}
 use Rattle.net_sim.specs.OneRun.{OrderRulesLoopsOut}
 use Rattle.net_sim.specs.Order.{IsNamed, IsOrderOf}
 use Rattle.std.proofs.lemmas.Option.{slice_get_within}
 use Rattle.net_core.specs.Rules.{ports_of}
 
--- without a guard an assignment reads its source alone
-source_reads : (a : SetLine) (port : Text) → a.guard ≡ None → Contains (set_ports a) port → Contains (source_ports a.src) port
-source_reads a port none has = subst (λ g. Contains (option_ports g ++ source_ports a.src) port) none has
-
-module _ (n : Netlist) (valid : IsValid n) (unguarded : HasNoGuards n) (ports : List ℕ) (ordered : IsOrderOf n ports) where
+module _ (n : Netlist) (valid : IsValid n) (ports : List ℕ) (ordered : IsOrderOf n ports) where
   read_number : (port other : Text) → ReadsPort n port other → (m : ℕ) × IsNamed n m other
   read_number port other (ByAssignment k a at dst has) =
-      number_of n other (All-contains (Contains (port_names n)) (source_ports a.src) other (source_there n valid k a at) (source_reads a other (unguarded k a at) has))
+      number_of n other (set_reads n valid k a at other (in_of (set_ports a) other has))
   read_number port other (ByCell cell prim input output is takes gives through out into) =
       let number = input_number n cell prim is input takes in
       (number.0, subst (λ x. IsNamed n number.0 x) into number.1)
@@ -60,6 +54,6 @@ module _ (n : Netlist) (valid : IsValid n) (unguarded : HasNoGuards n) (ports : 
       never bound first others along q.0 (omega (arith, q.1, below))
 
 pub order_rules_loops_out : OrderRulesLoopsOut
-order_rules_loops_out = λ n valid unguarded ports ordered first others loop.
-    let p = last_read n valid unguarded ports ordered first others first loop.along in
-    never n valid unguarded ports ordered (suc p.0) first others loop.along p (omega arith)
+order_rules_loops_out = λ n valid ports ordered first others loop.
+    let p = last_read n valid ports ordered first others first loop.along in
+    never n valid ports ordered (suc p.0) first others loop.along p (omega arith)

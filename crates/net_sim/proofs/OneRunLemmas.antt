@@ -1,9 +1,8 @@
 -- Rows of the same inputs and states agree, port after port in an order; and so do the rows of a run.
-use Rattle.std.proofs.Common.{◌≡◌, ℕ, zero, suc, ◌+◌, ◌<◌, List, [], ◌∷◌, ◌++◌, true, false, Option, Some, None, refl, sym, ap, ap₂, ◌∙◌, arith, get_or, length, inl, inr, lit<, subst}
+use Rattle.std.proofs.Common.{◌≡◌, ℕ, zero, suc, ◌+◌, ◌<◌, List, [], ◌∷◌, ◌++◌, true, false, Option, Some, None, refl, sym, ap, ap₂, ◌∙◌, arith, get_or, length, inl, inr, subst}
 use Rattle.std.specs.Prelude.{slice_get, map, Contains, is_some}
 use Rattle.std.specs.List.{flat_map}
 use Rattle.std.proofs.lemmas.List.{length-map}
-use Rattle.std.proofs.lemmas.List.Elements.{All-contains, Contains-append_right}
 use Rattle.std.proofs.lemmas.Option.{slice_get_within, same_Some}
 use Rattle.hw_names.specs.Name.{Text, dotted}
 use Rattle.hw_prims.proofs.PrimLemmas.{output_agrees}
@@ -13,26 +12,20 @@ use Rattle.hw_prims.specs.State.{State}
 use Rattle.hw_prims.specs.Table.{Pin, prim_of, inputs_of, outputs_of, pin_names}
 use Rattle.hw_prims.specs.declared.prim.Primitive.{Primitive}
 use Rattle.net_core.specs.Circuit.{settled, states_before, IsRow, IsComputed}
-use Rattle.net_core.specs.Graph.{ReadsPort, ByAssignment, ByCell, source_ports, option_ports}
-use Rattle.net_core.specs.Guard.{source_value}
+use Rattle.net_core.specs.Graph.{ReadsPort, ByAssignment, ByCell, set_ports}
 use Rattle.net_core.specs.NetRun.{net_circuit, net_drive, HasPin, IsNetCell, IsWritable}
 use Rattle.net_core.specs.Netlist.{Netlist, CellLine, SetLine}
 use Rattle.net_core.specs.Rules.{PortLine, ports_of, own_port, cell_input, cell_output, IsValid}
-use Rattle.net_core.specs.declared.net.Src.{Src}
-use Rattle.net_core.specs.declared.net.Src.TheVariants.{Port, Lit}
+use Rattle.net_sim.proofs.AgreeLemmas.{AgreeAt, drivers_agree, set_reads}
 use Rattle.net_sim.proofs.CoverLemmas.{cover}
 use Rattle.net_sim.proofs.GiverLemmas.{at_some}
 use Rattle.net_sim.proofs.LayoutLemmas.{ports_of-parts, ports_of_prim, input_at}
 use Rattle.net_sim.proofs.MemberLemmas.{In, in_at, at_of, in_of, contains_of, in_append, in_map, from_map, from_flat_map}
 use Rattle.net_sim.proofs.PlaceLemmas.{named_at, pin_at}
-use Rattle.net_sim.proofs.PortLemmas.{set_of_number}
-use Rattle.net_sim.proofs.RowLemmas.{values_by_number}
-use Rattle.net_sim.proofs.ValidLemmas.{cell_has_prim, source_there}
+use Rattle.net_sim.proofs.ValidLemmas.{cell_has_prim}
 use Rattle.net_sim.specs.Layout.{port_names, ports_of_cell, first_port}
-use Rattle.net_sim.specs.NoGuards.{HasNoGuards}
 use Rattle.net_sim.specs.OneRun.{AreRows, SameInputs, OneRun}
 use Rattle.net_sim.specs.Order.{IsNamed, IsOrderOf}
-use Rattle.net_sim.specs.PortOrder.{numbers_of}
 
 -- what a port is: an input, one that assignments drive, or an output of a cell
 data Role (n : Netlist) (name : Text) : Type 0 where
@@ -98,19 +91,7 @@ input_number n cell prim (k, c, at, named, made) input has =
     let port = input_at n k c prim at made pin.index none pin.within in
     (first_port n k + pin.index, (cell_input c.name (get_or (inputs_of prim) pin.index none), port, ap₂ dotted named pin.named))
 
-source_at : Row → Option SetLine → ℕ
-source_at row None = 0
-source_at row (Some a) = source_value row a.src
-
-source_of : (row : Row) (o : Option SetLine) (a : SetLine) → o ≡ Some a → source_at row o ≡ source_value row a.src
-unfolding source_at
-source_of row o a e = ap (source_at row) e
-
-map_alike : (f g : ℕ → ℕ) (ks : List ℕ) → ((i k : ℕ) → slice_get ks i ≡ Some k → f k ≡ g k) → map f ks ≡ map g ks
-map_alike f g [] same = refl
-map_alike f g (k ∷ ks) same = ap₂ ◌∷◌ (same 0 k refl) (map_alike f g ks (λ i j at. same (suc i) j at))
-
-module _ (n : Netlist) (valid : IsValid n) (unguarded : HasNoGuards n) (ports : List ℕ) (ordered : IsOrderOf n ports) where
+module _ (n : Netlist) (valid : IsValid n) (ports : List ℕ) (ordered : IsOrderOf n ports) where
   -- the place of a port in the order
   place_of : (m : ℕ) (name : Text) → IsNamed n m name → (i : ℕ) × (slice_get ports i ≡ Some m)
   place_of m name (p, at, e) = cover ports (length (ports_of n)) ordered.all ordered.in_range ordered.once m (slice_get_within (ports_of n) m p at)
@@ -126,25 +107,13 @@ module _ (n : Netlist) (valid : IsValid n) (unguarded : HasNoGuards n) (ports : 
           let before = ordered.after i j.0 m q name read_name at j.1 named is reads in
           agree j.0 q read_name (omega (arith, before, within)) j.1 is
 
-      source_alike : (k : ℕ) (a : SetLine) → slice_get n.sets k ≡ Some a → a.dst ≡ name → (s : Src Text) → a.src ≡ s → source_value row s ≡ source_value row' s
-      source_alike k a is dst (Lit width value) e = refl
-      source_alike k a is dst (Port q) e =
-          let here : Contains (source_ports a.src) q = subst (λ (s : Src Text). Contains (source_ports s) q) (sym e) (0, lit< tt, refl) in
-          let there = All-contains (Contains (port_names n)) (source_ports a.src) q (source_there n valid k a is) here in
-          let number = number_of n q there in
-          read number.0 q number.1 (ByAssignment k a is dst (Contains-append_right (option_ports a.guard) (source_ports a.src) q here))
+      reads_alike : (k : ℕ) (a : SetLine) → slice_get n.sets k ≡ Some a → a.dst ≡ name → AgreeAt row row' (set_ports a)
+      reads_alike k a is dst other has =
+          let number = number_of n other (set_reads n valid k a is other has) in
+          read number.0 other number.1 (ByAssignment k a is dst (contains_of (set_ports a) other has))
 
       written : IsWritable n name → row name ≡ row' name
-      written is =
-          let f = λ (k : ℕ). source_at row (slice_get n.sets k) in
-          let g = λ (k : ℕ). source_at row' (slice_get n.sets k) in
-          let left = values_by_number n unguarded name row f (λ k a at. source_of row (slice_get n.sets k) a at) in
-          let right = values_by_number n unguarded name row' g (λ k a at. source_of row' (slice_get n.sets k) a at) in
-          let same = map_alike f g (numbers_of name 0 n.sets) (λ j k at.
-          let s = set_of_number name 0 n.sets j k at in
-          let is_k : slice_get n.sets k ≡ Some s.set = let e : k ≡ s.index = omega (arith, s.counted) in ap (slice_get n.sets) e ∙ s.at in
-          source_of row (slice_get n.sets k) s.set is_k ∙ source_alike k s.set is_k s.named s.set.src refl ∙ sym (source_of row' (slice_get n.sets k) s.set is_k)) in
-          r.driven name (net_drive n name) (is, refl) ∙ ap settled (left ∙ same ∙ sym right) ∙ sym (r'.driven name (net_drive n name) (is, refl))
+      written is = r.driven name (net_drive n name) (is, refl) ∙ ap settled (drivers_agree row row' name n.sets reads_alike) ∙ sym (r'.driven name (net_drive n name) (is, refl))
 
       computed : (cell : Text) (prim : Primitive) (output : Text) → IsNetCell n cell prim → Contains (pin_names (outputs_of prim)) output → dotted cell output ≡ name → row name ≡ row' name
       computed cell prim output is has e =
@@ -191,6 +160,6 @@ module _ (n : Netlist) (valid : IsValid n) (unguarded : HasNoGuards n) (ports : 
         (states_alike bound (agree_before bound) t within in_first in_second) m name named
 
 pub one_run : OneRun
-one_run = λ n valid unguarded ports ordered inputs other loads same height tall trace second rows rows' t in_first in_second name has.
+one_run = λ n valid ports ordered inputs other loads same height tall trace second rows rows' t in_first in_second name has.
     let number = number_of n name has in
-    agree_before n valid unguarded ports ordered inputs other loads same height tall trace second rows rows' (suc t) t (omega arith) in_first in_second number.0 name number.1
+    agree_before n valid ports ordered inputs other loads same height tall trace second rows rows' (suc t) t (omega arith) in_first in_second number.0 name number.1

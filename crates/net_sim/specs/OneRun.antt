@@ -9,7 +9,6 @@ use Rattle.net_core.specs.NetRun.{net_circuit, HasPin}
 use Rattle.net_core.specs.Netlist.{Netlist}
 use Rattle.net_core.specs.Rules.{IsValid}
 use Rattle.net_sim.specs.Layout.{port_names}
-use Rattle.net_sim.specs.NoGuards.{HasNoGuards}
 use Rattle.net_sim.specs.Order.{IsOrderOf}
 
 -- the trace's first rows are rows of the run from these inputs and loads
@@ -23,10 +22,10 @@ SameInputs n inputs other = (t : ℕ) (port : Text) → HasPin n.ins port → in
 -- where there is an order, rows of the same inputs and loads agree at every port
 abbrev pub OneRun : Type 0
 OneRun =
-    (n : Netlist) → IsValid n → HasNoGuards n → (ports : List ℕ) → IsOrderOf n ports → (inputs other : Trace) (loads : Text → List ℕ) → SameInputs n inputs other →
+    (n : Netlist) → IsValid n → (ports : List ℕ) → IsOrderOf n ports → (inputs other : Trace) (loads : Text → List ℕ) → SameInputs n inputs other →
     (height tall : ℕ) (trace second : Trace) → AreRows n inputs loads height trace → AreRows n other loads tall second →
     (t : ℕ) → t < height → t < tall → (port : Text) → Contains (port_names n) port → trace t port ≡ second t port
 
 -- where there is an order, there is no loop
 abbrev pub OrderRulesLoopsOut : Type 0
-OrderRulesLoopsOut = (n : Netlist) → IsValid n → HasNoGuards n → (ports : List ℕ) → IsOrderOf n ports → HasNoLoop n
+OrderRulesLoopsOut = (n : Netlist) → IsValid n → (ports : List ℕ) → IsOrderOf n ports → HasNoLoop n
