@@ -26,5 +26,6 @@ pub mod WireLemmas
 pub mod PigeonholeLemmas
 pub mod OrderLemmas
 pub mod AgreeLemmas
+pub mod GuardReadLemmas
 pub mod OneRunLemmas
 pub mod NoLoopLemmas

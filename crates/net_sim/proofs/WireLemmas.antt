@@ -1,6 +1,6 @@
 -- Entries that stand for pairs of ports, added one by one.
-use Rattle.std.proofs.Common.{◌≡◌, ℕ, ◌+◌, ◌<◌, ◌≤◌, List, [], ◌∷◌, ◌++◌, true, false, Some, None, length, get_or, take, refl, sym, ap, ap₂, ◌∙◌, arith, subst, append_assoc}
-use Rattle.std.specs.Prelude.{map, slice_get, option_map}
+use Rattle.std.proofs.Common.{◌≡◌, ℕ, ◌+◌, ◌<◌, ◌≤◌, List, [], ◌∷◌, ◌++◌, true, false, Some, length, get_or, take, refl, sym, ap, ap₂, ◌∙◌, arith, subst, append_assoc}
+use Rattle.std.specs.Prelude.{slice_get, option_map}
 use Rattle.std.specs.List.{flat_map}
 use Rattle.std.proofs.lemmas.Grind.{flat_map-append}
 use Rattle.std.proofs.lemmas.List.{append-nil, take_more, map_push, get_or-map, take_all, get_or_default, length-map}
@@ -10,7 +10,6 @@ use Rattle.hw_names.specs.Name.{Text, dotted}
 use Rattle.hw_prims.specs.Meaning.{is_through}
 use Rattle.hw_prims.specs.Table.{Pin, prim_of, inputs_of, outputs_of, pin_names, name_at}
 use Rattle.hw_prims.specs.declared.prim.Primitive.{Primitive}
-use Rattle.net_core.specs.Graph.{source_ports, option_ports}
 use Rattle.net_core.specs.Netlist.{Netlist, SetLine, CellLine}
 use Rattle.net_core.specs.Rules.{PortLine, ports_of}
 use Rattle.net_sim.proofs.LayoutLemmas.{input_at, output_at, first_port-more, first_port-le, length-ports_of_cell}
@@ -102,12 +101,9 @@ cells_more n cells i d old mid new within are before add =
 pub cells_all : (n : Netlist) (cells : List CellPorts) (i : ℕ) (old new : List Entry) → length cells ≤ i → AreCellPorts n cells → AddReadings (port_names n) (flat_map cell_readings (take i n.cells)) old new → AddReadings (port_names n) (flat_map cell_readings n.cells) old new
 cells_all n cells i old new done are add = add_all (port_names n) cell_readings n.cells i old new (omega (arith, done, are.all)) add
 
--- one more assignment, which has no guard
+-- one more assignment
 pub sets_more : (n : Netlist) (i : ℕ) (a : SetLine) (old mid new : List Entry) → slice_get n.sets i ≡ Some a → AddReadings (port_names n) (flat_map set_readings (take i n.sets)) old mid → AddReadings (port_names n) (set_readings a) mid new → AddReadings (port_names n) (flat_map set_readings (take (i + 1) n.sets)) old new
 sets_more n i a old mid new at before add = add_next (port_names n) set_readings n.sets i a old mid new (slice_get_within n.sets i a at) (get_or_from_slice_get n.sets i a a at) before add
-
-pub unguarded_readings : (a : SetLine) → a.guard ≡ None → set_readings a ≡ map (reading a.dst) (source_ports a.src)
-unguarded_readings a none = ap (λ g. map (reading a.dst) (option_ports g ++ source_ports a.src)) none
 
 -- a cell's ports are among the netlist's
 pub cell_ends : (n : Netlist) (cells : List CellPorts) → AreCellPorts n cells → (k : ℕ) (d : CellPorts) → k < length cells → (get_or cells k d).first + length (inputs_of (get_or cells k d).prim) + length (outputs_of (get_or cells k d).prim) ≤ length (ports_of n)

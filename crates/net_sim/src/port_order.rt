@@ -7,7 +7,6 @@ ghost use Rattle.net_core.specs.Table.{IsTableOf};
 ghost use Rattle.net_sim.specs.Destinations.{AreDestinations};
 ghost use Rattle.net_sim.specs.Layout.{port_names};
 ghost use Rattle.net_sim.specs.Loop.{IfLoop};
-ghost use Rattle.net_sim.specs.NoGuards.{HasNoGuards};
 ghost use Rattle.net_sim.specs.Order.{IsLoopOf};
 ghost use Rattle.net_sim.specs.PortOrder.{IsPortOrderOf};
 
@@ -41,7 +40,6 @@ pub fn order(alloc: Global, net: &Net, table: &Table) -> Result<PortOrder, Order
     requires valid { IsValid (netlist_of net.now) }
     requires numbers { HasNumbers net.now }
     requires table { IsTableOf (netlist_of net.now) table.now }
-    requires unguarded { HasNoGuards (netlist_of net.now) }
     ensures order { IfOk result (IsPortOrderOf (netlist_of net.now)) }
     ensures cycle { IfLoop result (IsLoopOf (netlist_of net.now)) }
 {

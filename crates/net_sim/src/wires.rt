@@ -3,21 +3,20 @@ ghost use Rattle.std.specs.Prelude.{◌≡◌, ◌+◌, ◌<◌, ◌^◌, List, 
 ghost use Rattle.std.specs.List.{flat_map};
 ghost use Rattle.hw_names.specs.Name.{Text, text_of};
 ghost use Rattle.hw_prims.specs.Table.{inputs_of, outputs_of, name_at};
-ghost use Rattle.net_core.specs.Guard.{source_tree};
-ghost use Rattle.net_core.specs.Graph.{source_ports};
+ghost use Rattle.net_core.specs.Guard.{guard_option, guard_tree, guards_of, source_tree};
+ghost use Rattle.net_core.specs.Graph.{guard_ports, guards_ports, option_ports, source_ports};
 ghost use Rattle.net_core.specs.Netlist.{Netlist, netlist_of};
-ghost use Rattle.net_core.specs.Numbers.{HasNumbers, SourceHasNumbers};
+ghost use Rattle.net_core.specs.Numbers.{HasNumbers, GuardHasNumbers, SourceHasNumbers, WhenHasNumbers};
 ghost use Rattle.net_core.specs.Rules.{ports_of, IsValid};
 ghost use Rattle.net_core.specs.Table.{IsTableOf};
 ghost use Rattle.net_sim.specs.Layout.{port_names, AreCellPorts};
-ghost use Rattle.net_sim.specs.NoGuards.{HasNoGuards};
 ghost use Rattle.net_sim.specs.Wires.{reading, set_readings, cell_readings, output_readings, prim_readings, net_readings, AreEntriesOf, AddReadings, HasCellAt};
 
 use crate::cells::CellPorts;
 use crate::groups::Entry;
 use hw_bits::Memory;
 use hw_names::{NameId, Names};
-use net_core::{Net, NetAssign, Src, Table};
+use net_core::{Guard, Net, Src, Table};
 use std::alloc::Global;
 
 /// An entry for each port and each port that it reads within a row; ports are by their numbers in the table.
@@ -31,7 +30,6 @@ pub fn net_reads(
     requires numbers { HasNumbers net.now }
     requires table { IsTableOf (netlist_of net.now) table.now }
     requires cells { AreCellPorts (netlist_of net.now) cells.now }
-    requires unguarded { HasNoGuards (netlist_of net.now) }
     requires room { length (ports_of (netlist_of net.now)) < 2 ^ 32 }
     ensures { IfOk result
         (λ entries. AreEntriesOf (port_names (netlist_of net.now)) (net_readings (netlist_of net.now)) entries.items) }
@@ -47,13 +45,13 @@ fn add_set_reads(entries: &mut Vec<Entry>, net: &Net, table: &Table) -> Result<(
     requires valid { IsValid (netlist_of net.now) }
     requires numbers { HasNumbers net.now }
     requires table { IsTableOf (netlist_of net.now) table.now }
-    requires unguarded { HasNoGuards (netlist_of net.now) }
     ensures { IfOk result
         (λ _. AddReadings (port_names (netlist_of net.now)) (flat_map set_readings (netlist_of net.now).sets)
         entries.old.items entries.new.items) }
 {
     for set in &net.sets {
         let port = find_port(&table.names, &net.names, set.dst);
+        add_option_reads(entries, &table.names, port, &net.names, &set.guard)?;
         add_source_read(entries, &table.names, port, &net.names, &set.src)?;
     }
     Ok(())
@@ -69,6 +67,84 @@ pub fn find_port(ports: &Names, names: &Names, id: NameId) -> usize
         Some(found) => found.0 as usize,
         None => unreachable!(),
     }
+}
+
+/// Adds the ports that the guard of an assignment reads, if it has one.
+fn add_option_reads(
+    entries: &mut Vec<Entry>,
+    ports: &Names,
+    port: usize,
+    names: &Names,
+    guard: &Option<Guard<NameId>>,
+) -> Result<(), Memory>
+    requires port { port < length ports.now }
+    requires numbers { WhenHasNumbers names.now guard.now }
+    requires there { All (Contains ports.now) (option_ports (guard_option (text_of names.now) guard.now)) }
+    ensures { IfOk result
+        (λ _. AddReadings ports.now
+        (map (reading (slice_index_or ports.now port [])) (option_ports (guard_option (text_of names.now) guard.now)))
+        entries.old.items entries.new.items) }
+{
+    match guard {
+        Some(guard) => add_guard_reads(entries, ports, port, names, guard),
+        None => Ok(()),
+    }
+}
+
+/// Adds the ports that a guard reads. It goes over a run of `!` by a loop, so that the stack holds.
+#[cycle(add_guard_reads)]
+fn add_guard_reads(
+    entries: &mut Vec<Entry>,
+    ports: &Names,
+    port: usize,
+    names: &Names,
+    guard: &Guard<NameId>,
+) -> Result<(), Memory>
+    requires port { port < length ports.now }
+    requires numbers { GuardHasNumbers names.now guard.now }
+    requires there { All (Contains ports.now) (guard_ports (guard_tree (text_of names.now) guard.now)) }
+    ensures { IfOk result
+        (λ _. AddReadings ports.now
+        (map (reading (slice_index_or ports.now port [])) (guard_ports (guard_tree (text_of names.now) guard.now)))
+        entries.old.items entries.new.items) }
+{
+    let mut inner = guard;
+    loop {
+        match inner {
+            Guard::Not(negated) => inner = negated,
+            Guard::All(guards) | Guard::Any(guards) => {
+                return add_guards_reads(entries, ports, port, names, guards);
+            }
+            Guard::Read(src) => return add_source_read(entries, ports, port, names, src),
+            Guard::Test(_, left, right) => {
+                add_source_read(entries, ports, port, names, left)?;
+                return add_source_read(entries, ports, port, names, right);
+            }
+        }
+    }
+}
+
+/// Adds the ports that the guards of a list read.
+#[cycle(add_guard_reads)]
+fn add_guards_reads(
+    entries: &mut Vec<Entry>,
+    ports: &Names,
+    port: usize,
+    names: &Names,
+    guards: &[Guard<NameId>],
+) -> Result<(), Memory>
+    requires port { port < length ports.now }
+    requires numbers { All (GuardHasNumbers names.now) guards.now }
+    requires there { All (Contains ports.now) (guards_ports (guards_of (map (guard_tree (text_of names.now)) guards.now))) }
+    ensures { IfOk result
+        (λ _. AddReadings ports.now
+        (map (reading (slice_index_or ports.now port [])) (guards_ports (guards_of (map (guard_tree (text_of names.now)) guards.now))))
+        entries.old.items entries.new.items) }
+{
+    for guard in guards {
+        add_guard_reads(entries, ports, port, names, guard)?;
+    }
+    Ok(())
 }
 
 /// Adds the port that a source reads, if it is one.
