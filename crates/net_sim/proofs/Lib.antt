@@ -22,6 +22,10 @@ pub mod PlanLemmas
 pub mod SimLemmas
 pub mod LoopLemmas
 pub mod SearchLemmas
+pub mod WalkLemmas
+pub mod ByNameLemmas
+pub mod ComponentLemmas
+pub mod CycleLemmas
 pub mod WireLemmas
 pub mod PigeonholeLemmas
 pub mod OrderLemmas
@@ -29,3 +33,4 @@ pub mod AgreeLemmas
 pub mod GuardReadLemmas
 pub mod OneRunLemmas
 pub mod NoLoopLemmas
+pub mod LeastLoopLemmas

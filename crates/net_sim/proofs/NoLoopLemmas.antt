@@ -14,21 +14,23 @@ use Rattle.net_sim.specs.Order.{IsNamed, IsOrderOf}
 use Rattle.std.proofs.lemmas.Option.{slice_get_within}
 use Rattle.net_core.specs.Rules.{ports_of}
 
-module _ (n : Netlist) (valid : IsValid n) (ports : List ℕ) (ordered : IsOrderOf n ports) where
-  read_number : (port other : Text) → ReadsPort n port other → (m : ℕ) × IsNamed n m other
+module _ (n : Netlist) (valid : IsValid n) where
+  -- the number of a port that is read
+  pub read_number : (port other : Text) → ReadsPort n port other → (m : ℕ) × IsNamed n m other
   read_number port other (ByAssignment k a at dst has) =
       number_of n other (set_reads n valid k a at other (in_of (set_ports a) other has))
   read_number port other (ByCell cell prim input output is takes gives through out into) =
       let number = input_number n cell prim is input takes in
       (number.0, subst (λ x. IsNamed n number.0 x) into number.1)
 
+module _ (n : Netlist) (valid : IsValid n) (ports : List ℕ) (ordered : IsOrderOf n ports) where
   -- a place of the port in the order
   abbrev PlaceOf : Text → Type 0
   PlaceOf port = (i : ℕ) × (m : ℕ) × (slice_get ports i ≡ Some m) × IsNamed n m port
 
   read_place : (port other : Text) → ReadsPort n port other → PlaceOf other
   read_place port other reads =
-      let number = read_number port other reads in
+      let number = read_number n valid port other reads in
       let place = cover ports (length (ports_of n)) ordered.all ordered.in_range ordered.once number.0 (slice_get_within (ports_of n) number.0 number.1.0 number.1.1) in
       (place.0, number.0, place.1, number.1)
 

@@ -13,7 +13,7 @@ use Rattle.hw_names.specs.Name.{Text, dotted, AreDistinct}
 use Rattle.hw_prims.specs.Meaning.{is_through}
 use Rattle.hw_prims.specs.Table.{prim_of, inputs_of, outputs_of, pin_names}
 use Rattle.hw_prims.specs.declared.prim.Primitive.{Primitive}
-use Rattle.net_core.specs.Graph.{ReadsPort, ByAssignment, ByCell, ReadsAlong, set_ports}
+use Rattle.net_core.specs.Graph.{ReadsPort, ByAssignment, ByCell, ReadsAlong, IsLoop, set_ports}
 use Rattle.net_core.specs.Netlist.{Netlist, CellLine, SetLine}
 use Rattle.net_core.specs.Rules.{PortLine, ports_of}
 use Rattle.net_sim.proofs.MemberLemmas.{In, in_at, at_of, in_of, contains_of, in_left, in_right, in_append, in_map, from_map, in_flat_map, from_flat_map, in_filter, from_filter}
@@ -23,7 +23,7 @@ use Rattle.net_sim.proofs.WireLemmas.{cell_readings-prim}
 use Rattle.net_sim.specs.Destinations.{AreDestinations}
 use Rattle.net_sim.specs.Groups.{IsGathered, with_key, has_key}
 use Rattle.net_sim.specs.Layout.{port_names, name_of}
-use Rattle.net_sim.specs.Order.{IsNamed, IsOrderOf, IsLoopOf}
+use Rattle.net_sim.specs.Order.{IsNamed, IsOrderOf}
 use Rattle.net_sim.specs.PortOrder.{numbers_of}
 use Rattle.net_sim.specs.Reads.{HasRead, AreInRange, IsReadOrder, IsCycle}
 use Rattle.net_sim.specs.Wires.{Reading, reading, set_readings, input_readings, output_readings, prim_readings, cell_readings, some_readings, net_readings, named_entry, AreEntriesOf}
@@ -75,6 +75,11 @@ reads_reading n port other (ByCell cell prim input output (k, c, at, named, is) 
 
 -- ---- the graph of the entries is the graph of the names
 
+-- these ports are a loop
+abbrev pub IsLoopOf : Netlist → List ℕ → Type 0
+IsLoopOf n [] = ⊥
+IsLoopOf n (port ∷ ports) = All (λ p. p < length (ports_of n)) (port ∷ ports) × IsLoop n (name_of n port) (map (name_of n) ports)
+
 module _ (n : Netlist) (entries : List Entry) (reads : List (List ℕ)) (distinct : AreDistinct (port_names n)) (are : AreEntriesOf (port_names n) (net_readings n) entries) (gathered : IsGathered entries (length (port_names n)) reads) where
   reads_at : (port : ℕ) → port < length (port_names n) → get_or reads port [] ≡ with_key port entries
   reads_at port lt = get_or_from_slice_get reads port (with_key port entries) [] (gathered.each port lt)
@@ -109,7 +114,7 @@ module _ (n : Netlist) (entries : List Entry) (reads : List (List ℕ)) (distinc
       let same : named_entry (port_names n) e.0 ≡ reading (name_of n port) (name_of n other) = ap₂ (λ k v. reading (name_of n k) (name_of n v)) e.2 e.3 in
       reading_reads n (name_of n port) (name_of n other) (subst (In (net_readings n)) same named)
 
-  same_port : (i j : ℕ) → i < length (port_names n) → j < length (port_names n) → name_of n i ≡ name_of n j → i ≡ j
+  pub same_port : (i j : ℕ) → i < length (port_names n) → j < length (port_names n) → name_of n i ≡ name_of n j → i ≡ j
   same_port i j wi wj e = same_number (port_names n) i j (name_of n i) distinct (slice_get-get_or (port_names n) i [] wi) (slice_get-get_or (port_names n) j [] wj ∙ ap Some (sym e))
 
   pub graph_has : (port other : ℕ) → port < length (port_names n) → other < length (port_names n) → ReadsPort n (name_of n port) (name_of n other) → HasRead reads port other
@@ -127,10 +132,10 @@ module _ (n : Netlist) (entries : List Entry) (reads : List (List ℕ)) (distinc
   count_is : length (port_names n) ≡ length (ports_of n)
   count_is = length-map (ports_of n) (λ (p : PortLine). p.name)
 
-  named_is : (port : ℕ) (name : Text) → IsNamed n port name → name_of n port ≡ name
+  pub named_is : (port : ℕ) (name : Text) → IsNamed n port name → name_of n port ≡ name
   named_is port name (p, at, e) = get_or_from_slice_get (port_names n) port name [] (slice_get-map (λ (q : PortLine). q.name) (ports_of n) port ∙ ap (option_map (λ (q : PortLine). q.name)) at ∙ ap Some e)
 
-  named_within : (port : ℕ) (name : Text) → IsNamed n port name → port < length (port_names n)
+  pub named_within : (port : ℕ) (name : Text) → IsNamed n port name → port < length (port_names n)
   named_within port name (p, at, e) = omega (arith, slice_get_within (ports_of n) port p at, count_is)
 
   pub order_is : (ports : List ℕ) → IsReadOrder reads ports → IsOrderOf n ports

@@ -1,5 +1,6 @@
 pub mod Cuts
 pub mod Groups
+pub mod ByName
 pub mod Reads
 pub mod Layout
 pub mod NoGuards
@@ -15,6 +16,9 @@ pub mod Sim
 pub mod Kept
 pub mod Standing
 pub mod Loop
+pub mod Unread
 pub mod Search
+pub mod Walk
+pub mod Components
 pub mod Destinations
 pub mod OneRun

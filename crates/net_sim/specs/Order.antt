@@ -1,7 +1,7 @@
--- An order in which the ports of a netlist can be evaluated, and the assignments to each port.
+-- An order in which the ports of a netlist can be evaluated, and the least loop, where there is no order. This project's.
 use Rattle.std.specs.Prelude.{◌≡◌, ℕ, ◌<◌, List, [], ◌∷◌, length, map, All, slice_get, Some}
 use Rattle.hw_names.specs.Name.{Text}
-use Rattle.net_core.specs.Graph.{ReadsPort, IsLoop}
+use Rattle.net_core.specs.Graph.{ReadsPort, IsLeastLoop}
 use Rattle.net_core.specs.Netlist.{Netlist}
 use Rattle.net_core.specs.Rules.{PortLine, ports_of}
 use Rattle.net_sim.specs.Layout.{name_of}
@@ -17,7 +17,7 @@ pub record IsOrderOf (n : Netlist) (ports : List ℕ) : Type 0 where
   pub once : (i j port : ℕ) → slice_get ports i ≡ Some port → slice_get ports j ≡ Some port → i ≡ j
   pub after : (i j port other : ℕ) (name read : Text) → slice_get ports i ≡ Some port → slice_get ports j ≡ Some other → IsNamed n port name → IsNamed n other read → ReadsPort n name read → j < i
 
--- these ports are a loop
-abbrev pub IsLoopOf : Netlist → List ℕ → Type 0
-IsLoopOf n [] = ⊥
-IsLoopOf n (port ∷ ports) = All (λ p. p < length (ports_of n)) (port ∷ ports) × IsLoop n (name_of n port) (map (name_of n) ports)
+-- these ports are the least loop
+abbrev pub IsLeastLoopOf : Netlist → List ℕ → Type 0
+IsLeastLoopOf n [] = ⊥
+IsLeastLoopOf n (port ∷ ports) = All (λ p. p < length (ports_of n)) (port ∷ ports) × IsLeastLoop n (name_of n port) (map (name_of n) ports)

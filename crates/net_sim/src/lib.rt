@@ -1,15 +1,20 @@
 //! The order of a netlist's ports, and its simulation row by row.
 #![tactic(auto)]
 
+mod by_name;
 mod cells;
+mod components;
 mod evaluate;
 mod groups;
 mod laws;
+mod least_loop;
 mod order_end;
 mod plan;
 mod port_order;
 mod search;
 mod sim;
+mod unread;
+mod walk;
 mod wires;
 
 pub use laws::{ends_after_all, ends_in_its_conflict, one_run, stands_at_next, stands_at_start};

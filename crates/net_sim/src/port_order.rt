@@ -7,13 +7,13 @@ ghost use Rattle.net_core.specs.Table.{IsTableOf};
 ghost use Rattle.net_sim.specs.Destinations.{AreDestinations};
 ghost use Rattle.net_sim.specs.Layout.{port_names};
 ghost use Rattle.net_sim.specs.Loop.{IfLoop};
-ghost use Rattle.net_sim.specs.Order.{IsLoopOf};
+ghost use Rattle.net_sim.specs.Order.{IsLeastLoopOf};
 ghost use Rattle.net_sim.specs.PortOrder.{IsPortOrderOf};
 
 use crate::cells::cell_ports;
 use crate::groups::{Entry, Groups, gather};
+use crate::least_loop::order_or_least_loop;
 use crate::order_end::OrderEnd;
-use crate::search::read_order;
 use crate::wires::{find_port, net_reads};
 use hw_bits::Memory;
 use net_core::{Net, Table};
@@ -35,19 +35,20 @@ impl Model for PortOrder {
     ghost view = { λ o. record { ports = o.ports.items; sets = o.sets } };
 }
 
-/// The order of the netlist's ports, whose table this is; `Loop` where there is none.
+/// The order of the ports of a netlist with this table. Where it has a loop there is none, and the end
+/// tells the least loop: the one that starts with the least port, by the bytes of its name, that lies on any.
 pub fn order(alloc: Global, net: &Net, table: &Table) -> Result<PortOrder, OrderEnd>
     requires valid { IsValid (netlist_of net.now) }
     requires numbers { HasNumbers net.now }
     requires table { IsTableOf (netlist_of net.now) table.now }
     ensures order { IfOk result (IsPortOrderOf (netlist_of net.now)) }
-    ensures cycle { IfLoop result (IsLoopOf (netlist_of net.now)) }
+    ensures cycle { IfLoop result (IsLeastLoopOf (netlist_of net.now)) }
 {
     let count = table.names.len();
     let cells = cell_ports(alloc, net, count)?;
     let entries = net_reads(alloc, net, table, cells.as_slice())?;
     let reads = gather(alloc, entries.as_slice(), count)?;
-    let ports = read_order(alloc, &reads)?;
+    let ports = order_or_least_loop(alloc, &reads, &table.names)?;
     let destinations = destinations(alloc, net, table)?;
     let sets = gather(alloc, destinations.as_slice(), count)?;
     Ok(PortOrder { ports, sets })

@@ -1,16 +1,17 @@
-use Rattle.std.proofs.Common.{◌≡◌, ◌<◌, ◌∙◌, List, length, ap, sym, subst, subst₂}
+use Rattle.std.proofs.Common.{◌≡◌, ◌<◌, ◌∙◌, List, length, ap, sym, subst, subst₂, arith}
 use Rattle.std.specs.Prelude.{All}
 use Rattle.std.proofs.lemmas.List.{length-map}
 use Rattle.std.proofs.lemmas.Result.{err_from_is_err_and}
 use Rattle.hw_names.specs.Name.{AreDistinct}
 use Rattle.net_core.specs.Netlist.{netlist_of}
 use Rattle.net_core.specs.Rules.{PortLine, ports_of}
-use Rattle.net_sim.proofs.OrderLemmas.{graph_in_range, order_is, loop_is, destinations_in_range, sets_of_port}
+use Rattle.net_sim.proofs.OrderLemmas.{graph_in_range, order_is, destinations_in_range, sets_of_port}
+use Rattle.net_sim.proofs.LeastLoopLemmas.{least_loop_is}
 use Rattle.net_sim.specs.Groups.{IsGathered}
 use Rattle.net_sim.specs.Layout.{port_names}
 use Rattle.net_sim.specs.Loop.{AtLoop}
-use Rattle.net_sim.specs.Order.{IsLoopOf}
-use Rattle.net_sim.specs.Reads.{IsCycle}
+use Rattle.net_sim.specs.Order.{IsLeastLoopOf}
+use Rattle.net_sim.specs.Reads.{IsLeastCycle}
 use Rattle.net_sim.specs.declared.order_end.OrderEnd.{OrderEnd}
 use Rattle.net_sim.specs.declared.order_end.OrderEnd.TheVariants.{Loop, Memory}
 use Rattle.net_sim.specs.declared.groups.Entry.{Entry}
@@ -23,15 +24,22 @@ names_distinct c = subst AreDistinct c.requires.table.names c.len-count.ensures.
 gathered : (c : In_ok-reads) → IsGathered c.in_ok-entries.entries.items (length (port_names (netlist_of c.args.net.now))) c.in_ok-reads.reads
 gathered c = subst₂ (λ l k. IsGathered l k c.in_ok-reads.reads) c.as_slice-2.ensures.value (c.len-count.ensures.len ∙ ap length c.requires.table.names) c.in_ok-reads.ensures
 
-pub read_order-requires : goal.read_order-requires
-read_order-requires c =
-    let r : In_ok-reads = (goal.at.read_order-requires c).In_ok-reads in
-    graph_in_range (netlist_of r.args.net.now) r.in_ok-entries.entries.items r.in_ok-reads.reads (names_distinct r) r.in_ok-entries.ensures (gathered r)
+pub order_or_least_loop-requires : goal.order_or_least_loop-requires
+order_or_least_loop-requires c =
+    let r : In_ok-reads = (goal.at.order_or_least_loop-requires c).In_ok-reads in
+    let size = (gathered r).all in
+    record {
+      in_range = graph_in_range (netlist_of r.args.net.now) r.in_ok-entries.entries.items r.in_ok-reads.reads (names_distinct r) r.in_ok-entries.ensures (gathered r);
+      names = omega (arith, size, ap length r.requires.table.names);
+      room = omega (arith, size, ap length r.requires.table.names, r.len-count.ensures.len, r.len-count.ensures.small);
+    }
 
--- a loop of the graph, as the search ended in it, is one of the netlist
-lifted : (r : In_ok-reads) (end : OrderEnd) → AtLoop end (IsCycle r.in_ok-reads.reads) → AtLoop end (IsLoopOf (netlist_of r.args.net.now))
-lifted r (Loop ports) cycle = loop_is (netlist_of r.args.net.now) r.in_ok-entries.entries.items r.in_ok-reads.reads (names_distinct r) r.in_ok-entries.ensures (gathered r) ports.items cycle
-lifted r Memory cycle = tt
+-- the least loop of the graph, as the search ended in it, is that of the netlist
+lifted : (r : In_ok-reads) (end : OrderEnd) → AtLoop end (λ ports. IsLeastCycle r.in_ok-reads.reads r.args.table.now.names ports) → AtLoop end (IsLeastLoopOf (netlist_of r.args.net.now))
+lifted r (Loop ports) least =
+    least_loop_is (netlist_of r.args.net.now) r.requires.valid r.in_ok-entries.entries.items r.in_ok-reads.reads (names_distinct r) r.in_ok-entries.ensures (gathered r) ports.items
+    (subst (λ names. IsLeastCycle r.in_ok-reads.reads names ports.items) r.requires.table.names least)
+lifted r Memory least = tt
 
 pub returns-in_err-ports-clause-cycle : goal.returns-in_err-ports-clause-cycle
 returns-in_err-ports-clause-cycle c =
