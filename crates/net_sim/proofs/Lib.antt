@@ -12,6 +12,9 @@ pub mod GiverLemmas
 pub mod PlaceLemmas
 pub mod PortLemmas
 pub mod WideLemmas
+pub mod NodeLemmas
+pub mod FlattenLemmas
+pub mod SettleLemmas
 pub mod StandsLemmas
 pub mod CoverLemmas
 pub mod PortValueLemmas

@@ -1,8 +1,8 @@
 -- What a compiled netlist gives of one port.
-use Rattle.std.proofs.Common.{◌≡◌, ℕ, ◌+◌, ◌<◌, ◌≤◌, List, [], ◌∷◌, Some, length, get_or, refl, sym, ap, ◌∙◌, arith, map, subst}
+use Rattle.std.proofs.Common.{◌≡◌, ℕ, ◌+◌, ◌<◌, ◌≤◌, List, [], Some, length, get_or, refl, sym, ap, ◌∙◌, arith, map, subst}
 use Rattle.std.specs.Prelude.{slice_get, option_map}
 use Rattle.std.proofs.lemmas.List.{length-map, get_or-map}
-use Rattle.std.proofs.lemmas.Option.{slice_get-map, slice_get_within, get_or_from_slice_get, slice_get-get_or, slice_get_read, same_Some}
+use Rattle.std.proofs.lemmas.Option.{slice_get-map, slice_get_within, get_or_from_slice_get, slice_get-get_or, slice_get_read}
 use Rattle.hw_bits.specs.Values.{values_of, widths_of}
 use Rattle.hw_bits.specs.declared.bits.Bits.{Bits}
 use Rattle.hw_names.specs.Name.{Text}
@@ -16,7 +16,7 @@ use Rattle.net_sim.proofs.LayoutLemmas.{in_at}
 use Rattle.net_sim.proofs.PortLemmas.{width_at, set_width, set_of_number, input_widths, output_width}
 use Rattle.net_sim.proofs.RowLemmas.{Once, once_from_distinct}
 use Rattle.net_sim.specs.Compiled.{IsSource}
-use Rattle.net_sim.specs.Evaluated.{HasWidth, HasWidthAt, OnlyFits, cell_inputs}
+use Rattle.net_sim.specs.Evaluated.{HasWidth, HasWidthAt, cell_inputs}
 use Rattle.net_sim.specs.Layout.{port_names, port_widths, name_of}
 use Rattle.net_sim.specs.OrderValue.{OrderValue}
 use Rattle.net_sim.specs.Plan.{IsCompiled}
@@ -79,7 +79,8 @@ module _ (n : Netlist) (order : OrderValue) (cells : List CellPorts) (sources : 
   source_has_width (Lit width value) (Slot k) is = absurd is
   source_has_width (Lit width value) (Fixed bits) is = is.1
 
-  number_fits : (name : Text) (i k : ℕ) → slice_get (numbers_of name 0 n.sets) i ≡ Some k → HasWidthAt (port_widths n) (port_width (ports_of n) name) sources k
+  -- an assignment of a port fits its width
+  pub number_fits : (name : Text) (i k : ℕ) → slice_get (numbers_of name 0 n.sets) i ≡ Some k → HasWidthAt (port_widths n) (port_width (ports_of n) name) sources k
   number_fits name i k at =
       let a = set_of_number name 0 n.sets i k at in
       let same : k ≡ a.index = omega (arith, a.counted) in
@@ -91,18 +92,9 @@ module _ (n : Netlist) (order : OrderValue) (cells : List CellPorts) (sources : 
             (subst (λ w. HasWidth (port_widths n) w s.0) width (source_has_width a.set.src s.0 (compiled.sourced.each a.index a.set s.0 a.at s.1))),
       )
 
-  only_fits_by : (name : Text) (numbers : List ℕ) → ((i k : ℕ) → slice_get numbers i ≡ Some k → HasWidthAt (port_widths n) (port_width (ports_of n) name) sources k) → OnlyFits (port_widths n) (port_width (ports_of n) name) sources numbers
-  only_fits_by name [] fits = tt
-  only_fits_by name (k ∷ []) fits = fits 0 k refl
-  only_fits_by name (k ∷ (l ∷ ks)) fits = tt
-
-  -- the assignments of a port fit its width
-  pub only_fits : (port : ℕ) (numbers : List ℕ) (width : ℕ) → port < length (port_names n) → numbers_of (name_of n port) 0 n.sets ≡ numbers → slice_get (port_widths n) port ≡ Some width → OnlyFits (port_widths n) width sources numbers
-  only_fits port numbers width lt same at =
-      let name = name_of n port in
-      let w : port_width (ports_of n) name ≡ width = same_Some (port_width (ports_of n) name) width (sym (width_at n names_once port name (slice_get-get_or (port_names n) port [] lt)) ∙ at) in
-      subst (λ l. OnlyFits (port_widths n) width sources l) same
-      (subst (λ x. OnlyFits (port_widths n) x sources (numbers_of name 0 n.sets)) w (only_fits_by name (numbers_of name 0 n.sets) (number_fits name)))
+  -- the width of a port, by its number
+  pub width_of : (port : ℕ) → port < length (port_names n) → port_width (ports_of n) (name_of n port) ≡ get_or (port_widths n) port 0
+  width_of port lt = sym (get_or_from_slice_get (port_widths n) port (port_width (ports_of n) (name_of n port)) 0 (width_at n names_once port (name_of n port) (slice_get-get_or (port_names n) port [] lt)))
 
 -- the values have a number and a width for each port
 pub width_of_value : (widths : List ℕ) (values : List Bits) → widths_of values ≡ widths → (port : ℕ) (b : Bits) → slice_get values port ≡ Some b → slice_get widths port ≡ Some b.width

@@ -2,7 +2,7 @@
 use Rattle.std.proofs.Common.{◌≡◌, ℕ, ◌+◌, ◌<◌, List, [], Option, Some, length, get_or, refl, sym, ap, ◌∙◌, arith, map}
 use Rattle.std.specs.Prelude.{slice_get, slice_index, option_map}
 use Rattle.std.proofs.lemmas.List.{length-map, get_or-map}
-use Rattle.std.proofs.lemmas.Option.{slice_get-map, slice_get_within, get_or_from_slice_get, slice_get-get_or, same_Some}
+use Rattle.std.proofs.lemmas.Option.{slice_get-map, slice_get-get_or, same_Some}
 use Rattle.hw_names.specs.Name.{Text, dotted}
 use Rattle.hw_prims.specs.Cell.{CellValue}
 use Rattle.hw_prims.specs.Meaning.{output_values}
@@ -11,37 +11,25 @@ use Rattle.hw_prims.specs.State.{State}
 use Rattle.hw_prims.specs.Table.{Pin, inputs_of, pin_names}
 use Rattle.hw_prims.specs.declared.prim.Primitive.{Primitive}
 use Rattle.net_core.specs.Circuit.{settled}
-use Rattle.net_core.specs.Guard.{source_value}
-use Rattle.net_core.specs.NetRun.{HasPin, IsWritable}
-use Rattle.net_core.specs.Netlist.{Netlist, CellLine, SetLine}
+use Rattle.net_core.specs.NetRun.{HasPin, IsWritable, values_for}
+use Rattle.net_core.specs.Netlist.{Netlist, CellLine}
 use Rattle.net_core.specs.Rules.{PortLine, ports_of, IsValid}
-use Rattle.net_core.specs.declared.net.Src.{Src}
-use Rattle.net_core.specs.declared.net.Src.TheVariants.{Port, Lit}
-use Rattle.net_sim.proofs.GiverLemmas.{at_some}
 use Rattle.net_sim.proofs.LayoutLemmas.{in_at, input_at}
 use Rattle.net_sim.proofs.PlaceLemmas.{IsPlace, IsPinAt, pin_at, pin_name_at, named_at, in_place, writable_place, output_place, IsOutputPlace, IsListedCell}
 use Rattle.net_sim.proofs.PortLemmas.{part_is, cells_once, input_widths}
-use Rattle.net_sim.proofs.RowLemmas.{Once, once_from_distinct, row_at, state_at, values_by_number}
-use Rattle.net_sim.specs.Compiled.{IsSource, givers_of}
-use Rattle.net_sim.specs.Evaluated.{IsValueOf, number_at, source_number, cell_inputs}
+use Rattle.net_sim.proofs.RowLemmas.{Once, once_from_distinct, row_at, state_at}
+use Rattle.net_sim.proofs.SettleLemmas.{driven_writable}
+use Rattle.net_sim.specs.Compiled.{givers_of}
+use Rattle.net_sim.specs.Evaluated.{IsValueOf, Clashes, cell_inputs}
 use Rattle.net_sim.specs.Layout.{port_names, name_of, first_port, AreCellPorts}
 use Rattle.net_sim.specs.OrderValue.{OrderValue}
 use Rattle.net_sim.specs.Plan.{IsCompiled, ArePrims}
-use Rattle.net_sim.specs.PortOrder.{numbers_of}
+use Rattle.net_sim.specs.Nodes.{AreValuesIn}
 use Rattle.net_sim.specs.Sim.{port_row, input_row, states_of, cell_names}
-use Rattle.net_sim.specs.Slots.{row_of}
 use Rattle.net_sim.specs.declared.cells.CellPorts.{CellPorts}
 use Rattle.net_sim.specs.declared.plan.Giver.{Giver}
 use Rattle.net_sim.specs.declared.plan.Giver.TheVariants.{Input, Output, Driven}
 use Rattle.net_sim.specs.declared.plan.Source.{Source}
-use Rattle.net_sim.specs.declared.plan.Source.TheVariants.{Slot, Fixed}
-
--- the number that a source gives is the value that it reads in the row
-source_is : (names : List Text) (values : List ℕ) → Once names → length names ≡ length values → (a : Src Text) (s : Source) → IsSource names a s → source_number values s ≡ source_value (row_of names values) a
-source_is names values once size (Port p) (Slot k) is = sym (row_at names values once size k p is)
-source_is names values once size (Port p) (Fixed bits) is = absurd is
-source_is names values once size (Lit width value) (Slot k) is = absurd is
-source_is names values once size (Lit width value) (Fixed bits) is = is.0
 
 two_givers : (a b : Giver) (o : Option Giver) → o ≡ Some a → o ≡ Some b → a ≡ b
 two_givers a b o e f = same_Some a b (sym e ∙ f)
@@ -62,12 +50,9 @@ module _ (n : Netlist) (order : OrderValue) (cells : List CellPorts) (sources : 
   pub name_at : (port : ℕ) → port < length (port_names n) → slice_get (port_names n) port ≡ Some (name_of n port)
   name_at port lt = slice_get-get_or (port_names n) port [] lt
 
-  -- the number that each assignment gives is the value of its source in the row
-  pub number_is : (k : ℕ) (a : SetLine) → slice_get n.sets k ≡ Some a → number_at values sources k ≡ source_value (port_row n values) a.src
-  number_is k a at =
-      let s = at_some sources k (omega (arith, compiled.sourced.all, slice_get_within n.sets k a at)) in
-      ap (source_number values) (get_or_from_slice_get sources k s.0 (Slot 0) s.1)
-      ∙ source_is (port_names n) values names_once (sym size) a.src s.0 (compiled.sourced.each k a s.0 at s.1)
+  -- the values are those of the row at the ports' names
+  pub values_in : AreValuesIn (port_row n values) (port_names n) values
+  values_in k name at = row_at (port_names n) values names_once (sym size) k name at
 
   -- the inputs of a listed cell, by its name
   pub inputs_of_cell : (cell : Text) (prim : Primitive) (l : IsListedCell n cells cell prim) → cell_inputs values l.ports ≡ values_at (port_row n values) (dotted cell) (pin_names (inputs_of prim))
@@ -106,6 +91,10 @@ module _ (n : Netlist) (order : OrderValue) (cells : List CellPorts) (sources : 
     not_driven : (giver : Giver) → slice_get givers port ≡ Some giver → IsWritable n (name_of n port) → giver ≡ Driven
     not_driven giver at has = two_givers giver Driven (slice_get givers port) at (giver_is (name_of n port) Driven refl (writable_place n cells compiled.listed (name_of n port) has))
 
+    -- a port that is given or computed has no Conflict
+    pub no_clash : (giver : Giver) → slice_get givers port ≡ Some giver → (giver ≡ Driven → ⊥) → Clashes n (port_row n values) port → ⊥
+    no_clash giver at not_by_sets clash = not_by_sets (not_driven giver at (driven_writable n compiled.valid (port_row n values) (name_of n port) (omega (arith, clash))))
+
     -- a port without a driver of its own: an input
     pub value_from_input : (inputs : List ℕ) (states : Text → Primitive → State) → length inputs ≡ length n.ins → slice_get givers port ≡ Some Input → IsValueOf n (input_row n inputs) states (port_row n values) (name_of n port) (get_or inputs port 0)
     value_from_input inputs states count given = record {
@@ -132,10 +121,10 @@ module _ (n : Netlist) (order : OrderValue) (cells : List CellPorts) (sources : 
             ap (λ k. get_or inputs k 0) same ∙ sym (row_at in_names inputs in_once (length-map n.ins (λ (p : Pin). p.name) ∙ sym count) p.index (name_of n port) at)
 
     -- a port that assignments drive
-    pub value_from_sets : (inputs : Row) (states : Text → Primitive → State) (value : ℕ) → slice_get givers port ≡ Some Driven → value ≡ settled (map (number_at values sources) (numbers_of (name_of n port) 0 n.sets)) → IsValueOf n inputs states (port_row n values) (name_of n port) value
+    pub value_from_sets : (inputs : Row) (states : Text → Primitive → State) (value : ℕ) → slice_get givers port ≡ Some Driven → value ≡ settled (values_for (name_of n port) (port_row n values) n.sets) → IsValueOf n inputs states (port_row n values) (name_of n port) value
     value_from_sets inputs states value given is = record {
       given = λ has. let bad : Driven ≡ Input = not_in Driven given has in cc;
-      driven = λ has. is ∙ ap settled (sym (values_by_number n compiled.unguarded (name_of n port) (port_row n values) (number_at values sources) number_is));
+      driven = λ has. is;
       computed = λ cell prim k output has at named.
           let place = output_place n cells compiled.listed cell prim k output has at in
           let bad : Driven ≡ Output place.listed_as.index k = two_givers Driven (Output place.listed_as.index k) (slice_get givers port) given (output_is cell prim k output named place) in cc;

@@ -1,8 +1,7 @@
 -- The row that values along names stand for, and how a write of one port's value leaves the others.
-use Rattle.std.proofs.Common.{◌≡◌, ℕ, zero, suc, ◌+◌, ◌<◌, List, [], ◌∷◌, Bool, true, false, Option, Some, None, refl, sym, ap, ap₂, ◌∙◌, arith, get_or, length, set, inl, inr, lit<}
-use Rattle.std.specs.Prelude.{slice_get, bytes_eq, map, Contains, ◌&&◌, if◌then◌else◌}
+use Rattle.std.proofs.Common.{◌≡◌, ℕ, zero, suc, ◌<◌, List, [], ◌∷◌, Bool, true, false, Some, refl, sym, ap, ◌∙◌, arith, get_or, length, set, inl, inr, subst}
+use Rattle.std.specs.Prelude.{slice_get, bytes_eq, if◌then◌else◌}
 use Rattle.std.proofs.lemmas.Bool.{cases_lt, cases_eq}
-use Rattle.std.proofs.lemmas.List.Elements.{Contains-append_right}
 use Rattle.std.proofs.lemmas.Option.{slice_get_within, get_or_from_slice_get}
 use Rattle.std.proofs.lemmas.Slice.Eq.{bytes_eq-Decides}
 use Rattle.hw_names.specs.Name.{Text, AreDistinct, dotted}
@@ -12,15 +11,12 @@ use Rattle.hw_prims.specs.State.{State}
 use Rattle.hw_prims.specs.Table.{outputs_of, pin_names}
 use Rattle.hw_prims.specs.declared.prim.Primitive.{Primitive}
 use Rattle.net_core.specs.Circuit.{settled}
-use Rattle.net_core.specs.Graph.{ReadsPort, ByAssignment, ByCell, set_ports, source_ports, option_ports}
-use Rattle.net_core.specs.Guard.{GuardTree, guard_holds, source_value}
+use Rattle.net_core.specs.Graph.{ReadsPort, ByAssignment, ByCell, set_ports}
 use Rattle.net_core.specs.NetRun.{values_for}
-use Rattle.net_core.specs.Netlist.{Netlist, SetLine}
-use Rattle.net_core.specs.declared.net.Src.{Src}
-use Rattle.net_core.specs.declared.net.Src.TheVariants.{Port, Lit}
+use Rattle.net_core.specs.Netlist.{Netlist}
+use Rattle.net_sim.proofs.AgreeLemmas.{drivers_agree}
+use Rattle.net_sim.proofs.MemberLemmas.{In, contains_of}
 use Rattle.net_sim.specs.Evaluated.{IsValueOf}
-use Rattle.net_sim.specs.NoGuards.{HasNoGuards}
-use Rattle.net_sim.specs.PortOrder.{numbers_of}
 use Rattle.net_sim.specs.Sim.{state_along}
 use Rattle.net_sim.specs.Slots.{row_of}
 
@@ -79,73 +75,23 @@ row_set (x ∷ xs) (w ∷ ws) zero v name other at ne =
 row_set (x ∷ xs) (w ∷ ws) (suc k) v name other at ne =
     ap (λ r. if bytes_eq x other then w else r) (row_set xs ws k v name other at ne)
 
--- ---- assignments without guards
-
-abbrev NoneGuarded : List SetLine → Type 0
-NoneGuarded sets = (k : ℕ) (a : SetLine) → slice_get sets k ≡ Some a → a.guard ≡ None
-
--- the values of all assignments to a port
-abbrev plain_values : Text → Row → List SetLine → List ℕ
-plain_values port row [] = []
-plain_values port row (a ∷ sets) = if bytes_eq a.dst port then source_value row a.src ∷ plain_values port row sets else plain_values port row sets
-
-and_true : (b : Bool) (x y : List ℕ) → (if b && true then x else y) ≡ (if b then x else y)
-and_true true x y = refl
-and_true false x y = refl
-
-values_for-plain : (port : Text) (row : Row) (sets : List SetLine) → NoneGuarded sets → values_for port row sets ≡ plain_values port row sets
-values_for-plain port row [] none = refl
-values_for-plain port row (a ∷ sets) none =
-    ap (λ (g : Option (GuardTree Text)). if bytes_eq a.dst port && guard_holds row g then source_value row a.src ∷ values_for port row sets else values_for port row sets) (none 0 a refl)
-    ∙ and_true (bytes_eq a.dst port) (source_value row a.src ∷ values_for port row sets) (values_for port row sets)
-    ∙ ap (λ l. if bytes_eq a.dst port then source_value row a.src ∷ l else l) (values_for-plain port row sets (λ k b at. none (suc k) b at))
-
-listed : (b : Bool) (f : ℕ → ℕ) (k v : ℕ) (vs ks : List ℕ) → f k ≡ v → vs ≡ map f ks → (if b then v ∷ vs else vs) ≡ map f (if b then k ∷ ks else ks)
-listed true f k v vs ks e rest = ap₂ (λ x l. x ∷ l) (sym e) rest
-listed false f k v vs ks e rest = rest
-
-plain_numbers : (port : Text) (row : Row) (f : ℕ → ℕ) (base : ℕ) (sets : List SetLine) → ((k : ℕ) (a : SetLine) → slice_get sets k ≡ Some a → f (base + k) ≡ source_value row a.src) → plain_values port row sets ≡ map f (numbers_of port base sets)
-plain_numbers port row f base [] is = refl
-plain_numbers port row f base (a ∷ sets) is =
-    listed (bytes_eq a.dst port) f base (source_value row a.src) (plain_values port row sets) (numbers_of port (suc base) sets)
-    (let e : base ≡ base + 0 = omega arith in ap f e ∙ is 0 a refl)
-    (plain_numbers port row f (suc base) sets (λ k b at. let e : suc base + k ≡ base + suc k = omega arith in ap f e ∙ is (suc k) b at))
-
--- the values of the assignments to a port, by their numbers
-pub values_by_number : (n : Netlist) → HasNoGuards n → (port : Text) (row : Row) (f : ℕ → ℕ) → ((k : ℕ) (a : SetLine) → slice_get n.sets k ≡ Some a → f k ≡ source_value row a.src) → values_for port row n.sets ≡ map f (numbers_of port 0 n.sets)
-values_by_number n unguarded port row f is =
-    values_for-plain port row n.sets unguarded
-    ∙ plain_numbers port row f 0 n.sets (λ k a at. let e : 0 + k ≡ k = omega arith in ap f e ∙ is k a at)
+-- ---- rows that differ at one port
 
 -- rows that agree but at one port
 abbrev pub AgreeBut : Text → Row → Row → Type 0
 AgreeBut x row row' = (name : Text) → (name ≡ x → ⊥) → row name ≡ row' name
 
-source_kept : (x : Text) (row row' : Row) → AgreeBut x row row' → (s : Src Text) → (Contains (source_ports s) x → ⊥) → source_value row s ≡ source_value row' s
-source_kept x row row' agree (Port p) none = agree p (λ e. none (0, lit< tt, e))
-source_kept x row row' agree (Lit width value) none = refl
-
-plain_kept : (x port : Text) (row row' : Row) → AgreeBut x row row' → (sets : List SetLine) → ((k : ℕ) (a : SetLine) → slice_get sets k ≡ Some a → a.dst ≡ port → Contains (set_ports a) x → ⊥) → plain_values port row sets ≡ plain_values port row' sets
-plain_kept x port row row' agree [] none = refl
-plain_kept x port row row' agree (a ∷ sets) none = by (bytes_eq a.dst port) refl (plain_kept x port row row' agree sets (λ k b at. none (suc k) b at))
-  where
-    by : (b : Bool) → bytes_eq a.dst port ≡ b → plain_values port row sets ≡ plain_values port row' sets → (if b then source_value row a.src ∷ plain_values port row sets else plain_values port row sets) ≡ (if b then source_value row' a.src ∷ plain_values port row' sets else plain_values port row' sets)
-    by true t rest =
-        ap₂ (λ v l. v ∷ l) (source_kept x row row' agree a.src (λ has. none 0 a refl ((bytes_eq-Decides a.dst port).0 t) (Contains-append_right (option_ports a.guard) (source_ports a.src) x has))) rest
-    by false t rest = rest
+-- what drives a port stays where the row changes at a port that it doesn't read
+pub drivers_kept : (n : Netlist) (row row' : Row) (x port : Text) → AgreeBut x row row' → (ReadsPort n port x → ⊥) → values_for port row n.sets ≡ values_for port row' n.sets
+drivers_kept n row row' x port agree unread =
+    drivers_agree row row' port n.sets (λ k a at dst p has. agree p (λ e. unread (ByAssignment k a at dst (contains_of (set_ports a) x (subst (In (set_ports a)) e has)))))
 
 -- what a row asks of a port's value stays where the row changes at a port that it doesn't read
-pub value_kept : (n : Netlist) → HasNoGuards n → (inputs : Row) (states : Text → Primitive → State) (row row' : Row) (x port : Text) (value : ℕ) → AgreeBut x row row' → (ReadsPort n port x → ⊥) → IsValueOf n inputs states row port value → IsValueOf n inputs states row' port value
-value_kept n unguarded inputs states row row' x port value agree unread is = record {
+pub value_kept : (n : Netlist) (inputs : Row) (states : Text → Primitive → State) (row row' : Row) (x port : Text) (value : ℕ) → AgreeBut x row row' → (ReadsPort n port x → ⊥) → IsValueOf n inputs states row port value → IsValueOf n inputs states row' port value
+value_kept n inputs states row row' x port value agree unread is = record {
   given = is.given;
-  driven = λ writable. is.driven writable ∙ ap settled same;
+  driven = λ writable. is.driven writable ∙ ap settled (drivers_kept n row row' x port agree unread);
   computed = λ cell prim k output has at named. is.computed cell prim k output has at named ∙
       through_alone prim (states cell prim) (λ p. row (dotted cell p)) (λ p. row' (dotted cell p)) k output at
       (λ input within through. agree (dotted cell input) (λ e. unread (ByCell cell prim input output has within (k, slice_get_within (pin_names (outputs_of prim)) k output at, get_or_from_slice_get (pin_names (outputs_of prim)) k output output at) through named e)));
 }
-  where
-    same : values_for port row n.sets ≡ values_for port row' n.sets
-    same =
-        values_for-plain port row n.sets unguarded
-        ∙ plain_kept x port row row' agree n.sets (λ k a at dst has. unread (ByAssignment k a at dst has))
-        ∙ sym (values_for-plain port row' n.sets unguarded)

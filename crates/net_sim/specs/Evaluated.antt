@@ -2,7 +2,7 @@
 use Rattle.std.specs.Cmp.Lexicographic.{slice_cmp}
 use Rattle.std.specs.Ordering.{nat_cmp}
 use Rattle.std.specs.declared.cmp.Ordering.TheVariants.{Greater}
-use Rattle.std.specs.Prelude.{◌≡◌, ◌≢◌, ◌⊎◌, ℕ, ◌+◌, ◌<◌, ◌≤◌, List, [], ◌∷◌, length, slice_get, slice_index, slice_index_or, slice_range, Some, Option, None}
+use Rattle.std.specs.Prelude.{◌≡◌, ◌≢◌, ◌⊎◌, ℕ, ◌+◌, ◌<◌, ◌≤◌, List, [], length, slice_get, slice_index, slice_index_or, slice_range, Some, Option, None}
 use Rattle.hw_bits.specs.declared.bits.Bits.{Bits}
 use Rattle.hw_names.specs.Name.{Text, dotted}
 use Rattle.hw_prims.specs.Cell.{CellValue}
@@ -15,14 +15,21 @@ use Rattle.net_core.specs.Circuit.{settled}
 use Rattle.net_core.specs.NetRun.{HasPin, IsWritable, IsNetCell, values_for}
 use Rattle.net_core.specs.Netlist.{Netlist}
 use Rattle.net_sim.specs.declared.cells.CellPorts.{CellPorts}
+use Rattle.net_sim.specs.Layout.{name_of}
 use Rattle.net_sim.specs.declared.plan.Source.{Source}
 use Rattle.net_sim.specs.declared.plan.Source.TheVariants.{Slot, Fixed}
+use Rattle.net_sim.specs.declared.settle.Settled.{Settled}
+use Rattle.net_sim.specs.declared.settle.Settled.TheVariants.{Clash}
 
 -- what a row asks of the value of a port
 pub record IsValueOf (n : Netlist) (inputs : Row) (states : Text → Primitive → State) (row : Row) (port : Text) (value : ℕ) : Type 0 where
   pub given : HasPin n.ins port → value ≡ inputs port
   pub driven : IsWritable n port → value ≡ settled (values_for port row n.sets)
   pub computed : (cell : Text) (prim : Primitive) (k : ℕ) (output : Text) → IsNetCell n cell prim → slice_get (pin_names (outputs_of prim)) k ≡ Some output → dotted cell output ≡ port → value ≡ slice_index (output_values prim (states cell prim) (values_at row (dotted cell) (pin_names (inputs_of prim)))) k
+
+-- the port has a Conflict in the row
+abbrev pub Clashes : Netlist → Row → ℕ → Type 0
+Clashes n row port = 2 ≤ length (values_for (name_of n port) row n.sets)
 
 -- a source of this width
 abbrev pub HasWidth : List ℕ → ℕ → Source → Type 0
@@ -40,12 +47,6 @@ number_at values sources k = source_number values (slice_index_or sources k (Slo
 
 abbrev pub HasWidthAt : List ℕ → ℕ → List Source → ℕ → Type 0
 HasWidthAt widths width sources k = (k < length sources) × HasWidth widths width (slice_index_or sources k (Slot 0))
-
--- where there is but one assignment, it has a source of this width
-abbrev pub OnlyFits : List ℕ → ℕ → List Source → List ℕ → Type 0
-OnlyFits widths width sources [] = Unit {0}
-OnlyFits widths width sources (k ∷ []) = HasWidthAt widths width sources k
-OnlyFits widths width sources (k ∷ l ∷ ks) = Unit {0}
 
 -- the inputs of a cell, from the values of all ports
 abbrev pub cell_inputs : List ℕ → CellPorts → List ℕ
@@ -85,9 +86,8 @@ pub record IsLesser (names : List Text) (a b least : ℕ) : Type 0 where
   pub first : IsAtMost names least a
   pub second : IsAtMost names least b
 
--- the Conflict that was found stays, or it is the lesser of it and of a port with these assignments
-abbrev pub IsLeastWith : List Text → List ℕ → Option ℕ → ℕ → Option ℕ → Type 0
-IsLeastWith names [] found port result = result ≡ found
-IsLeastWith names (k ∷ []) found port result = result ≡ found
-IsLeastWith names (k ∷ l ∷ ks) None port result = result ≡ Some port
-IsLeastWith names (k ∷ l ∷ ks) (Some other) port result = (least : ℕ) × (result ≡ Some least) × IsLesser names other port least
+-- the Conflict that was found stays, or it is the lesser of it and of a port with one
+abbrev pub IsLeastWith : List Text → Settled → Option ℕ → ℕ → Option ℕ → Type 0
+IsLeastWith names Clash None port result = result ≡ Some port
+IsLeastWith names Clash (Some other) port result = (least : ℕ) × (result ≡ Some least) × IsLesser names other port least
+IsLeastWith names settled found port result = result ≡ found

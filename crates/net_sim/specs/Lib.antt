@@ -12,6 +12,9 @@ pub mod Compiled
 pub mod Plan
 pub mod Evaluated
 pub mod Slots
+pub mod Nodes
+pub mod Flattening
+pub mod Settled
 pub mod Sim
 pub mod Kept
 pub mod Standing

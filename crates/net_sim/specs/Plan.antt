@@ -7,7 +7,7 @@ use Rattle.net_core.specs.Rules.{IsValid}
 use Rattle.net_core.specs.Table.{IsTableOf}
 use Rattle.net_sim.specs.Compiled.{AreSources, givers_of}
 use Rattle.net_sim.specs.Layout.{port_names, AreCellPorts}
-use Rattle.net_sim.specs.NoGuards.{HasNoGuards}
+use Rattle.net_sim.specs.Nodes.{AreGuards}
 use Rattle.net_sim.specs.OrderValue.{OrderValue}
 use Rattle.net_sim.specs.PortOrder.{IsPortOrderOf}
 use Rattle.net_sim.specs.declared.cells.CellPorts.{CellPorts}
@@ -18,7 +18,6 @@ use Rattle.net_sim.specs.declared.plan.Source.{Source}
 -- the netlist's order, cells, sources and givers
 pub record IsCompiled (n : Netlist) (order : OrderValue) (cells : List CellPorts) (sources : List Source) (givers : List Giver) : Type 0 where
   pub valid : IsValid n
-  pub unguarded : HasNoGuards n
   pub distinct : AreDistinct (port_names n)
   pub ordered : IsPortOrderOf n order
   pub listed : AreCellPorts n cells
@@ -32,6 +31,7 @@ compiled_net plan = netlist_of plan.net.now
 pub record IsPlan (plan : Plan) : Type 0 where
   pub table : IsTableOf (netlist_of plan.net.now) plan.table.now
   pub compiled : IsCompiled (netlist_of plan.net.now) plan.order.now plan.cells.items plan.sources.items plan.givers.items
+  pub guards : AreGuards (netlist_of plan.net.now) plan.guards
 
 -- the states are those of the cells' primitives
 abbrev pub ArePrims : List CellPorts → List CellValue → Type 0

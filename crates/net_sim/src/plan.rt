@@ -12,8 +12,10 @@ ghost use Rattle.net_core.specs.Numbers.{HasNumbers, SourceHasNumbers};
 ghost use Rattle.net_core.specs.Rules.{IsValid, literal_fits};
 ghost use Rattle.net_core.specs.Table.{IsTableOf};
 ghost use Rattle.net_sim.specs.Compiled.{IsSource, AreSources, givers_of, AreOpening};
+ghost use Rattle.net_sim.specs.Evaluated.{IsWithin, IsBitsOf};
 
 use crate::cells::CellPorts;
+use crate::guards::FlatGuards;
 use crate::port_order::PortOrder;
 use crate::wires::find_port;
 use hw_bits::{Bits, Memory};
@@ -46,6 +48,7 @@ pub struct Plan<'a> {
     pub order: &'a PortOrder,
     pub cells: Vec<CellPorts>,
     pub sources: Vec<Source>,
+    pub guards: FlatGuards,
     pub givers: Vec<Giver>,
 }
 
@@ -64,7 +67,7 @@ pub fn sources(alloc: Global, net: &Net, table: &Table) -> Result<Vec<Source>, M
 }
 
 /// A source of the tree as a slot or a literal.
-fn source_of(ports: &Names, names: &Names, src: &Src<NameId>) -> Source
+pub fn source_of(ports: &Names, names: &Names, src: &Src<NameId>) -> Source
     requires numbers { SourceHasNumbers names.now src.now }
     requires there { All (Contains ports.now) (source_ports (source_tree (text_of names.now) src.now)) }
     requires fits { literal_fits (source_tree (text_of names.now) src.now) ≡ true }
@@ -73,6 +76,17 @@ fn source_of(ports: &Names, names: &Names, src: &Src<NameId>) -> Source
     match src {
         Src::Port(id) => Source::Slot(find_port(ports, names, *id)),
         Src::Lit { width, value } => Source::Fixed(literal(*width, *value)),
+    }
+}
+
+/// The value of a source.
+pub fn source_value(source: Source, values: &[Bits]) -> Bits
+    requires { IsWithin (length values.now) source }
+    ensures { IsBitsOf values.now source result }
+{
+    match source {
+        Source::Slot(port) => values[port],
+        Source::Fixed(bits) => bits,
     }
 }
 

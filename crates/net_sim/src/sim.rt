@@ -7,12 +7,12 @@ ghost use Rattle.net_core.specs.Numbers.{HasNumbers};
 ghost use Rattle.net_core.specs.Rules.{IsValid};
 ghost use Rattle.net_core.specs.Table.{IsTableOf};
 ghost use Rattle.net_sim.specs.Layout.{port_widths};
-ghost use Rattle.net_sim.specs.NoGuards.{HasNoGuards};
 ghost use Rattle.net_sim.specs.PortOrder.{IsPortOrderOf};
 ghost use Rattle.net_sim.specs.Sim.{IsNewSim, IsRowOfSim, IsEdgeOfSim, IfRunning, IfStopped, IfEvaluated, IfNotEvaluated, conflict_in};
 
 use crate::cells::cell_ports;
 use crate::evaluate::{evaluate, step_cells};
+use crate::flatten::flatten;
 use crate::plan::{Plan, givers, no_values, opening_states, sources};
 use crate::port_order::PortOrder;
 use hw_bits::{Bits, Memory};
@@ -46,6 +46,7 @@ pub struct Sim<'a> {
     plan: Plan<'a>,
     states: Vec<CellState>,
     values: Vec<Bits>,
+    truths: Vec<bool>,
     phase: Phase,
 }
 
@@ -69,7 +70,7 @@ impl<'a> Model for Sim<'a> {
       phase = s.phase;
     } };
 
-    ghost invariant = { λ s. IsKept s.plan s.states.items s.values.items s.phase };
+    ghost invariant = { λ s. IsKept s.plan s.states.items s.values.items s.truths.items };
 }
 
 impl<'a> Sim<'a> {
@@ -83,16 +84,17 @@ impl<'a> Sim<'a> {
         requires valid { IsValid (netlist_of net.now) }
         requires numbers { HasNumbers net.now }
         requires table { IsTableOf (netlist_of net.now) table.now }
-        requires unguarded { HasNoGuards (netlist_of net.now) }
         requires order { IsPortOrderOf (netlist_of net.now) order.now }
         ensures { IfOk result (IsNewSim net.now) }
     {
         let count = table.names.len();
         let cells = cell_ports(alloc, net, count)?;
         let sources = sources(alloc, net, table)?;
+        let guards = flatten(alloc, net, table)?;
         let givers = givers(alloc, net, cells.as_slice())?;
         let states = opening_states(alloc, cells.as_slice())?;
         let values = no_values(alloc, table)?;
+        let truths = vec![in alloc; false; guards.nodes.len()]?;
         Ok(Sim {
             plan: Plan {
                 net,
@@ -100,10 +102,12 @@ impl<'a> Sim<'a> {
                 order,
                 cells,
                 sources,
+                guards,
                 givers,
             },
             states,
             values,
+            truths,
             phase: Phase::Fresh,
         })
     }
@@ -125,6 +129,7 @@ impl<'a> Sim<'a> {
             inputs,
             self.states.as_slice(),
             self.values.as_mut_slice(),
+            self.truths.as_mut_slice(),
         ) {
             None => {
                 self.phase = Phase::Evaluated;

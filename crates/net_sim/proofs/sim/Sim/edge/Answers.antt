@@ -31,6 +31,7 @@ invariant_of-self c = record {
   plan_is = c.self.invariant.plan_is;
   prims = subst (ArePrims c.self.inside.plan.cells.items) (sym (kept c)) (prims_kept c.self.inside.plan.cells.items c.self.inside.states.items c.step_cells.new.states (values_of c.self.inside.values.items) c.self.invariant.prims (moves c));
   widths = c.self.invariant.widths;
+  truths_are = c.self.invariant.truths_are;
 }
 
 pub returns-in-Evaluated-clause-evaluated : goal.returns-in-Evaluated-clause-evaluated

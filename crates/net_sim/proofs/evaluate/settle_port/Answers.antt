@@ -1,4 +1,4 @@
-use Rattle.std.proofs.Common.{◌≡◌, ◌<◌, length, map, ap, ap₂, sym, ◌∙◌, arith, rules, Some, refl, subst}
+use Rattle.std.proofs.Common.{◌≡◌, ◌<◌, length, get_or, map, ap, sym, ◌∙◌, arith, rules, Some, refl, subst}
 use Rattle.std.specs.Prelude.{option_map}
 use Rattle.std.proofs.lemmas.List.{length-map}
 use Rattle.std.proofs.lemmas.Option.{slice_get-map, slice_get_within, slice_get_read, get_or_from_slice_get}
@@ -6,17 +6,18 @@ use Rattle.hw_bits.specs.Values.{values_of, widths_of}
 use Rattle.hw_bits.specs.declared.bits.Bits.{Bits}
 use Rattle.hw_prims.specs.Cell.{CellValue}
 use Rattle.hw_prims.specs.Table.{Pin}
-use Rattle.net_core.specs.Circuit.{settled}
+use Rattle.net_core.specs.NetRun.{values_for}
 use Rattle.net_core.specs.Netlist.{netlist_of}
-use Rattle.net_sim.proofs.ConflictLemmas.{numbers_are}
-use Rattle.net_sim.proofs.PlanLemmas.{count_givers, giver_at, given_within, read_cell, cell_of_output, input_width, only_fits, width_of_value, count_values, count_numbers}
-use Rattle.net_sim.proofs.PortValueLemmas.{value_from_input, value_from_sets, value_from_cell}
+use Rattle.net_sim.proofs.PlanLemmas.{count_givers, giver_at, given_within, read_cell, cell_of_output, input_width, count_numbers}
+use Rattle.net_sim.proofs.PortValueLemmas.{no_clash, value_from_input, value_from_sets, value_from_cell}
+use Rattle.net_sim.proofs.SettleLemmas.{value_is, width_is, clash_is, clash_of}
 use Rattle.net_sim.proofs.StepLemmas.{same_count, same_prim}
-use Rattle.net_sim.specs.Evaluated.{IsValueOf, OnlyFits, cell_inputs, number_at}
+use Rattle.net_sim.specs.Evaluated.{IsValueOf, cell_inputs}
 use Rattle.net_sim.specs.Layout.{port_widths, name_of}
+use Rattle.net_sim.specs.Settled.{settled_value}
 use Rattle.net_sim.specs.Sim.{input_row, states_of, port_row}
 use Rattle.net_sim.specs.declared.plan.Giver.TheVariants.{Input, Output, Driven}
-use Rattle.net_sim.proofs.evaluate.port_value.Goals as goal
+use Rattle.net_sim.proofs.evaluate.settle_port.Goals as goal
 
 pub index-requires : goal.index-requires
 index-requires c =
@@ -87,22 +88,6 @@ output_value-requires-clause-output c =
     let given = giver_at n plan.order.now plan.cells.items plan.sources.items plan.givers.items c.requires.plan.compiled c.args.port c.index.result.now (Output c.in-Output.cell c.in-Output.output) c.requires.port c.index.ensures c.in-Output.is in
     (read_cell n plan.order.now plan.cells.items plan.sources.items plan.givers.items c.requires.plan.compiled c.args.port c.in-Output.cell c.in-Output.output given c.index-in-Output.result.now c.index-in-Output.ensures).within
 
-pub bounds-values-port : goal.bounds-values-port
-bounds-values-port c = omega (arith, count_values (netlist_of c.args.plan.now.net.now) c.args.values.now c.requires.values, c.requires.port)
-
-pub driven_value-requires : goal.driven_value-requires
-driven_value-requires c =
-    let plan = c.args.plan.now in
-    let n = netlist_of plan.net.now in
-    let values = c.args.values.now in
-    let old = c.index-values-port.result in
-    let lt : c.args.port < length values = omega (arith, count_values n values c.requires.values, c.requires.port) in
-    let at = width_of_value (port_widths n) values c.requires.values c.args.port old (slice_get_read values (length values) c.args.port old refl lt c.index-values-port.is) in
-    let numbers = numbers_are n plan.order.now c.requires.plan.compiled.ordered c.args.port c.requires.port c.sets.result.now c.sets.ensures in
-    subst (λ s. OnlyFits (widths_of values) old.width s c.sets.result.now) (sym c.as_slice.ensures.value)
-    (subst (λ ws. OnlyFits ws old.width plan.sources.items c.sets.result.now) (sym c.requires.values)
-    (only_fits n plan.order.now plan.cells.items plan.sources.items plan.givers.items c.requires.plan.compiled c.args.port c.sets.result.now old.width c.requires.port numbers at))
-
 pub returns-in-Input-clause-width : goal.returns-in-Input-clause-width
 returns-in-Input-clause-width c =
     let plan = c.args.plan.now in
@@ -111,8 +96,9 @@ returns-in-Input-clause-width c =
     let within = given_within n plan.order.now plan.cells.items plan.sources.items plan.givers.items c.requires.plan.compiled c.args.port given in
     let lt : c.args.port < length c.args.inputs.now = omega (arith, within, ap length c.requires.inputs, length-map c.args.inputs.now (λ (b : Bits). b.width), length-map n.ins (λ (p : Pin). p.width)) in
     let at = slice_get_read c.args.inputs.now (length c.args.inputs.now) c.args.port c.index-inputs-port.result refl lt c.index-inputs-port.is in
-    input_width n plan.order.now plan.cells.items plan.sources.items plan.givers.items c.requires.plan.compiled (widths_of c.args.inputs.now) c.args.port c.requires.inputs within
-    ∙ ap Some (get_or_from_slice_get (widths_of c.args.inputs.now) c.args.port c.index-inputs-port.result.width 0 (slice_get-map (λ (b : Bits). b.width) c.args.inputs.now c.args.port ∙ ap (option_map (λ (b : Bits). b.width)) at))
+    let read = get_or_from_slice_get (widths_of c.args.inputs.now) c.args.port c.index-inputs-port.result.width 0 (slice_get-map (λ (b : Bits). b.width) c.args.inputs.now c.args.port ∙ ap (option_map (λ (b : Bits). b.width)) at) in
+    sym (get_or_from_slice_get (port_widths n) c.args.port c.index-inputs-port.result.width 0
+    (input_width n plan.order.now plan.cells.items plan.sources.items plan.givers.items c.requires.plan.compiled (widths_of c.args.inputs.now) c.args.port c.requires.inputs within ∙ ap Some read))
 
 pub returns-in-Input-clause-value : goal.returns-in-Input-clause-value
 returns-in-Input-clause-value c =
@@ -131,7 +117,8 @@ returns-in-Output-clause-width c =
     let plan = c.args.plan.now in
     let n = netlist_of plan.net.now in
     let given = giver_at n plan.order.now plan.cells.items plan.sources.items plan.givers.items c.requires.plan.compiled c.args.port c.index.result.now (Output c.in-Output.cell c.in-Output.output) c.requires.port c.index.ensures c.in-Output.is in
-    (read_cell n plan.order.now plan.cells.items plan.sources.items plan.givers.items c.requires.plan.compiled c.args.port c.in-Output.cell c.in-Output.output given c.index-in-Output.result.now c.index-in-Output.ensures).width c.output_value.result.width c.output_value.ensures.width
+    sym (get_or_from_slice_get (port_widths n) c.args.port c.output_value.result.width 0
+    ((read_cell n plan.order.now plan.cells.items plan.sources.items plan.givers.items c.requires.plan.compiled c.args.port c.in-Output.cell c.in-Output.output given c.index-in-Output.result.now c.index-in-Output.ensures).width c.output_value.result.width c.output_value.ensures.width))
 
 pub returns-in-Output-clause-value : goal.returns-in-Output-clause-value
 returns-in-Output-clause-value c =
@@ -144,18 +131,35 @@ returns-in-Output-clause-value c =
 
 pub returns-in-Driven-clause-width : goal.returns-in-Driven-clause-width
 returns-in-Driven-clause-width c =
-    let plan = c.args.plan.now in
-    let n = netlist_of plan.net.now in
-    let values = c.args.values.now in
-    let old = c.index-values-port.result in
-    let lt : c.args.port < length values = omega (arith, count_values n values c.requires.values, c.requires.port) in
-    width_of_value (port_widths n) values c.requires.values c.args.port old (slice_get_read values (length values) c.args.port old refl lt c.index-values-port.is) ∙ ap Some (sym c.driven_value.ensures.width)
+    let n = netlist_of c.args.plan.now.net.now in
+    width_is (get_or (port_widths n) c.args.port 0) (values_for (name_of n c.args.port) (port_row n (values_of c.args.values.now)) n.sets) c.settle.result c.settle.ensures
 
 pub returns-in-Driven-clause-value : goal.returns-in-Driven-clause-value
 returns-in-Driven-clause-value c =
     let plan = c.args.plan.now in
     let n = netlist_of plan.net.now in
     let given = giver_at n plan.order.now plan.cells.items plan.sources.items plan.givers.items c.requires.plan.compiled c.args.port c.index.result.now Driven c.requires.port c.index.ensures c.in-Driven.is in
-    let numbers = numbers_are n plan.order.now c.requires.plan.compiled.ordered c.args.port c.requires.port c.sets.result.now c.sets.ensures in
-    value_from_sets n plan.order.now plan.cells.items plan.sources.items plan.givers.items c.requires.plan.compiled (values_of c.args.values.now) (count_numbers n c.args.values.now c.requires.values) c.args.port c.requires.port (input_row n (values_of c.args.inputs.now)) (states_of n (map (λ (s : CellValue). s.state) c.args.states.now)) c.driven_value.result.value given
-    (c.driven_value.ensures.value ∙ ap₂ (λ s ks. settled (map (number_at (values_of c.args.values.now) s) ks)) c.as_slice.ensures.value (sym numbers))
+    value_from_sets n plan.order.now plan.cells.items plan.sources.items plan.givers.items c.requires.plan.compiled (values_of c.args.values.now) (count_numbers n c.args.values.now c.requires.values) c.args.port c.requires.port (input_row n (values_of c.args.inputs.now)) (states_of n (map (λ (s : CellValue). s.state) c.args.states.now)) (settled_value c.settle.result) given
+    (value_is (get_or (port_widths n) c.args.port 0) (values_for (name_of n c.args.port) (port_row n (values_of c.args.values.now)) n.sets) c.settle.result c.settle.ensures)
+
+pub returns-in-Driven-clause-clash : goal.returns-in-Driven-clause-clash
+returns-in-Driven-clause-clash c =
+    let n = netlist_of c.args.plan.now.net.now in
+    let values = values_for (name_of n c.args.port) (port_row n (values_of c.args.values.now)) n.sets in
+    let width = get_or (port_widths n) c.args.port 0 in
+    (clash_is width values c.settle.result c.settle.ensures, clash_of width values c.settle.result c.settle.ensures)
+
+pub returns-in-Input-clause-clash : goal.returns-in-Input-clause-clash
+returns-in-Input-clause-clash c =
+    let plan = c.args.plan.now in
+    let n = netlist_of plan.net.now in
+    let given = giver_at n plan.order.now plan.cells.items plan.sources.items plan.givers.items c.requires.plan.compiled c.args.port c.index.result.now Input c.requires.port c.index.ensures c.in-Input.is in
+    (λ none. absurd none, no_clash n plan.order.now plan.cells.items plan.sources.items plan.givers.items c.requires.plan.compiled (values_of c.args.values.now) (count_numbers n c.args.values.now c.requires.values) c.args.port c.requires.port Input given (λ e. cc))
+
+pub returns-in-Output-clause-clash : goal.returns-in-Output-clause-clash
+returns-in-Output-clause-clash c =
+    let plan = c.args.plan.now in
+    let n = netlist_of plan.net.now in
+    let giver = Output c.in-Output.cell c.in-Output.output in
+    let given = giver_at n plan.order.now plan.cells.items plan.sources.items plan.givers.items c.requires.plan.compiled c.args.port c.index.result.now giver c.requires.port c.index.ensures c.in-Output.is in
+    (λ none. absurd none, no_clash n plan.order.now plan.cells.items plan.sources.items plan.givers.items c.requires.plan.compiled (values_of c.args.values.now) (count_numbers n c.args.values.now c.requires.values) c.args.port c.requires.port giver given (λ e. cc))
