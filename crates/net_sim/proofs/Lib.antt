@@ -15,6 +15,8 @@ pub mod WideLemmas
 pub mod NodeLemmas
 pub mod FlattenLemmas
 pub mod SettleLemmas
+pub mod ShownLemmas
+pub mod LoadLemmas
 pub mod StandsLemmas
 pub mod CoverLemmas
 pub mod PortValueLemmas

@@ -91,9 +91,9 @@ module _ (n : Netlist) (sim : SimValue) (t : ℕ) (inputs : Trace) (loads : Text
       by (inl less) clash' = inr (less, clash')
       by (inr more) clash' = inl (omega (arith, more, lt))
 
--- a new simulation stands at row 0, with no words loaded
+-- before the first row a simulation stands at row 0
 pub stands_at_start : StandsAtStart
-stands_at_start net sim inputs trace is = record {
+stands_at_start net loads sim inputs trace is = record {
   net = ap netlist_of is.net_is;
   rows = λ u lt. absurd (omega (arith, lt));
   clean = λ u lt. absurd (omega (arith, lt));

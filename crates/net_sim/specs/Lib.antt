@@ -15,6 +15,7 @@ pub mod Slots
 pub mod Nodes
 pub mod Flattening
 pub mod Settled
+pub mod Shown
 pub mod Sim
 pub mod Kept
 pub mod Standing

@@ -10,6 +10,7 @@ use Rattle.net_sim.specs.Layout.{port_names, AreCellPorts}
 use Rattle.net_sim.specs.Nodes.{AreGuards}
 use Rattle.net_sim.specs.OrderValue.{OrderValue}
 use Rattle.net_sim.specs.PortOrder.{IsPortOrderOf}
+use Rattle.net_sim.specs.Shown.{AreShown}
 use Rattle.net_sim.specs.declared.cells.CellPorts.{CellPorts}
 use Rattle.net_sim.specs.declared.plan.Giver.{Giver}
 use Rattle.net_sim.specs.declared.plan.Plan.{Plan}
@@ -32,6 +33,7 @@ pub record IsPlan (plan : Plan) : Type 0 where
   pub table : IsTableOf (netlist_of plan.net.now) plan.table.now
   pub compiled : IsCompiled (netlist_of plan.net.now) plan.order.now plan.cells.items plan.sources.items plan.givers.items
   pub guards : AreGuards (netlist_of plan.net.now) plan.guards
+  pub shown : AreShown (netlist_of plan.net.now) plan.shown.items
 
 -- the states are those of the cells' primitives
 abbrev pub ArePrims : List CellPorts → List CellValue → Type 0

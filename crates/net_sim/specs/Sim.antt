@@ -1,9 +1,10 @@
 -- What a simulator holds of a run, and what one row and one edge make of it. This project's.
-use Rattle.std.specs.Prelude.{◌≡◌, ℕ, ◌<◌, List, [], ◌∷◌, length, map, bytes_eq, if◌then◌else◌, Option, Some, None, Result, Ok, Err}
+use Rattle.std.specs.Prelude.{◌≡◌, ℕ, ◌<◌, List, [], ◌∷◌, length, map, slice_index, bytes_eq, if◌then◌else◌, Option, Some, None, Result, Ok, Err}
 use Rattle.hw_names.specs.Name.{Text, dotted}
 use Rattle.hw_prims.specs.Meaning.{next_state, opening_state}
+use Rattle.hw_prims.specs.Memory.{state_with_word}
 use Rattle.hw_prims.specs.Row.{Row, values_at}
-use Rattle.hw_prims.specs.State.{State, Stateless}
+use Rattle.hw_prims.specs.State.{State, Stateless, words_of}
 use Rattle.hw_prims.specs.Table.{Pin, inputs_of, pin_names}
 use Rattle.hw_prims.specs.declared.prim.Primitive.{Primitive}
 use Rattle.net_core.specs.Circuit.{IsRow, HasConflict, IsReported}
@@ -11,6 +12,7 @@ use Rattle.net_core.specs.NetRun.{net_circuit, IsNetCell}
 use Rattle.net_core.specs.Netlist.{Netlist, CellLine, netlist_of}
 use Rattle.net_core.specs.declared.net.Net.{Net}
 use Rattle.net_sim.specs.Layout.{port_names, name_of}
+use Rattle.net_sim.specs.Shown.{IsShown}
 use Rattle.net_sim.specs.Slots.{row_of}
 use Rattle.net_sim.specs.declared.sim.Conflict.{Conflict}
 use Rattle.net_sim.specs.declared.sim.Phase.{Phase}
@@ -83,12 +85,34 @@ pub record IsEdgeOfSim (old new : SimValue) : Type 0 where
   pub phase : new.phase ≡ Stepped
   pub states : AreStepped (netlist_of old.net) old.states old.values new.states
 
--- what `new` makes: each cell in its opening state, with no words loaded
-pub record IsNewSim (net : Net) (sim : SimValue) : Type 0 where
+-- no words
+abbrev pub no_loads : Text → List ℕ
+no_loads cell = []
+
+-- before the first row: each cell is in its opening state, with these words loaded into the shown memories
+pub record IsLoadedSim (net : Net) (loads : Text → List ℕ) (sim : SimValue) : Type 0 where
   pub net_is : sim.net ≡ net
   pub phase : sim.phase ≡ Fresh
   pub values : length sim.values ≡ length (port_names (netlist_of net))
-  pub states : (cell : Text) (prim : Primitive) → IsNetCell (netlist_of net) cell prim → states_of (netlist_of net) sim.states cell prim ≡ opening_state prim []
+  pub states : (cell : Text) (prim : Primitive) → IsNetCell (netlist_of net) cell prim → states_of (netlist_of net) sim.states cell prim ≡ opening_state prim (loads cell)
+  pub hidden : (cell : Text) → ((mem : ℕ) (prim : Primitive) → IsShown (netlist_of net) mem cell prim → ⊥) → loads cell ≡ []
+
+-- what `new` makes: no word is loaded
+abbrev pub IsNewSim : Net → SimValue → Type 0
+IsNewSim net sim = IsLoadedSim net no_loads sim
+
+-- what a load makes: a shown memory has one more word
+pub record IsLoadOfSim (old : SimValue) (mem at word : ℕ) (new : SimValue) : Type 0 where
+  pub net : new.net ≡ old.net
+  pub values : new.values ≡ old.values
+  pub phase : new.phase ≡ old.phase
+  pub loaded : (cell : Text) (prim : Primitive) → IsShown (netlist_of old.net) mem cell prim → states_of (netlist_of old.net) new.states cell prim ≡ state_with_word (states_of (netlist_of old.net) old.states cell prim) at word
+  pub others : (cell : Text) (prim : Primitive) → IsNetCell (netlist_of old.net) cell prim → (IsShown (netlist_of old.net) mem cell prim → ⊥) → states_of (netlist_of old.net) new.states cell prim ≡ states_of (netlist_of old.net) old.states cell prim
+
+-- the word of a shown memory
+abbrev pub IsWordOfSim : SimValue → (mem at word : ℕ) → Type 0
+IsWordOfSim sim mem at word =
+    (cell : Text) (prim : Primitive) → IsShown (netlist_of sim.net) mem cell prim → word ≡ slice_index (words_of (states_of (netlist_of sim.net) sim.states cell prim)) at
 
 -- by phases: where no Conflict has ended the run, and where one has
 abbrev pub IfRunning : Phase → Type 0 → Type 0

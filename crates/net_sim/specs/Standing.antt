@@ -1,14 +1,16 @@
 -- How a simulation stands at a row of a run: how it comes there, goes on and ends. This project's.
-use Rattle.std.specs.Prelude.{◌≡◌, ◌==◌, ℕ, ◌+◌, ◌<◌, List, [], if◌then◌else◌, Some, None}
+use Rattle.std.specs.Prelude.{◌≡◌, ◌==◌, ℕ, ◌+◌, ◌<◌, List, if◌then◌else◌, Some, None}
 use Rattle.hw_names.specs.Name.{Text}
 use Rattle.hw_prims.specs.Row.{Row, Trace}
 use Rattle.hw_prims.specs.declared.prim.Primitive.{Primitive}
 use Rattle.net_core.specs.Circuit.{states_before, IsRow, HasConflict, IsReported}
 use Rattle.net_core.specs.NetRun.{net_circuit, HasPin, IsNetCell, NetRun}
 use Rattle.net_core.specs.Netlist.{Netlist, netlist_of}
+use Rattle.net_core.specs.Rules.{IsValid}
 use Rattle.net_core.specs.declared.net.Net.{Net}
 use Rattle.net_sim.specs.Layout.{name_of}
-use Rattle.net_sim.specs.Sim.{SimValue, IsNewSim, IsRowOfSim, IsEdgeOfSim, states_of, input_row, port_row}
+use Rattle.net_sim.specs.Shown.{IsShown, HasWord, with_word}
+use Rattle.net_sim.specs.Sim.{SimValue, IsLoadedSim, IsLoadOfSim, IsRowOfSim, IsEdgeOfSim, states_of, input_row, port_row}
 
 -- before row t of the run from these inputs and loads: the trace's first t rows are the run's, without a Conflict, and its states are the simulation's
 pub record StandsOn (n : Netlist) (sim : SimValue) (t : ℕ) (inputs : Trace) (loads : Text → List ℕ) (trace : Trace) : Type 0 where
@@ -29,10 +31,17 @@ with_row trace t row u = if u == t then row else trace u
 abbrev pub AreInputsAt : Netlist → Row → List ℕ → Type 0
 AreInputsAt n row inputs = (port : Text) → HasPin n.ins port → row port ≡ input_row n inputs port
 
--- a new simulation stands at row 0, with no words loaded
+-- before the first row a simulation stands at row 0 of each run with the words that are loaded
 abbrev pub StandsAtStart : Type 0
 StandsAtStart =
-    (net : Net) (sim : SimValue) (inputs trace : Trace) → IsNewSim net sim → StandsOn (netlist_of net) sim 0 inputs (λ cell. []) trace
+    (net : Net) (loads : Text → List ℕ) (sim : SimValue) (inputs trace : Trace) → IsLoadedSim net loads sim → StandsOn (netlist_of net) sim 0 inputs loads trace
+
+-- a load changes one word of what is loaded
+abbrev pub LoadsOneWord : Type 0
+LoadsOneWord =
+    (net : Net) (loads : Text → List ℕ) (sim new : SimValue) (mem at word : ℕ) (cell : Text) (prim : Primitive) →
+    IsValid (netlist_of net) → IsShown (netlist_of net) mem cell prim → HasWord (netlist_of net) mem at → IsLoadedSim net loads sim → IsLoadOfSim sim mem at word new →
+    IsLoadedSim net (with_word loads cell prim at word) new
 
 -- a row without a Conflict, and then an edge, go on to the next row
 abbrev pub StandsAtNext : Type 0

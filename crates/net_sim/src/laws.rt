@@ -1,10 +1,15 @@
 //! Laws of the rows that a simulation makes, one after another, and of orders.
 ghost use Rattle.net_sim.specs.OneRun.{OneRun, OrderRulesLoopsOut};
-ghost use Rattle.net_sim.specs.Standing.{StandsAtStart, StandsAtNext, EndsAfterAll, EndsInItsConflict};
+ghost use Rattle.net_sim.specs.Standing.{StandsAtStart, LoadsOneWord, StandsAtNext, EndsAfterAll, EndsInItsConflict};
 
-/// A new simulation stands at row 0 of each run without loads.
+/// Before its first row a simulation stands at row 0 of each run with the words that were loaded.
 pub fn stands_at_start()
     ensures { StandsAtStart }
+{}
+
+/// A load changes one word of what is loaded.
+pub fn loads_one_word()
+    ensures { LoadsOneWord }
 {}
 
 /// A row without a Conflict and an edge go on to the next row of the run.

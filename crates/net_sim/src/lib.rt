@@ -15,12 +15,15 @@ mod plan;
 mod port_order;
 mod search;
 mod settle;
+mod shown;
 mod sim;
 mod unread;
 mod walk;
 mod wires;
 
-pub use laws::{ends_after_all, ends_in_its_conflict, one_run, stands_at_next, stands_at_start};
+pub use laws::{
+    ends_after_all, ends_in_its_conflict, loads_one_word, one_run, stands_at_next, stands_at_start,
+};
 pub use order_end::OrderEnd;
 pub use port_order::{PortOrder, order};
 pub use sim::{Conflict, Phase, Sim};

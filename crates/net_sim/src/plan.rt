@@ -50,6 +50,7 @@ pub struct Plan<'a> {
     pub sources: Vec<Source>,
     pub guards: FlatGuards,
     pub givers: Vec<Giver>,
+    pub shown: Vec<usize>,
 }
 
 /// Each assignment's source.

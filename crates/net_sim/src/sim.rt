@@ -1,20 +1,21 @@
 //! The simulation of a netlist, row by row.
 ghost use Rattle.std.specs.Prelude.{◌≡◌, ◌<◌, ◌^◌, [], length, map, slice_get, Some, Err, None, IfOk};
 ghost use Rattle.hw_bits.specs.Values.{values_of, widths_of};
-ghost use Rattle.hw_prims.specs.Meaning.{opening_state};
 ghost use Rattle.net_core.specs.Netlist.{netlist_of};
 ghost use Rattle.net_core.specs.Numbers.{HasNumbers};
 ghost use Rattle.net_core.specs.Rules.{IsValid};
 ghost use Rattle.net_core.specs.Table.{IsTableOf};
 ghost use Rattle.net_sim.specs.Layout.{port_widths};
 ghost use Rattle.net_sim.specs.PortOrder.{IsPortOrderOf};
-ghost use Rattle.net_sim.specs.Sim.{IsNewSim, IsRowOfSim, IsEdgeOfSim, IfRunning, IfStopped, IfEvaluated, IfNotEvaluated, conflict_in};
+ghost use Rattle.net_sim.specs.Shown.{HasWord, HasWordWidth};
+ghost use Rattle.net_sim.specs.Sim.{IsNewSim, IsLoadOfSim, IsWordOfSim, IsRowOfSim, IsEdgeOfSim, IfRunning, IfStopped, IfEvaluated, IfNotEvaluated, conflict_in};
 
 use crate::cells::cell_ports;
 use crate::evaluate::{evaluate, step_cells};
 use crate::flatten::flatten;
 use crate::plan::{Plan, givers, no_values, opening_states, sources};
 use crate::port_order::PortOrder;
+use crate::shown::{load_word, shown_cells};
 use hw_bits::{Bits, Memory};
 use hw_prims::CellState;
 use net_core::{Net, Table};
@@ -92,6 +93,7 @@ impl<'a> Sim<'a> {
         let sources = sources(alloc, net, table)?;
         let guards = flatten(alloc, net, table)?;
         let givers = givers(alloc, net, cells.as_slice())?;
+        let shown = shown_cells(alloc, net)?;
         let states = opening_states(alloc, cells.as_slice())?;
         let values = no_values(alloc, table)?;
         let truths = vec![in alloc; false; guards.nodes.len()]?;
@@ -104,12 +106,35 @@ impl<'a> Sim<'a> {
                 sources,
                 guards,
                 givers,
+                shown,
             },
             states,
             values,
             truths,
             phase: Phase::Fresh,
         })
+    }
+
+    /// Puts a word into a shown memory, before the first row. Shown memories are counted from 0 in the order of the cells,
+    /// and words from 0. Takes no memory.
+    pub fn load(&mut self, mem: usize, at: usize, word: Bits)
+        requires fresh { self.old.phase ≡ Phase.Fresh }
+        requires place { HasWord (netlist_of self.old.net) mem at }
+        requires width { HasWordWidth (netlist_of self.old.net) mem word.width }
+        ensures { IsLoadOfSim self.old mem at word.value self.new }
+    {
+        let number = self.plan.shown[mem];
+        load_word(self.states.as_mut_slice(), number, at, word);
+    }
+
+    /// The word of a shown memory now, after the last edge. Takes no memory.
+    pub fn word(&self, mem: usize, at: usize) -> Bits
+        requires { HasWord (netlist_of self.now.net) mem at }
+        ensures value { IsWordOfSim self.now mem at result.value }
+        ensures width { HasWordWidth (netlist_of self.now.net) mem result.width }
+    {
+        let number = self.plan.shown[mem];
+        self.states[number].word(at)
     }
 
     /// Evaluates a row from the values of the netlist's inputs, in their order. A Conflict is the least port that has one,

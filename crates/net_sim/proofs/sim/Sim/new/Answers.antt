@@ -24,4 +24,5 @@ returns c =
       phase = refl;
       values = count_numbers n c.in_ok-values.values.items (c.in_ok-values.ensures ∙ c.requires.table.widths);
       states = opening_by_name n c.requires.valid c.in_ok-cells.cells.items c.in_ok-cells.ensures c.in_ok-states.states.items opening;
+      hidden = λ cell none. refl;
     }
