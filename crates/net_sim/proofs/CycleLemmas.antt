@@ -7,8 +7,8 @@ use Rattle.std.proofs.lemmas.List.Sums.{sum_by-set}
 use Rattle.std.proofs.lemmas.Bool.{cases_eq, cases_lt}
 use Rattle.std.proofs.lemmas.List.{get_or-take, length-take, get_or_past}
 use Rattle.hw_names.specs.Name.{Text}
-use Rattle.net_sim.proofs.SearchLemmas.{contained_at, pushed, pushed_last}
-use Rattle.net_sim.proofs.WalkLemmas.{last_on, cases_looked, reached_more, seen_stays, seen_set, seen_within, all_looked, reads_seen, taken_is_read}
+use Rattle.net_sim.proofs.SearchLemmas.{taken_read, contained_at, pushed, pushed_last}
+use Rattle.net_sim.proofs.WalkLemmas.{last_on, cases_looked, reached_more, seen_stays, seen_set, seen_within, all_looked, reads_seen}
 use Rattle.net_sim.specs.ByName.{IsAtMost, IsLeastMarked}
 use Rattle.net_sim.specs.Components.{NeverRises, LeavesNoCycle}
 use Rattle.net_sim.specs.Reads.{HasRead, AreInRange, IsTrail, IsCycle, IsCycleFrom, IsLeastCycle, Reaches, Directly, Through, IsOffCycles}
@@ -112,7 +112,7 @@ module _ (reads : List (List ℕ)) (start : ℕ) (old new : Walk) (s : IsSeeking
       never = never_more ne;
     }
     seeking_on false here goes ne =
-        let within : read < length old.seen.items = omega (arith, s.walk.all_seen, range top read (taken_is_read reads old.left.items new.left.items top read t)) in
+        let within : read < length old.seen.items = omega (arith, s.walk.all_seen, range top read (taken_read reads old.left.items new.left.items top read t)) in
         record {
           walk = walk;
           first = λ more. ap (λ l. get_or l 0 0) goes.1 ∙ pushed old.path.items read 0 some ∙ s.first some;
@@ -133,7 +133,7 @@ module _ (reads : List (List ℕ)) (start : ℕ) (old new : Walk) (s : IsSeeking
           some = some;
           in_range = trail.in_range;
           along = trail.along;
-          back = rw (← at_top, s.first some, ← is) (taken_is_read reads old.left.items new.left.items top read t);
+          back = rw (← at_top, s.first some, ← is) (taken_read reads old.left.items new.left.items top read t);
           once = trail.once;
         }
 

@@ -1,11 +1,12 @@
 -- Steps of a search through a graph, depth first.
-use Rattle.std.proofs.Common.{◌≡◌, ℕ, ◌+◌, ◌-◌, ◌<◌, ◌≤◌, ◌⊎◌, inl, inr, List, [], ◌∷◌, ◌++◌, length, get_or, set, take, drop, refl, sym, ap, ◌∙◌, arith, subst, length-set, get_or-set_same, get_or-set_other}
+use Rattle.std.proofs.Common.{◌≡◌, ℕ, ◌+◌, ◌-◌, ◌<◌, ◌≤◌, ◌⊎◌, inl, inr, List, [], ◌∷◌, ◌++◌, length, get_or, set, take, drop, replicate, refl, sym, ap, ◌∙◌, arith, subst, length-set, get_or-set_same, get_or-set_other}
 use Rattle.std.specs.Prelude.{Contains}
 use Rattle.std.proofs.lemmas.Bool.{cases_eq, cases_lt}
-use Rattle.std.proofs.lemmas.List.{get_or_append_left, get_or_push, length_push, get_or-take, get_or-drop, length-take, length-drop, take-append-le, get_or_default, get_or_read, take_all}
+use Rattle.std.proofs.lemmas.List.{get_or_append_left, get_or_push, length_push, get_or-take, get_or-drop, length-take, length-drop, take-append-le, get_or_default, get_or_read, get_or_past, get_or-replicate, length-replicate, take_all}
 use Rattle.std.proofs.lemmas.List.Elements.{Contains-append_left, Contains-push}
 use Rattle.net_sim.specs.Reads.{HasRead, AreInRange, IsReadOrder, IsCycle}
-use Rattle.net_sim.specs.Search.{mark_of, IsNext, IsPath, AreDone, AreLooked, IsSearch, IsSeen, KeepsSeen, IsTail, TakesRead}
+use Rattle.net_sim.specs.Search.{mark_of, IsNext, IsPath, AreDone, AreLooked, IsSearch, IsSeen, KeepsSeen, IsTail}
+use Rattle.net_sim.specs.Unread.{AreUnread, TakesRead}
 use Rattle.net_sim.specs.declared.search.Mark.{Mark}
 use Rattle.net_sim.specs.declared.search.Search.{Search}
 use Rattle.net_sim.specs.declared.search.Mark.TheVariants.{Unseen, Open, Done}
@@ -372,6 +373,38 @@ module _ (reads : List (List ℕ)) (old new : Search) (top : ℕ) (s : IsSearch 
 
     pub step_cycle : (tail : List ℕ) → IsTail old.path.items q tail → IsCycle reads tail
     step_cycle tail t' = cycle_found reads old.marks.items old.path.items tail q top s.path some at_top (taken_read reads old.left.items new.left.items top q t) t'
+
+-- ---- nothing is seen
+
+unseen_at : (n q : ℕ) → mark_of (replicate n Unseen) q ≡ Unseen
+unseen_at n q = elim (cases_lt q n) [
+  | inl lt ↦ get_or-replicate n q Unseen Unseen lt
+  | inr past ↦ get_or_past (replicate n Unseen) q Unseen (omega (arith, past, length-replicate n Unseen))
+]
+
+pub search_none : (reads : List (List ℕ)) (s : Search) → s.marks.items ≡ replicate (length reads) Unseen → AreUnread reads s.left.items → s.path.items ≡ [] → s.order.items ≡ [] → IsSearch reads s
+search_none reads s marks are path order = record {
+  all_marks = ap length marks ∙ length-replicate (length reads) Unseen;
+  all_left = are.all;
+  path = rw (marks, path) (record {
+    in_range = λ i lt. absurd (omega (arith, lt));
+    are_open = λ i lt. absurd (omega (arith, lt));
+    all_open = λ port is. let bad : Unseen ≡ Open = sym (unseen_at (length reads) port) ∙ is in absurd (cc);
+    once = λ i j lt lt' same. absurd (omega (arith, lt));
+    along = λ i lt. absurd (omega (arith, lt));
+  });
+  order = rw (marks, order) (record {
+    in_range = λ i lt. absurd (omega (arith, lt));
+    are_done = λ i lt. absurd (omega (arith, lt));
+    all_done = λ port is. let bad : Unseen ≡ Done = sym (unseen_at (length reads) port) ∙ is in absurd (cc);
+    once = λ i j lt lt' same. absurd (omega (arith, lt));
+    after = λ i port lt read. absurd (omega (arith, lt));
+  });
+  looked = record {
+    at_most = λ port lt. omega (arith, are.each port lt);
+    each = λ port j lt le within. absurd (omega (arith, are.each port lt, le, within));
+  };
+}
 
 -- ---- a search from a port
 

@@ -6,7 +6,7 @@ use Rattle.std.proofs.lemmas.List.{get_or_read, get_or-take, length-take, length
 use Rattle.std.proofs.lemmas.List.Elements.{Contains-append_left, Contains-push}
 use Rattle.net_sim.proofs.SearchLemmas.{contained_at, contains_at, pushed, pushed_last}
 use Rattle.net_sim.specs.Reads.{HasRead, IsTrail}
-use Rattle.net_sim.specs.Unread.{AreUnread, TakesRead}
+use Rattle.net_sim.specs.Unread.{AreUnread}
 use Rattle.net_sim.specs.Walk.{is_seen, HasReached}
 
 pub seen_stays : (seen : List Bool) (q port : ℕ) → q < length seen → is_seen seen port ≡ true → is_seen (set seen q true) port ≡ true
@@ -219,10 +219,6 @@ module _ (reads : List (List ℕ)) (seen : List Bool) (left path : List ℕ) (w 
     pub reads_seen : (port other : ℕ) → is_seen seen port ≡ true → HasRead reads port other → is_seen seen other ≡ true
     reads_seen port other done has =
         ap (is_seen seen) (sym (contained_at (get_or reads port []) other has)) ∙ w.reached port has.0 (seen_within port done) (omega (arith, all_looked port done)) has.1
-
--- the read that was taken is one
-pub taken_is_read : (reads : List (List ℕ)) (left left' : List ℕ) (port read : ℕ) → TakesRead (get_or reads port []) left port read left' → HasRead reads port read
-taken_is_read reads left left' port read t = contains_at (get_or reads port []) t.place read t.within (sym t.is)
 
 -- what was read of whether a port was reached
 pub seen_read : (seen : List Bool) (port : ℕ) (b c : Bool) → port < length seen → b ≡ get_or seen port b → b ≡ c → is_seen seen port ≡ c

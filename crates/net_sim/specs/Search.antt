@@ -1,5 +1,5 @@
 -- A search through a graph, depth first: what it has seen so far.
-use Rattle.std.specs.Prelude.{◌≡◌, ℕ, ◌+◌, ◌*◌, ◌<◌, ◌≤◌, ◌⊎◌, List, [], length, take, drop, sum, Contains, slice_index, slice_index_or, slice_set}
+use Rattle.std.specs.Prelude.{◌≡◌, ℕ, ◌+◌, ◌*◌, ◌<◌, ◌≤◌, ◌⊎◌, List, [], length, take, drop, sum, Contains, slice_index, slice_index_or}
 use Rattle.net_sim.specs.Reads.{HasRead}
 use Rattle.net_sim.specs.declared.search.Mark.{Mark}
 use Rattle.net_sim.specs.declared.search.Mark.TheVariants.{Unseen, Open, Done}
@@ -51,14 +51,6 @@ KeepsSeen old new = (port : ℕ) → mark_of new.marks.items port ≡ Unseen →
 -- the port has been reached
 abbrev pub IsSeen : Search → ℕ → Type 0
 IsSeen s port = mark_of s.marks.items port ≡ Unseen → ⊥
-
--- the last of the reads that were left is taken
-pub record TakesRead (reads left : List ℕ) (port read : ℕ) (left' : List ℕ) : Type 0 where
-  pub place : ℕ
-  pub was : slice_index left port ≡ place + 1
-  pub is : read ≡ slice_index reads place
-  pub within : place < length reads
-  pub now : left' ≡ slice_set left port place
 
 -- the end of the path from this port on
 pub record IsTail (path : List ℕ) (port : ℕ) (tail : List ℕ) : Type 0 where

@@ -2,10 +2,11 @@
 ghost use Rattle.std.specs.Prelude.{◌≡◌, ℕ, ◌+◌, ◌-◌, ◌<◌, ◌≤◌, [], ◌∷◌, ◌++◌, length, take, slice_get, slice_set, slice_index, slice_index_or, Some, Contains, IfOk, IfNone, IfSome};
 ghost use Rattle.net_sim.specs.Reads.{AreInRange, IsReadOrder, IsCycle};
 ghost use Rattle.net_sim.specs.Loop.{IfLoop};
-ghost use Rattle.net_sim.specs.Search.{mark_of, IsSearch, IsTail, TakesRead, IsSeen, KeepsSeen, work_of};
+ghost use Rattle.net_sim.specs.Search.{mark_of, IsSearch, IsTail, IsSeen, KeepsSeen, work_of};
 
 use crate::groups::Groups;
 use crate::order_end::OrderEnd;
+use crate::unread::{next_read, unread};
 use hw_bits::Memory;
 use std::alloc::{AllocError, AllocFailed, Global};
 
@@ -51,14 +52,9 @@ impl Search {
         ensures search { IfOk result (IsSearch reads.now) }
         ensures path { IfOk result (λ s. s.path.items ≡ []) }
     {
-        let marks = vec![in alloc; Mark::Unseen; reads.len()]?;
-        let mut left = Vec::new(alloc);
-        for port in 0..reads.len() {
-            left.push(reads.get(port).len())?;
-        }
         Ok(Search {
-            marks,
-            left,
+            marks: vec![in alloc; Mark::Unseen; reads.len()]?,
+            left: unread(alloc, reads)?,
             path: Vec::new(alloc),
             order: Vec::new(alloc),
         })
@@ -95,7 +91,7 @@ impl Search {
         ensures less { IfOk result (λ _. work_of self.new < work_of self.old) }
         ensures cycle { IfLoop result (λ ports. IsCycle reads.now ports) }
     {
-        let Some(read) = self.next_read(reads, top) else {
+        let Some(read) = next_read(&mut self.left, reads, top) else {
             self.close(top)?;
             return Ok(());
         };
@@ -109,26 +105,6 @@ impl Search {
             }),
             Mark::Done => Ok(()),
         }
-    }
-
-    /// Takes the next read of the port, the last first.
-    fn next_read(&mut self, reads: &Groups, port: usize) -> Option<usize>
-        requires port { port < length reads.now }
-        requires all { length self.old.left.items ≡ length reads.now }
-        requires at_most { slice_index self.old.left.items port
-            ≤ length (slice_index_or reads.now port []) }
-        ensures none { IfNone result ((slice_index self.old.left.items port ≡ 0)
-            × (self.new.left.items ≡ self.old.left.items)) }
-        ensures some { IfSome result
-            (λ read. TakesRead (slice_index_or reads.now port []) self.old.left.items port read
-            self.new.left.items) }
-        ensures marks { self.new.marks.items ≡ self.old.marks.items }
-        ensures path { self.new.path.items ≡ self.old.path.items }
-        ensures order { self.new.order.items ≡ self.old.order.items }
-    {
-        let left = self.left[port].checked_sub(1)?;
-        self.left[port] = left;
-        Some(reads.get(port)[left])
     }
 
     /// Goes on to the port.

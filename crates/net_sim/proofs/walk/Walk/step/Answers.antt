@@ -1,6 +1,7 @@
 use Rattle.std.proofs.Common.{◌≡◌, ◌-◌, ◌<◌, ◌∙◌, ◌++◌, ◌∷◌, [], set, take, length, refl, sym, ap, arith, true, false}
 use Rattle.std.proofs.lemmas.List.Elements.{Contains-append_left}
-use Rattle.net_sim.proofs.WalkLemmas.{last_on, gone_back, looked_at, reached_more, taken_is_read, seen_read, seen_set}
+use Rattle.net_sim.proofs.SearchLemmas.{taken_read}
+use Rattle.net_sim.proofs.WalkLemmas.{last_on, gone_back, looked_at, reached_more, seen_read, seen_set}
 use Rattle.net_sim.specs.Walk.{is_seen}
 use Rattle.net_sim.proofs.walk.Walk.step.Goals.{In-Some, Then-index, In_ok-enter}
 use Rattle.net_sim.proofs.walk.Walk.step.Goals as goal
@@ -15,7 +16,7 @@ returns-in_default-clause-walk c =
 
 within : (c : In-Some) → c.in-Some.read < length c.args.self.now.seen.items
 within c =
-    let has = taken_is_read c.args.reads.now c.args.self.now.left.items c.next_read.new.left.items c.args.top c.in-Some.read c.in-Some.ensures.some in
+    let has = taken_read c.args.reads.now c.args.self.now.left.items c.next_read.new.left.items c.args.top c.in-Some.read c.in-Some.ensures.some in
     omega (arith, c.requires.in_range c.args.top c.in-Some.read has, c.requires.walk.all_seen)
 
 pub index-requires : goal.index-requires
@@ -50,7 +51,7 @@ returns-clause-walk c =
     let t = c.in-Some.ensures.some in
     let in_seen = within (goal.at.returns-clause-walk c).In-Some in
     let unseen = seen_read self.seen.items q c.index.result.now false in_seen c.index.ensures c.if-index.false in
-    let has = taken_is_read reads self.left.items c.next_read.new.left.items c.args.top q t in
+    let has = taken_read reads self.left.items c.next_read.new.left.items c.args.top q t in
     let w = reached_more reads self.seen.items self.left.items self.path.items c.requires.walk q (c.requires.in_range c.args.top q has) unseen (λ _. rw (← c.requires.top) has) in
     let on = Contains-append_left self.path.items (q ∷ []) c.args.top (last_on reads self.seen.items self.left.items self.path.items c.requires.walk c.args.top c.requires.some c.requires.top) in
     let now = seen_set self.seen.items q in_seen in
