@@ -86,6 +86,14 @@ impl CellState {
     {
         self.kept.word(self.prim, at)
     }
+
+    /// The number of a memory's words; 0 for what isn't a memory. Takes no memory.
+    pub fn word_count(&self) -> usize
+        ensures prim { result ≡ word_count self.now.prim }
+        ensures state { result ≡ length (words_of self.now.state) }
+    {
+        self.kept.word_count(self.prim)
+    }
 }
 
 impl Cell for CellState {

@@ -208,6 +208,18 @@ impl Kept {
             _ => unreachable!(),
         }
     }
+
+    /// The number of its words; 0 for what isn't a memory.
+    pub fn word_count(&self, prim: Primitive) -> usize
+        requires { IsKept prim self.now }
+        ensures prim { result ≡ word_count prim }
+        ensures state { result ≡ length (words_of (state_of self.now)) }
+    {
+        match self {
+            Kept::Memory { words, .. } => words.len(),
+            _ => 0,
+        }
+    }
 }
 
 /// The outputs of what has an `out` and a `done`.

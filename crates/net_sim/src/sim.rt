@@ -7,8 +7,8 @@ ghost use Rattle.net_core.specs.Rules.{IsValid};
 ghost use Rattle.net_core.specs.Table.{IsTableOf};
 ghost use Rattle.net_sim.specs.Layout.{port_widths};
 ghost use Rattle.net_sim.specs.PortOrder.{IsPortOrderOf};
-ghost use Rattle.net_sim.specs.Shown.{HasWord, HasWordWidth};
-ghost use Rattle.net_sim.specs.Sim.{IsNewSim, IsLoadOfSim, IsWordOfSim, IsRowOfSim, IsEdgeOfSim, IfRunning, IfStopped, IfEvaluated, IfNotEvaluated, conflict_in};
+ghost use Rattle.net_sim.specs.Shown.{shown_cells, HasWord, HasWordWidth};
+ghost use Rattle.net_sim.specs.Sim.{IsNewSim, IsLoadOfSim, IsWordOfSim, IsWordCountOfSim, IsRowOfSim, IsEdgeOfSim, IfRunning, IfStopped, IfEvaluated, IfNotEvaluated, conflict_in};
 
 use crate::cells::cell_ports;
 use crate::evaluate::{evaluate, step_cells};
@@ -135,6 +135,15 @@ impl<'a> Sim<'a> {
     {
         let number = self.plan.shown[mem];
         self.states[number].word(at)
+    }
+
+    /// The number of words of a shown memory; the shown memories are counted in the order of the cells. Takes no memory.
+    pub fn word_count(&self, mem: usize) -> usize
+        requires { mem < length (shown_cells (netlist_of self.now.net)) }
+        ensures { IsWordCountOfSim self.now mem result }
+    {
+        let number = self.plan.shown[mem];
+        self.states[number].word_count()
     }
 
     /// Evaluates a row from the values of the netlist's inputs, in their order. A Conflict is the least port that has one,
