@@ -1,0 +1,13 @@
+pub use Rattle.hw_names.specs.Name
+pub mod Tree
+pub mod Signature
+pub mod Primitives
+pub mod Scope
+pub mod Items
+pub mod Naming
+pub mod Typing
+pub mod Timeline
+pub mod Connections
+pub mod Sharing
+pub mod Wires
+pub mod Rules

@@ -1,0 +1,8 @@
+//! Filament designs: their trees, and what their rules and their meaning are.
+#![tactic(auto)]
+
+mod tree;
+mod tx;
+
+pub use tree::{EventDef, FilComp, FilDesign, FilPort, GoPort, Stmt, Time, Value};
+pub use tx::{Tx, TxList};
