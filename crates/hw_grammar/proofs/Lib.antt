@@ -13,3 +13,4 @@ pub mod Texts
 pub mod Renaming
 pub mod Marks
 pub mod Carried
+pub mod Closed

@@ -2,6 +2,7 @@
 -- L ts a rest says that the terminals of ts before rest spell a. The combinators are the marks of a written grammar
 -- (Wirth's extended BNF); that values are part of the relation is this project's own.
 use Rattle.std.specs.Prelude.{◌≡◌, ℕ, true, false, List, [], ◌∷◌, ◌⊎◌, Option, Some, None}
+use Rattle.hw_names.specs.Name.{Text, text_of}
 use Rattle.hw_names.specs.declared.names.NameId.{NameId}
 use Rattle.hw_grammar.specs.declared.sort.Sort.{Sort}
 use Rattle.hw_grammar.specs.declared.sort.Sort.TheVariants.{Name, Number, Literal}
@@ -26,6 +27,10 @@ Mapped f P ts b rest = (a : _) × P ts a rest × (b ≡ f a)
 -- NAME, whose value is the name's number
 abbrev pub AnyName : Lang NameId
 AnyName = Mapped (λ t. t.name) (One Name)
+
+-- NAME, with the text that its number has in a list of names
+abbrev pub AnyWord : List Text → Lang Text
+AnyWord names = Mapped (text_of names) AnyName
 
 -- NUMBER, with its value
 abbrev pub AnyNumber : Lang ℕ
@@ -54,6 +59,14 @@ Optional P = Either (Mapped Some P) (Empty None)
 -- a terminal of the sort, then P
 abbrev pub After : {A : Type 0} → Sort → Lang A → Lang A
 After sort P = Mapped (λ x. x.1) (Then (One sort) P)
+
+-- P, then a terminal of the sort
+abbrev pub Closed : {A : Type 0} → Lang A → Sort → Lang A
+Closed P sort = Mapped (λ x. x.0) (Then P (One sort))
+
+-- P between a terminal of the one sort and a terminal of the other
+abbrev pub Between : {A : Type 0} → Sort → Lang A → Sort → Lang A
+Between first P last = After first (Closed P last)
 
 -- P any number of times
 abbrev pub Many : {A : Type 0} → Lang A → Lang (List A)

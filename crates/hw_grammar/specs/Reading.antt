@@ -1,6 +1,7 @@
 -- Reading from the front, on lists: what the functions of readers give. A reader has the names of its language in lower
 -- case, with the set of sorts by which it chooses. That it is exact for its language is proved in proofs/.
 use Rattle.std.specs.Prelude.{◌≡◌, ℕ, zero, suc, List, [], ◌∷◌, ◌++◌, length, cond, Option, Some, None, Result, Ok, Err}
+use Rattle.hw_names.specs.Name.{Text, text_of}
 use Rattle.hw_names.specs.declared.names.NameId.{NameId}
 use Rattle.hw_grammar.specs.declared.sort.Sort.{Sort}
 use Rattle.hw_grammar.specs.declared.sort.Sort.TheVariants.{Name, Number, Literal}
@@ -46,6 +47,9 @@ mapped f p ts = p ts >>= λ x. Ok (f x.0, x.1)
 abbrev pub any_name : Reader NameId
 any_name = mapped (λ t. t.name) (one Name)
 
+abbrev pub any_word : List Text → Reader Text
+any_word names = mapped (text_of names) any_name
+
 abbrev pub any_number : Reader ℕ
 any_number = mapped (λ t. t.value) (one Number)
 
@@ -57,6 +61,12 @@ optional set p = either set (mapped Some p) (empty None)
 
 abbrev pub after : {A : Type 0} → Sort → Reader A → Reader A
 after sort p = mapped (λ x. x.1) (then (one sort) p)
+
+abbrev pub closed : {A : Type 0} → Reader A → Sort → Reader A
+closed p sort = mapped (λ x. x.0) (then p (one sort))
+
+abbrev pub between : {A : Type 0} → Sort → Reader A → Sort → Reader A
+between first p last = after first (closed p last)
 
 -- p while the first terminal's sort is in the set, at most n times
 abbrev pub times : {A : Type 0} → List Sort → Reader A → ℕ → Reader (List A)
