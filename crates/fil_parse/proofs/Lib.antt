@@ -1,1 +1,3 @@
 pub mod Exactness
+pub mod Imports
+pub mod InputLists

@@ -1,0 +1,24 @@
+use Rattle.std.proofs.Common.{◌≡◌, [], ◌∷◌, length, sym, ◌++◌, map}
+use Rattle.std.proofs.lemmas.List.{map_push}
+use Rattle.std.proofs.lemmas.Result.{err_from_is_err_and}
+use Rattle.hw_grammar.proofs.Loop.{list_tail_goes_on, list_tail_stops, list_tail_trails, list_tail_fails}
+use Rattle.hw_grammar.specs.declared.sort.Sort.TheVariants.{Comma, At}
+use Rattle.fil_parse.specs.Reading.{port_at}
+use Rattle.fil_ast.specs.Tree.{port_tree}
+use Rattle.fil_parse.proofs.port.more_ports.Goals as goal
+
+pub loop-preserved : goal.loop-preserved
+loop-preserved g c =
+    let e : map (port_tree g.names) c.push.new.self.items ≡ map (port_tree g.names) c.loop.all.items ++ port_tree g.names c.in_ok-next.next ∷ [] = rw c.in_ok-push.ensures.items (map_push _ c.loop.all.items c.in_ok-next.next) in
+    rw e (list_tail_goes_on Comma (At ∷ []) (port_at g.names) (map (port_tree g.names) c.loop.all.items) (length c.args.ts.now) c.loop.counter c.loop.rest.now _ c.loop.invariant _ c.in_ok-mid.mid.now (port_tree g.names c.in_ok-next.next) c.in_ok-next.after.now c.loop-test.true (sym c.if-not-starts.ensures) c.in_ok-mid.ensures (sym c.if-not-starts-2.ensures) c.in_ok-next.ensures)
+
+pub returns-then-not-starts : goal.returns-then-not-starts
+returns-then-not-starts g c = list_tail_stops Comma (At ∷ []) (port_at g.names) (map (port_tree g.names) c.loop.all.items) (length c.args.ts.now) c.loop.counter c.loop.rest.now _ c.loop.invariant c.loop-test.true (sym c.if-not-starts.ensures)
+
+pub returns-then-not-starts-2 : goal.returns-then-not-starts-2
+returns-then-not-starts-2 g c = list_tail_trails Comma (At ∷ []) (port_at g.names) (map (port_tree g.names) c.loop.all.items) (length c.args.ts.now) c.loop.counter c.loop.rest.now _ c.loop.invariant _ c.in_ok-mid.mid.now c.loop-test.true (sym c.if-not-starts.ensures) c.in_ok-mid.ensures (sym c.if-not-starts-2.ensures)
+
+pub returns-in_err-next : goal.returns-in_err-next
+returns-in_err-next g c =
+    let p = err_from_is_err_and c.from_residual-in_err-next.result c.from_residual-in_err-next.ensures.1 in
+    rw (p.1, p.2) (list_tail_fails Comma (At ∷ []) (port_at g.names) (map (port_tree g.names) c.loop.all.items) (length c.args.ts.now) c.loop.counter c.loop.rest.now _ c.loop.invariant c.in_err-next.field-0.0 _ c.in_ok-mid.mid.now c.loop-test.true (sym c.if-not-starts.ensures) c.in_ok-mid.ensures (sym c.if-not-starts-2.ensures) c.in_err-next.ensures)
