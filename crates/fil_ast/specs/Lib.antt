@@ -1,5 +1,6 @@
 pub use Rattle.hw_names.specs.Name
 pub mod Tree
+pub mod Numbers
 pub mod Signature
 pub mod Primitives
 pub mod Scope

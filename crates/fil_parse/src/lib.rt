@@ -3,6 +3,10 @@
 
 mod component;
 mod input;
+mod offsets;
+mod parse;
 mod port;
 mod statement;
 mod value;
+
+pub use parse::{FilTextEnd, MOST_NESTING, MOST_OFFSET, one_design, parse_fil};

@@ -175,10 +175,7 @@ fn more_ports<'a>(
 }
 
 /// `[port {"," port} [","]]`
-fn listed_ports(
-    alloc: Global,
-    ts: &[Terminal],
-) -> Result<(Vec<FilPort>, &[Terminal]), ReadEnd<'_>>
+fn listed_ports(alloc: Global, ts: &[Terminal]) -> Result<(Vec<FilPort>, &[Terminal]), ReadEnd<'_>>
     ghost names: { List Text }
     ensures { Gives (λ x. (map (port_tree names) x.0.items, x.1.now)) result (listed Sort.Comma (Sort.At ∷ []) (port_at names) ts.now) }
 {

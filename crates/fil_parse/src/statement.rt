@@ -96,10 +96,7 @@ fn read_statement(alloc: Global, ts: &[Terminal]) -> Result<(Stmt, &[Terminal]),
 }
 
 /// `{stmt}`
-fn read_statements(
-    alloc: Global,
-    ts: &[Terminal],
-) -> Result<(Vec<Stmt>, &[Terminal]), ReadEnd<'_>>
+fn read_statements(alloc: Global, ts: &[Terminal]) -> Result<(Vec<Stmt>, &[Terminal]), ReadEnd<'_>>
     ghost names: { List Text }
     ensures { Gives (λ x. (map (statement_tree names) x.0.items, x.1.now)) result (many (Sort.Name ∷ []) (statement_at names) ts.now) }
 {

@@ -67,10 +67,7 @@ fn more_times<'a>(
 
 /// `time {"," time}`
 #[tactic(auto, unfolding(crate::specs::Reading::more_time_at))]
-fn separated_times(
-    alloc: Global,
-    ts: &[Terminal],
-) -> Result<(Vec<Time>, &[Terminal]), ReadEnd<'_>>
+fn separated_times(alloc: Global, ts: &[Terminal]) -> Result<(Vec<Time>, &[Terminal]), ReadEnd<'_>>
     ghost names: { List Text }
     ensures { Gives (λ x. (map (time_tree names) x.0.items, x.1.now)) result (separated Sort.Comma (time_at names) ts.now) }
 {
@@ -158,10 +155,7 @@ fn more_values<'a>(
 }
 
 /// `[value {"," value} [","]]`
-fn listed_values(
-    alloc: Global,
-    ts: &[Terminal],
-) -> Result<(Vec<Value>, &[Terminal]), ReadEnd<'_>>
+fn listed_values(alloc: Global, ts: &[Terminal]) -> Result<(Vec<Value>, &[Terminal]), ReadEnd<'_>>
     ghost names: { List Text }
     ensures { Gives (λ x. (map (value_tree names) x.0.items, x.1.now)) result
         (listed Sort.Comma (Sort.Name ∷ Sort.Literal ∷ []) (value_at names) ts.now) }

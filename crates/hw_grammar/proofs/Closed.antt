@@ -1,5 +1,5 @@
 -- What stands before a terminal, or between two, is read exactly; so are the texts of names.
-use Rattle.std.proofs.Common.{◌≡◌, Bool, true, false, ◌&&◌, List, [], ◌∷◌, refl}
+use Rattle.std.proofs.Common.{◌≡◌, Bool, true, false, ◌&&◌, List, [], ◌∷◌}
 use Rattle.hw_names.specs.Name.{Text, text_of}
 use Rattle.hw_grammar.specs.declared.sort.Sort.{Sort}
 use Rattle.hw_grammar.specs.declared.sort.Sort.TheVariants.{Name}

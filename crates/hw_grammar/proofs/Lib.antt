@@ -14,3 +14,5 @@ pub mod Renaming
 pub mod Marks
 pub mod Carried
 pub mod Closed
+pub mod Passing
+pub mod Alike

@@ -7,3 +7,4 @@ pub mod Ends
 pub mod Showing
 pub mod TextPlace
 pub mod Renaming
+pub mod Words

@@ -10,8 +10,8 @@ pub loop-input-preserved : goal.loop-input-preserved
 loop-input-preserved g c =
     elim c.match-input.branch [
       | in-Data+in_ok-push w ↦
-        rw (w.ports-is, w.in_ok-push.ensures.items)
-        (map_push (port_tree g.names) c.loop-input.ports.items w.in-Data.port ∙ sym (data_next g.names _ _ _ (inputs.Data w.in-Data.port) c.loop-input.ports.items c.loop-input-test.true w.in-Data.is c.loop-input.invariant))
+          rw (w.ports-is, w.in_ok-push.ensures.items)
+          (map_push (port_tree g.names) c.loop-input.ports.items w.in-Data.port ∙ sym (data_next g.names _ _ _ (inputs.Data w.in-Data.port) c.loop-input.ports.items c.loop-input-test.true w.in-Data.is c.loop-input.invariant))
       | in_default w ↦
-        rw w.ports-is (sym (append-nil _) ∙ sym (data_next g.names _ _ _ (inputs.Interface w.in_default.field-0) c.loop-input.ports.items c.loop-input-test.true w.in_default.is c.loop-input.invariant))
+          rw w.ports-is (sym (append-nil _) ∙ sym (data_next g.names _ _ _ (inputs.Interface w.in_default.field-0) c.loop-input.ports.items c.loop-input-test.true w.in_default.is c.loop-input.invariant))
     ]

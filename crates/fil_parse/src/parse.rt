@@ -1,0 +1,221 @@
+//! From a text to its design.
+ghost use Rattle.std.specs.Prelude.{◌≡◌, ℕ, List, None, IfOk, IfErr};
+ghost use Rattle.hw_names.specs.Name.{Text};
+ghost use Rattle.hw_lex.specs.declared.token.Dialect.TheVariants.{Fil};
+ghost use Rattle.hw_lex.specs.Cut.{AreTokens};
+ghost use Rattle.hw_grammar.specs.Reading.{Gives, whole};
+ghost use Rattle.fil_ast.specs.Numbers.{HasNumbers};
+ghost use Rattle.fil_ast.specs.Tree.{Design, design_of};
+ghost use Rattle.fil_parse.specs.Reading.{file_at};
+ghost use Rattle.fil_parse.specs.Spelling.{SpellsDesign, KeepsNesting, GrammarEnds, EndsBy, first_large};
+ghost use Rattle.fil_parse.specs.Written.{DesignIsWritten};
+
+use crate::component::whole_file;
+use crate::offsets::first_large;
+use fil_ast::FilDesign;
+use hw_bits::Memory;
+use hw_grammar::{ReadEnd, Terminal, refused_byte, terminals_of};
+use hw_lex::{Dialect, LexEnd, Tokens, lex};
+use hw_names::Names;
+use std::alloc::Global;
+
+/// How deep brackets may stand in one another.
+pub const MOST_NESTING: usize = 64;
+
+/// The greatest number after `+`, and the greatest delay.
+pub const MOST_OFFSET: u128 = 4096;
+
+/// Why a text gives no design.
+#[derive(Clone, Copy, Debug, PartialEq, Eq)]
+pub enum FilTextEnd {
+    /// At this byte no token, blank or comment starts, and at none before it.
+    Token { at: usize },
+    /// Brackets stand so deep in one another.
+    Nesting { count: usize },
+    /// At this byte the text is refused by the grammar.
+    Grammar { at: usize },
+    /// The first number after `+` or delay that is too large.
+    Offset { count: u128 },
+    /// There was no memory.
+    Memory,
+}
+
+impl From<Memory> for FilTextEnd {
+    ghost use Rattle.std.specs.Prelude.{◌≡◌};
+    ghost use Rattle.fil_parse.specs.declared.parse.FilTextEnd.TheVariants as FilTextEnd;
+
+    ghost from_gives = { λ _ end. end ≡ FilTextEnd.Memory };
+
+    fn from(_memory: Memory) -> Self {
+        FilTextEnd::Memory
+    }
+}
+
+/// The design of terminals with these names.
+fn file_of<'a>(alloc: Global, names: Names, ts: &'a [Terminal]) -> Result<FilDesign, ReadEnd<'a>>
+    ghost known: { List Text }
+    requires { names ≡ known }
+    ensures { Gives design_of result (whole (file_at known ts.now)) }
+{
+    let comps = whole_file(alloc, ts)?;
+    Ok(FilDesign { names, comps })
+}
+
+/// The design that the tokens spell.
+fn read_tokens(alloc: Global, tokens: &Tokens<'_>) -> Result<FilDesign, FilTextEnd>
+    requires dialect { tokens.now.dialect ≡ Fil }
+    requires tokens { AreTokens Fil tokens.now.source tokens.now.tokens }
+    ensures spelled { IfOk result (λ design. SpellsDesign tokens.now.source (design_of design)) }
+    ensures refused { IfErr result (GrammarEnds tokens.now.source) }
+{
+    let mut names = Names::new(alloc);
+    let ts = terminals_of(alloc, tokens, &mut names)?;
+    match file_of(alloc, names, &ts) {
+        Ok(design) => Ok(design),
+        Err(ReadEnd::Memory) => Err(FilTextEnd::Memory),
+        Err(ReadEnd::Refused(bad)) => Err(FilTextEnd::Grammar {
+            at: refused_byte(tokens, bad),
+        }),
+    }
+}
+
+/// The design that a text spells, whatever numbers its names have. A text with so many causes against it is refused by the
+/// first of them, in the order of `FilTextEnd`.
+pub fn parse_fil(alloc: Global, text: &[u8]) -> Result<FilDesign, FilTextEnd>
+    // What is read is spelled so, and keeps the limits.
+    ensures spelled { IfOk result (λ design. SpellsDesign text.now (design_of design)) }
+    ensures nested { IfOk result (λ design. KeepsNesting text.now) }
+    ensures offsets { IfOk result (λ design. first_large (design_of design) ≡ None) }
+    ensures written { IfOk result (λ design. DesignIsWritten (design_of design)) }
+    ensures numbers { IfOk result HasNumbers }
+
+    // What is not read has this cause.
+    ensures refused { IfErr result (EndsBy text.now) }
+{
+    let tokens = match lex(alloc, text, Dialect::Fil) {
+        Ok(tokens) => tokens,
+        Err(LexEnd::Fault { at }) => return Err(FilTextEnd::Token { at }),
+        Err(LexEnd::Memory) => return Err(FilTextEnd::Memory),
+    };
+    let count = tokens.nesting();
+    if count > MOST_NESTING {
+        return Err(FilTextEnd::Nesting { count });
+    }
+    let design = read_tokens(alloc, &tokens)?;
+    match first_large(&design) {
+        Some(count) => Err(FilTextEnd::Offset { count }),
+        None => Ok(design),
+    }
+}
+
+/// A text spells at most one design.
+pub fn one_design()
+    ensures { (text : List ℕ) (a b : Design) → SpellsDesign text a → SpellsDesign text b → a ≡ b }
+{}
+
+#[cfg(test)]
+mod tests {
+    use super::*;
+    use fil_ast::{Stmt, Time, Value};
+    use std::test::Fail;
+
+    const ENDS: [(&str, FilTextEnd); 14] = [
+        ("", FilTextEnd::Grammar { at: 0 }),
+        (
+            "import \"a.fil\"; // no more",
+            FilTextEnd::Grammar { at: 26 },
+        ),
+        ("comp Mac<G: 1>(@inter", FilTextEnd::Grammar { at: 16 }),
+        ("comp Mac<G: 1>(", FilTextEnd::Grammar { at: 15 }),
+        ("comp #", FilTextEnd::Token { at: 5 }),
+        ("comp # [[", FilTextEnd::Token { at: 5 }),
+        ("comp A<>() -> () {}", FilTextEnd::Grammar { at: 7 }),
+        ("comp new<G: 1>() -> () {}", FilTextEnd::Grammar { at: 5 }),
+        ("comp A<G: 1>(,) -> () {}", FilTextEnd::Grammar { at: 13 }),
+        ("comp A<G: 1,>() -> () {}", FilTextEnd::Grammar { at: 12 }),
+        (
+            "comp A<G: 1>() -> () { x := new B[]; }",
+            FilTextEnd::Grammar { at: 34 },
+        ),
+        (
+            "comp A<G: 4097>() -> () { v := x<G+5000>(); }",
+            FilTextEnd::Offset { count: 4097 },
+        ),
+        (
+            "comp A<G: 4096>() -> () { v := x<G+5000, H+6000>(); }",
+            FilTextEnd::Offset { count: 5000 },
+        ),
+        (
+            "comp A<G: 4097>() -> () { ; }",
+            FilTextEnd::Grammar { at: 26 },
+        ),
+    ];
+
+    #[test]
+    fn refuses_each_text_by_its_first_cause(rt: HostRuntime) {
+        for (text, end) in ENDS {
+            let got = parse_fil(rt.alloc(), text.as_bytes()).err();
+            assert_eq!(rt; got, Some(end), "in {text:?}");
+        }
+    }
+
+    #[test]
+    fn nesting_comes_before_the_grammar(rt: HostRuntime) -> Result<(), Fail> {
+        let mut text = Vec::new(rt.alloc());
+        for _ in 0..64 {
+            text.push(b'(')?;
+        }
+        let end = parse_fil(rt.alloc(), &text).err();
+        assert_eq!(rt; end, Some(FilTextEnd::Grammar { at: 0 }));
+        text.push(b'[')?;
+        let end = parse_fil(rt.alloc(), &text).err();
+        assert_eq!(rt; end, Some(FilTextEnd::Nesting { count: 65 }));
+        Ok(())
+    }
+
+    #[test]
+    fn reads_lists_with_a_comma_more(rt: HostRuntime) {
+        let text =
+            b"comp A<G: 3, H: 2>(@[G, G+1] a: 8, @interface[G] go: 1, ) -> (@[H+1, H+2] o: 8,) {
+            v := new B<G, H+4>(a, 8'xfF,); /* one */ o = v.out; }";
+        let read = parse_fil(rt.alloc(), text);
+        assert!(rt; read.is_ok());
+        let design = read.unwrap();
+        assert!(rt; design.comps.len() == 1);
+        let comp = &design.comps[0];
+        assert!(rt;
+            comp.gos.len() == 1
+                && comp.ins.len() == 1
+                && comp.outs.len() == 1
+                && comp.body.len() == 2
+        );
+        assert_eq!(rt; comp.events[1].delay, 2);
+        assert_eq!(rt; comp.gos[0].event, comp.events[0].name);
+        assert_eq!(rt;
+            comp.ins[0].to,
+            Time {
+                event: comp.events[0].name,
+                plus: 1
+            }
+        );
+        match &comp.body[0] {
+            Stmt::Both {
+                params,
+                at,
+                args,
+                ..
+            } => {
+                assert!(rt; params.len() == 0 && at.len() == 2 && args.len() == 2);
+                assert_eq!(rt; at[1].plus, 4);
+                assert_eq!(rt;
+                    args[1],
+                    Value::Lit {
+                        width: 8,
+                        value: 255
+                    }
+                );
+            }
+            _ => assert!(rt; false),
+        }
+    }
+}
