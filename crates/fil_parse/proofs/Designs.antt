@@ -1,5 +1,5 @@
 -- A text spells at most one design, which can be written; each of its names has a number.
-use Rattle.std.proofs.Common.{◌≡◌, ℕ, zero, suc, ◌+◌, ◌<◌, ◌≤◌, List, [], ◌∷◌, length, map, get_or, refl, subst, sym, arith}
+use Rattle.std.proofs.Common.{◌≡◌, ℕ, zero, suc, ◌<◌, List, [], ◌∷◌, length, map, get_or, refl, subst, arith}
 use Rattle.std.specs.Prelude.{All}
 use Rattle.std.specs.List.{AllByRecursion}
 use Rattle.hw_names.specs.Name.{Text, text_of}
@@ -9,7 +9,7 @@ use Rattle.hw_grammar.specs.declared.terminal.Terminal.{Terminal}
 use Rattle.hw_grammar.proofs.Passing.{ArePairs}
 use Rattle.hw_grammar.proofs.Alike.{IsAlike, lexed_alike}
 use Rattle.hw_grammar.proofs.Whole.{spells_one}
-use Rattle.fil_ast.specs.Tree.{Design, Statement, Component, time_tree, event_tree, interface_tree, port_tree, value_tree, statement_tree, component_tree, design_of}
+use Rattle.fil_ast.specs.Tree.{Design, time_tree, event_tree, interface_tree, port_tree, value_tree, statement_tree, component_tree, design_of}
 use Rattle.fil_ast.specs.declared.tree.Time.{Time}
 use Rattle.fil_ast.specs.declared.tree.EventDef.{EventDef}
 use Rattle.fil_ast.specs.declared.tree.GoPort.{GoPort}

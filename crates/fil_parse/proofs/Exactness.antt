@@ -1,17 +1,16 @@
 -- The readers of Filament are exact. In each proof `refl` says that the sets of sorts by which the reader chooses are apart.
-use Rattle.std.proofs.Common.{◌≡◌, ℕ, Bool, true, false, List, [], ◌∷◌, Option, Some, None, Result, Ok, Err, ◌⊎◌, inl, inr, refl, sym, ap, subst, ◌∙◌}
+use Rattle.std.proofs.Common.{◌≡◌, ℕ, true, false, List, [], ◌∷◌, Option, Some, None, inl, inr, refl, ap, subst, ◌∙◌}
 use Rattle.hw_names.specs.Name.{Text}
 use Rattle.hw_grammar.specs.declared.sort.Sort.TheVariants.{Name, Literal, Comp, New, Interface, Import, At, LeftBracket, RightBracket, LeftParen, RightParen, LeftAngle, RightAngle, LeftBrace, RightBrace, Comma, Colon, ColonEquals, Semicolon, Equals, Plus, Dot, Arrow}
 use Rattle.hw_grammar.specs.declared.sort.Sort.TheVariants as sorts
 use Rattle.hw_grammar.specs.declared.terminal.Terminal.{Terminal}
-use Rattle.hw_grammar.specs.Grammar.{Lang, One, Empty, Mapped, AnyWord, AnyNumber, AnyLiteral, Then, Either, Optional, After, Closed, Between, Many, Separated, Listed}
+use Rattle.hw_grammar.specs.Grammar.{Lang, Empty, Mapped, AnyWord, AnyLiteral, Then, Either, Optional, After, Closed, Between, Separated, Listed}
 use Rattle.hw_grammar.specs.Reading.{whole}
 use Rattle.hw_grammar.proofs.Exact.{Exact, one-exact, empty-exact, then-exact, mapped-exact, either-exact, optional-exact, many-exact, after-exact, separated-exact, listed-exact, same-exact}
 use Rattle.hw_grammar.proofs.Carried.{any_number-exact, any_literal-exact}
 use Rattle.hw_grammar.proofs.Closed.{any_word-exact, closed-exact, between-exact}
 use Rattle.hw_grammar.proofs.Whole.{Judged, judge}
-use Rattle.fil_ast.specs.Tree.{TimeAt, Event, DataPort, ValueTree, Giving, Statement, Component, Design}
-use Rattle.fil_ast.specs.Tree as tree
+use Rattle.fil_ast.specs.Tree.{ValueTree, Giving, Statement}
 use Rattle.fil_parse.specs.Grammar.{time_from, literal_from, giving_from, port_from, interface_from, Input, InterfacePort, DataInput, event_from, component_from, design_from, IsTime, IsValue, IsCall, AreParameters, IsStatement, IsPlacedPort, IsPort, IsNamedInterface, IsInput, IsEvent, AreEvents, AreInputs, AreOutputs, IsBody, IsComponent, IsImport, AreImports, IsFile}
 use Rattle.fil_parse.specs.Reading.{time_at, named_value, value_at, times_at, values_at, call_at, params_at, new_by, call_by, connect_by, new_at, called_at, connected_at, of_name, statement_at, placed_at, port_at, interface_at, input_at, event_at, events_at, inputs_at, outputs_at, body_at, component_at, import_at, imports_at, file_at}
 

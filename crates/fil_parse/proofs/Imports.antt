@@ -1,10 +1,10 @@
 -- Imports are read and dropped.
-use Rattle.std.proofs.Common.{◌≡◌, ◌-◌, List, [], ◌∷◌, length, Result, Ok, Err, refl, ap, ◌∙◌, arith}
+use Rattle.std.proofs.Common.{◌≡◌, ◌-◌, List, [], ◌∷◌, length, Result, Ok, Err, refl, ap, arith}
 use Rattle.hw_grammar.specs.declared.sort.Sort.TheVariants.{Import}
 use Rattle.hw_grammar.specs.declared.terminal.Terminal.{Terminal}
 use Rattle.hw_grammar.specs.declared.end.ReadEnd.{ReadEnd}
 use Rattle.hw_grammar.specs.declared.end.ReadEnd.TheVariants as ends
-use Rattle.hw_grammar.specs.Reading.{Reader, ◌>>=◌, times, many, with_front, Fails}
+use Rattle.hw_grammar.specs.Reading.{◌>>=◌, times, many, with_front, Fails}
 use Rattle.fil_parse.specs.Reading.{import_at, imports_at}
 
 all_of : (r : Result (List (Unit {0}) × List Terminal) (List Terminal)) → with_front [] r ≡ r

@@ -1,12 +1,11 @@
 -- Inputs are split into interface ports and data ports, one after the other.
 use Rattle.std.proofs.Common.{◌≡◌, ℕ, ◌+◌, ◌<◌, List, [], ◌∷◌, ◌++◌, length, map, take, get_or, refl, sym, ap, ◌∙◌}
-use Rattle.std.proofs.lemmas.List.{append-nil, map_push, take_more}
+use Rattle.std.proofs.lemmas.List.{map_push, take_more}
 use Rattle.hw_names.specs.Name.{Text}
 use Rattle.fil_ast.specs.declared.tree.GoPort.{GoPort}
 use Rattle.fil_ast.specs.declared.tree.FilPort.{FilPort}
 use Rattle.fil_ast.specs.Tree.{Interface, DataPort, interface_tree, port_tree}
 use Rattle.fil_parse.specs.declared.input.InputPort.{InputPort}
-use Rattle.fil_parse.specs.declared.input.InputPort.TheVariants as inputs
 use Rattle.fil_parse.specs.Grammar.{Input, InterfacePort, DataInput, interfaces_of, data_of}
 use Rattle.fil_parse.specs.Inputs.{input_tree}
 

@@ -1,6 +1,5 @@
 -- What reading the terminals of a text tells of the text.
-use Rattle.std.proofs.Common.{◌≡◌, ℕ, ◌-◌, ◌≤◌, List, length, Result, Ok, Err, refl, sym, subst, arith}
-use Rattle.std.specs.Prelude.{IfErr}
+use Rattle.std.proofs.Common.{◌≡◌, ℕ, ◌-◌, ◌≤◌, List, length, Result, Ok, Err, subst, arith}
 use Rattle.hw_names.specs.Name.{Text}
 use Rattle.hw_lex.specs.declared.token.Dialect.{Dialect}
 use Rattle.hw_lex.specs.declared.token.Dialect.TheVariants.{Fil}

@@ -1,14 +1,14 @@
 -- What one text spells with two lists of names: each rule passes from the one to the other, and what it spells can be written.
-use Rattle.std.proofs.Common.{◌≡◌, ◌≢◌, ℕ, ◌<◌, ◌^◌, List, [], ◌∷◌, Option, Some, None, refl, sym, subst, arith}
+use Rattle.std.proofs.Common.{◌≡◌, ◌≢◌, ℕ, List, [], ◌∷◌, Option, Some, None, refl, arith}
 use Rattle.std.specs.List.{AllByRecursion}
 use Rattle.hw_names.specs.Name.{Text}
 use Rattle.hw_lex.specs.declared.token.Dialect.TheVariants.{Fil}
 use Rattle.hw_grammar.specs.declared.sort.Sort.TheVariants.{Comp, New, Interface, Import, At, LeftBracket, RightBracket, LeftParen, RightParen, LeftAngle, RightAngle, LeftBrace, RightBrace, Comma, Colon, ColonEquals, Semicolon, Equals, Plus, Dot, Arrow}
 use Rattle.hw_grammar.specs.declared.sort.Sort.TheVariants as sorts
 use Rattle.hw_grammar.specs.declared.terminal.Terminal.{Terminal}
-use Rattle.hw_grammar.specs.Grammar.{Lang, One, Empty, Mapped, AnyWord, AnyNumber, AnyLiteral, Then, Either, Optional, After, Closed, Between, Many, Separated, Listed}
+use Rattle.hw_grammar.specs.Grammar.{One, Empty, Mapped, AnyWord, AnyNumber, AnyLiteral, Then, Either, Optional, After, Closed, Between, Many, Separated, Listed}
 use Rattle.hw_grammar.specs.Words.{IsWritten}
-use Rattle.hw_grammar.proofs.Passing.{ArePairs, Passes, Both, OfEach, OfSome, passes-one, passes-empty, passes-mapped, passes-weaker, passes-then, passes-either, passes-optional, passes-mark, passes-closed, passes-between, passes-many, passes-separated, passes-listed}
+use Rattle.hw_grammar.proofs.Passing.{Passes, Both, OfEach, OfSome, passes-one, passes-empty, passes-mapped, passes-weaker, passes-then, passes-either, passes-optional, passes-mark, passes-closed, passes-between, passes-many, passes-separated, passes-listed}
 use Rattle.hw_grammar.proofs.Alike.{IsAlike, same_sorts, passes-any_word, passes-any_number, passes-any_literal}
 use Rattle.fil_ast.specs.Tree.{Event, DataPort, InputValue, Giving, Statement}
 use Rattle.fil_parse.specs.Grammar.{time_from, output_from, literal_from, giving_from, new_from, call_from, connect_from, port_from, interface_from, Input, InterfacePort, DataInput, interfaces_of, data_of, event_from, component_from, design_from, IsTime, IsValue, IsCall, AreParameters, IsStatement, IsPlacedPort, IsPort, IsNamedInterface, IsInput, IsEvent, AreEvents, AreInputs, AreOutputs, IsBody, IsComponent, IsImport, AreImports, IsFile}

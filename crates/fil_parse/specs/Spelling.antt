@@ -1,5 +1,5 @@
 -- What a Filament text spells, and how reading ends where it spells nothing or keeps no limit. Filament, PLDI 2023, in this project's profile.
-use Rattle.std.specs.Prelude.{◌≡◌, ℕ, ◌<◌, ◌≤◌, Bool, nat_lt, List, [], ◌∷◌, ◌++◌, map, find, flat_map, Option, Some, None}
+use Rattle.std.specs.Prelude.{◌≡◌, ℕ, ◌<◌, ◌≤◌, Bool, nat_lt, List, [], ◌∷◌, ◌++◌, map, find, flat_map, Option, Some}
 use Rattle.hw_names.specs.Name.{Text}
 use Rattle.hw_lex.specs.declared.token.Dialect.TheVariants.{Fil}
 use Rattle.hw_lex.specs.declared.token.Token.{Token}

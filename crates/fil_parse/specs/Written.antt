@@ -1,6 +1,6 @@
 -- What designs are like that some text spells: their names are names of the grammar, their numbers can be written, and no list is empty
 -- where the grammar asks for one item at least. This project's.
-use Rattle.std.specs.Prelude.{◌≢◌, List, []}
+use Rattle.std.specs.Prelude.{◌≢◌, []}
 use Rattle.std.specs.List.{AllByRecursion}
 use Rattle.hw_names.specs.Name.{Text}
 use Rattle.hw_lex.specs.declared.token.Dialect.TheVariants.{Fil}

@@ -116,7 +116,6 @@ pub fn one_design()
 #[cfg(test)]
 mod tests {
     use super::*;
-    use fil_ast::{Stmt, Time, Value};
     use std::test::Fail;
 
     const ENDS: [(&str, FilTextEnd); 14] = [
@@ -171,51 +170,5 @@ mod tests {
         let end = parse_fil(rt.alloc(), &text).err();
         assert_eq!(rt; end, Some(FilTextEnd::Nesting { count: 65 }));
         Ok(())
-    }
-
-    #[test]
-    fn reads_lists_with_a_comma_more(rt: HostRuntime) {
-        let text =
-            b"comp A<G: 3, H: 2>(@[G, G+1] a: 8, @interface[G] go: 1, ) -> (@[H+1, H+2] o: 8,) {
-            v := new B<G, H+4>(a, 8'xfF,); /* one */ o = v.out; }";
-        let read = parse_fil(rt.alloc(), text);
-        assert!(rt; read.is_ok());
-        let design = read.unwrap();
-        assert!(rt; design.comps.len() == 1);
-        let comp = &design.comps[0];
-        assert!(rt;
-            comp.gos.len() == 1
-                && comp.ins.len() == 1
-                && comp.outs.len() == 1
-                && comp.body.len() == 2
-        );
-        assert_eq!(rt; comp.events[1].delay, 2);
-        assert_eq!(rt; comp.gos[0].event, comp.events[0].name);
-        assert_eq!(rt;
-            comp.ins[0].to,
-            Time {
-                event: comp.events[0].name,
-                plus: 1
-            }
-        );
-        match &comp.body[0] {
-            Stmt::Both {
-                params,
-                at,
-                args,
-                ..
-            } => {
-                assert!(rt; params.len() == 0 && at.len() == 2 && args.len() == 2);
-                assert_eq!(rt; at[1].plus, 4);
-                assert_eq!(rt;
-                    args[1],
-                    Value::Lit {
-                        width: 8,
-                        value: 255
-                    }
-                );
-            }
-            _ => assert!(rt; false),
-        }
     }
 }

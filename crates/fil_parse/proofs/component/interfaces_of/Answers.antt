@@ -1,4 +1,4 @@
-use Rattle.std.proofs.Common.{◌≡◌, map, take, sym, ◌∙◌}
+use Rattle.std.proofs.Common.{sym, ◌∙◌}
 use Rattle.std.proofs.lemmas.List.{append-nil, map_push}
 use Rattle.fil_ast.specs.Tree.{interface_tree}
 use Rattle.fil_parse.specs.declared.input.InputPort.TheVariants as inputs

@@ -1,4 +1,4 @@
-use Rattle.std.proofs.Common.{sym, refl}
+use Rattle.std.proofs.Common.{sym}
 use Rattle.fil_parse.specs.Offsets.{of_component}
 use Rattle.fil_parse.specs.Spelling.{is_large}
 use Rattle.fil_parse.proofs.Finding.{found, passed}

@@ -1,4 +1,4 @@
-use Rattle.std.proofs.Common.{◌≡◌, List, sym, ap, ◌∙◌}
+use Rattle.std.proofs.Common.{List, sym, ap, ◌∙◌}
 use Rattle.std.specs.Prelude.{find, flat_map}
 use Rattle.fil_ast.specs.declared.tree.EventDef.{EventDef}
 use Rattle.fil_ast.specs.declared.tree.FilPort.{FilPort}

@@ -1,5 +1,3 @@
-use Rattle.std.proofs.Common.{◌≡◌, subst, sym}
-use Rattle.fil_parse.specs.Spelling.{IsRefusedAt}
 use Rattle.fil_parse.proofs.Parsed.{read_spelled, read_within, read_refused}
 use Rattle.fil_parse.proofs.parse.read_tokens.Goals as goal
 

@@ -1,4 +1,4 @@
-use Rattle.std.proofs.Common.{◌≡◌, [], ◌∷◌, length, sym}
+use Rattle.std.proofs.Common.{[], ◌∷◌, length, sym}
 use Rattle.std.proofs.lemmas.Result.{err_from_is_err_and}
 use Rattle.hw_grammar.proofs.Loop.{goes_on, stops, fails}
 use Rattle.hw_grammar.specs.declared.sort.Sort.TheVariants.{Comma}
