@@ -4,12 +4,12 @@ pub mod LineLemmas
 pub mod RowLemmas
 pub mod PortLemmas
 pub mod NetLaws
+pub mod MemoryLemmas
 pub mod VerdictLemmas
 pub mod EndingLemmas
 pub mod InputLemmas
 pub mod StandLemmas
 pub mod StreamLemmas
 pub mod InputPortLemmas
-mod BuiltLemmas
-mod RowsLemmas
+mod LoadLemmas
 pub mod RunLemmas

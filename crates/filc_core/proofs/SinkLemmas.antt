@@ -38,6 +38,11 @@ nil-append_left : (xs ys : Text) → xs ++ ys ≡ [] → xs ≡ []
 nil-append_left [] ys none = refl
 nil-append_left (x ∷ xs) ys none = cc none
 
+-- what was told is kept
+pub keeps_all : (told : Option Text) → Keeps told told
+keeps_all None = tt
+keeps_all (Some xs) = refl
+
 pub keeps_none : (old new : Option Text) → Appends old new [] → Keeps old new
 keeps_none None new gained = tt
 keeps_none (Some xs) None gained = gained

@@ -6,11 +6,12 @@ use Rattle.hw_io.specs.Reading.{IsReadFault}
 use Rattle.hw_io.specs.Writing.{AppendsPrefix}
 use Rattle.hw_names.specs.Name.{Text}
 use Rattle.filc_core.specs.Lines.{as_line, read_fault_line}
-use Rattle.filc_core.specs.Request.{Request, file_of, Asks, AskNothing}
+use Rattle.filc_core.specs.Request.{Request, CheckOf, RowsOf, file_of, Asks, AskNothing}
 use Rattle.net_core.specs.Netlist.{Netlist}
-use Rattle.filc_core.specs.Verdict.{Verdict, AsksForRun}
+use Rattle.filc_core.specs.Verdict.{Verdict, ReadsNet}
 use Rattle.filc_core.specs.declared.ended.Ended.{Ended}
 use Rattle.filc_core.specs.declared.ended.Ended.TheVariants.{Done, Usage, ReadFault, WriteFault, Memory, Stimulus, Conflict}
+use Rattle.filc_core.specs.declared.limits.TheConstants.{MOST_CYCLES}
 
 -- the answer is a verdict's, and not one for a fault or for want of memory
 abbrev pub IsVerdictEnd : Ended → Type 0
@@ -78,13 +79,18 @@ pub record MeetsNoFault (words : List Text) (names : List Text) (before after : 
   pub reported : out_rose → ⊥
   pub told : err_rose → ⊥
 
--- an answer where the words ask for a run that there is
-abbrev pub IsRunEnd : Ended → Type 0
-IsRunEnd Done = Unit {0}
-IsRunEnd Conflict = Unit {0}
-IsRunEnd Memory = Unit {0}
-IsRunEnd ended = ⊥
+-- the file gives what is asked for, and no limit stands against it
+abbrev pub IsGranted : List Text → (Text → Option Text) → Request → Type 0
+IsGranted words contents (CheckOf file) = (n : Netlist) × ReadsNet words contents (CheckOf file) n
+IsGranted words contents (RowsOf file cycles) = (n : Netlist) × ReadsNet words contents (RowsOf file cycles) n × (cycles ≤ MOST_CYCLES)
 
--- what is asked for is run: no fault and no limit stands against it
+-- the answers to what is granted: a run may end in a Conflict, and memory may be wanting
+abbrev pub IsEndOf : Request → Ended → Type 0
+IsEndOf r Done = Unit {0}
+IsEndOf (RowsOf file cycles) Conflict = Unit {0}
+IsEndOf r Memory = Unit {0}
+IsEndOf r ended = ⊥
+
+-- what is granted is done: no fault stands against it
 abbrev pub IsComplete : List Text → (Text → Option Text) → Ended → Type 0 → Type 0
-IsComplete words contents ended no_fault = (n : Netlist) (cycles : ℕ) → AsksForRun words contents n cycles → no_fault → IsRunEnd ended
+IsComplete words contents ended no_fault = (r : Request) → IsGranted words contents r → no_fault → IsEndOf r ended

@@ -3,12 +3,14 @@ pub use Rattle.hw_io.specs.Reading
 pub use Rattle.hw_io.specs.Writing
 pub use Rattle.net_core.specs.NetRun
 pub use Rattle.net_text.specs.Reading as NetReading
+pub use Rattle.hw_lex.specs.Nesting
 pub mod Request
 pub mod Words
 pub mod Lines
 pub mod Rows
 pub mod Status
 pub mod Stops
+pub mod NetFile
 pub mod Verdict
 pub mod Ending
 pub mod Report

@@ -1,5 +1,5 @@
 -- The line of each refusal, without its line feed. This project's.
-use Rattle.std.specs.Prelude.{ℕ, [], ◌∷◌, ◌++◌, codes, decimal}
+use Rattle.std.specs.Prelude.{ℕ, List, [], ◌∷◌, ◌++◌, codes, decimal, flat_map}
 use Rattle.hw_names.specs.Name.{Text}
 
 abbrev pub usage_line : Text
@@ -15,8 +15,25 @@ memory_line = codes "out of memory"
 abbrev pub limit_line : Text → ℕ → ℕ → Text
 limit_line name count limit = codes "limit " ++ name ++ codes " " ++ decimal count ++ codes " over " ++ decimal limit
 
-abbrev pub not_built_line : Text
-not_built_line = codes "refused not built"
+-- a text without the grammar, and the byte at which it is refused
+abbrev pub grammar_line : ℕ → Text
+grammar_line place = codes "refused grammar at byte " ++ decimal place
+
+-- a rule of netlists: N and its number
+abbrev pub net_rule : ℕ → Text
+net_rule number = codes "N" ++ decimal number
+
+-- the first broken rule, in the design with this name and at this item
+abbrev pub rule_line : Text → Text → ℕ → Text
+rule_line rule name item = codes "refused " ++ rule ++ codes " " ++ name ++ codes " item " ++ decimal item
+
+-- a space before each port
+abbrev pub spaced : List Text → Text
+spaced ports = flat_map (λ port. codes " " ++ port) ports
+
+-- the rule against loops is broken at item 0, by this cycle of ports
+abbrev pub loop_line : Text → Text → List Text → Text
+loop_line rule name ports = rule_line rule name 0 ++ codes " loop" ++ spaced ports
 
 abbrev pub conflict_line : ℕ → Text → Text
 conflict_line cycle port = codes "conflict cycle " ++ decimal cycle ++ codes " port " ++ port

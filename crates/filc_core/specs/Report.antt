@@ -3,7 +3,7 @@ use Rattle.std.specs.Prelude.{List, [], Option, Result, Ok, Err}
 use Rattle.std.specs.Io.KnownBytes.{Appends, Keeps}
 use Rattle.hw_names.specs.Name.{Text}
 use Rattle.filc_core.specs.Ending.{HasPartOfReport}
-use Rattle.filc_core.specs.Stops.{ended_of, line_of}
+use Rattle.filc_core.specs.Stops.{answer_of, refusal_line}
 use Rattle.filc_core.specs.Verdict.{Verdict}
 use Rattle.filc_core.specs.declared.ended.Ended.{Ended}
 use Rattle.filc_core.specs.declared.ended.Ended.TheVariants.{Done}
@@ -19,9 +19,9 @@ pub record HasReport (words : List Text) (contents : Text → Option Text) (ende
 -- why the command stopped, and what of its report is there
 abbrev pub LeavesAt : List Text → (Text → Option Text) → Text → Stop → Option Text → Option Text → Type 0
 LeavesAt words contents file stop.ReadFault out out' = Keeps out out'
+LeavesAt words contents file (stop.Refused why) out out' = HasReport words contents (answer_of why) (refusal_line why) out out'
 LeavesAt words contents file stop.WriteFault out out' = HasPartOfReport words contents out out'
 LeavesAt words contents file stop.Memory out out' = HasPartOfReport words contents out out'
-LeavesAt words contents file why out out' = HasReport words contents (ended_of why) (line_of file why) out out'
 
 -- what a command that reads this file leaves in the sink
 abbrev pub Leaves : List Text → (Text → Option Text) → Text → Result (Unit {0}) Stop → Option Text → Option Text → Type 0

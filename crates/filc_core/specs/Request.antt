@@ -3,11 +3,14 @@ use Rattle.std.specs.Prelude.{◌≡◌, ◌≢◌, ℕ, ◌<◌, ◌^◌, List,
 use Rattle.hw_names.specs.Name.{Text}
 
 pub data Request : Type 0 where
-  -- the rows of a netlist's outputs, for so many cycles
+  -- whether a netlist keeps the rules
+  CheckOf : (file : Text) → Request
+  -- the rows of a netlist's outputs, for so many cycles, and then its shown memories
   RowsOf : (file : Text) (cycles : ℕ) → Request
 
 -- the file that a request reads
 abbrev pub file_of : Request → Text
+file_of (CheckOf file) = file
 file_of (RowsOf file cycles) = file
 
 -- a word that isn't an option: it doesn't begin with a dash (45)
@@ -33,6 +36,7 @@ HasSignOrZero word = (slice_index word 0 ≡ 43) ⊎ ((slice_index word 0 ≡ 48
 
 -- the words ask for this, exactly
 abbrev pub Asks : List Text → Request → Type 0
+Asks words (CheckOf file) = (words ≡ codes "check" ∷ file ∷ []) × IsFileName (codes ".net") file
 Asks words (RowsOf file cycles) =
     (count : Text) × (words ≡ codes "rows" ∷ file ∷ count ∷ []) × IsFileName (codes ".net") file × IsCount count cycles
 

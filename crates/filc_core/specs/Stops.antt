@@ -4,10 +4,12 @@ use Rattle.std.specs.Borrow.{Bor}
 use Rattle.std.specs.Io.KnownBytes.{Appends}
 use Rattle.hw_io.specs.Writing.{AppendsPrefix}
 use Rattle.hw_names.specs.Name.{Text}
-use Rattle.filc_core.specs.Lines.{as_line, read_fault_line, limit_line, not_built_line, conflict_line, memory_line}
+use Rattle.filc_core.specs.Lines.{as_line, read_fault_line, limit_line, grammar_line, net_rule, rule_line, loop_line, conflict_line, memory_line}
 use Rattle.filc_core.specs.declared.ended.Ended.{Ended}
 use Rattle.filc_core.specs.declared.ended.Ended.TheVariants.{Refused, ReadFault, WriteFault, Memory, Conflict, Limit}
-use Rattle.filc_core.specs.declared.limits.TheConstants.{MOST_NET_BYTES, MOST_CYCLES}
+use Rattle.filc_core.specs.declared.limits.TheConstants.{MOST_NET_BYTES, MOST_NET_NESTING, MOST_WEIGHT, MOST_WORDS, MOST_CYCLES}
+use Rattle.filc_core.specs.declared.refusal.Refusal.{Refusal}
+use Rattle.filc_core.specs.declared.refusal.Refusal.TheVariants as refusal
 use Rattle.filc_core.specs.declared.stop.Stop.{Stop}
 use Rattle.filc_core.specs.declared.stop.Stop.TheVariants as stop
 
@@ -15,22 +17,38 @@ use Rattle.filc_core.specs.declared.stop.Stop.TheVariants as stop
 abbrev pub joined : List (Bor Text) → Text
 joined texts = flat_map (λ (text : Bor Text). text.now) texts
 
+abbrev pub answer_of : Refusal → Ended
+answer_of refusal.SourceTooLong = Limit
+answer_of (refusal.NestsTooDeep depth) = Limit
+answer_of (refusal.HasNoGrammar at) = Refused
+answer_of (refusal.BreaksRule rule name item) = Refused
+answer_of (refusal.HasLoop name ports) = Refused
+answer_of (refusal.IsTooHeavy weight) = Limit
+answer_of (refusal.HasTooManyWords words) = Limit
+answer_of (refusal.TooManyCycles cycles) = Limit
+answer_of (refusal.Conflict cycle port) = Conflict
+
+abbrev pub refusal_line : Refusal → Text
+refusal_line refusal.SourceTooLong = limit_line (codes "source") (MOST_NET_BYTES + 1) MOST_NET_BYTES
+refusal_line (refusal.NestsTooDeep depth) = limit_line (codes "nesting") depth MOST_NET_NESTING
+refusal_line (refusal.HasNoGrammar at) = grammar_line at
+refusal_line (refusal.BreaksRule rule name item) = rule_line (net_rule rule) name item
+refusal_line (refusal.HasLoop name ports) = loop_line (net_rule 6) name ports.items
+refusal_line (refusal.IsTooHeavy weight) = limit_line (codes "weight") weight MOST_WEIGHT
+refusal_line (refusal.HasTooManyWords words) = limit_line (codes "words") words MOST_WORDS
+refusal_line (refusal.TooManyCycles cycles) = limit_line (codes "cycles") cycles MOST_CYCLES
+refusal_line (refusal.Conflict cycle port) = conflict_line cycle port
+
 abbrev pub ended_of : Stop → Ended
 ended_of stop.ReadFault = ReadFault
-ended_of stop.TooLong = Limit
-ended_of stop.NotBuilt = Refused
-ended_of (stop.TooManyCycles cycles) = Limit
-ended_of (stop.Conflict cycle port) = Conflict
+ended_of (stop.Refused why) = answer_of why
 ended_of stop.WriteFault = WriteFault
 ended_of stop.Memory = Memory
 
 -- the line that tells it, where the file is the one that was read; a report that couldn't be written has none
 abbrev pub line_of : Text → Stop → Text
 line_of file stop.ReadFault = read_fault_line file
-line_of file stop.TooLong = limit_line (codes "source") (MOST_NET_BYTES + 1) MOST_NET_BYTES
-line_of file stop.NotBuilt = not_built_line
-line_of file (stop.TooManyCycles cycles) = limit_line (codes "cycles") cycles MOST_CYCLES
-line_of file (stop.Conflict cycle port) = conflict_line cycle port
+line_of file (stop.Refused why) = refusal_line why
 line_of file stop.WriteFault = []
 line_of file stop.Memory = memory_line
 

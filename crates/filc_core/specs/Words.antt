@@ -1,8 +1,9 @@
 -- The program's own values, as what they say.
-use Rattle.filc_core.specs.Request.{Request, RowsOf}
+use Rattle.filc_core.specs.Request.{Request, CheckOf, RowsOf}
 use Rattle.filc_core.specs.declared.request.Request.{Request as RequestValue}
-use Rattle.filc_core.specs.declared.request.Request.TheVariants.{Rows}
+use Rattle.filc_core.specs.declared.request.Request.TheVariants.{Check, Rows}
 
 -- what a command asks for
 abbrev pub request_of : RequestValue → Request
+request_of (Check file) = CheckOf file.now
 request_of (Rows file cycles) = RowsOf file.now cycles

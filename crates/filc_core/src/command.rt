@@ -11,6 +11,7 @@ ghost use Rattle.filc_core.specs.Ending.{IsVerdictEnd, IsCalledFor, AreTold, IsA
 ghost use Rattle.filc_core.specs.Lines.{as_line, usage_line, memory_line};
 ghost use Rattle.filc_core.specs.Stops.{IsLineTold};
 
+use crate::check::check;
 use crate::ended::Ended;
 use crate::request::{Request, asked};
 use crate::rows::rows;
@@ -80,6 +81,7 @@ fn perform<F: Files, O: Sink>(
     ensures never_falls { O.faults out.old ≤ O.faults out.new }
 {
     match request {
+        Request::Check { file } => check(alloc, file, files, out),
         Request::Rows { file, cycles } => rows(alloc, file, cycles, files, out),
     }
 }

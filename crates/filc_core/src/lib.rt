@@ -1,11 +1,15 @@
 //! The program's one top call: from the words to the answer.
 #![tactic(auto)]
 
-mod built;
+mod check;
 mod command;
 mod ended;
 mod inputs;
 mod limits;
+mod line;
+mod memories;
+mod net_file;
+mod refusal;
 mod report;
 mod request;
 mod rows;
@@ -14,7 +18,7 @@ mod stream;
 
 pub use command::filc;
 pub use ended::Ended;
-pub use limits::{MOST_CYCLES, MOST_NET_BYTES};
+pub use limits::{MOST_CYCLES, MOST_NET_BYTES, MOST_NET_NESTING, MOST_WEIGHT, MOST_WORDS};
 pub use stream::{Drive, RowEnd, stream_rows};
 
 #[cfg(test)]

@@ -13,7 +13,11 @@ use net_sim::Sim;
 use std::ops::Range;
 
 /// Passes the texts on, one after another.
-fn push_texts<O: Sink>(held: &mut Gather, out: &mut O, texts: &[&[u8]]) -> Result<(), Failed>
+pub(crate) fn push_texts<O: Sink>(
+    held: &mut Gather,
+    out: &mut O,
+    texts: &[&[u8]],
+) -> Result<(), Failed>
     ensures passed { OnOk result (Passes (O.written out.old) held.old (O.written out.new) held.new (joined texts.now)) }
     ensures prefix { OnErr result (AppendsPrefix (O.written out.old) (O.written out.new) (held.old ++ joined texts.now)) }
     ensures emptied { OnErr result (held.new ≡ []) }

@@ -6,6 +6,8 @@ ghost use Rattle.filc_core.specs.Words.{request_of};
 /// A command with its arguments.
 #[derive(Clone, Copy, Debug, PartialEq, Eq)]
 pub(crate) enum Request<'a> {
+    /// Whether a netlist keeps the rules.
+    Check { file: &'a str },
     /// The rows of a netlist's outputs, for so many cycles.
     Rows { file: &'a str, cycles: u64 },
 }
@@ -16,7 +18,7 @@ impl<'a> Request<'a> {
         ensures { result.now ≡ file_of (request_of self.entry) }
     {
         match self {
-            Request::Rows { file, .. } => file,
+            Request::Check { file } | Request::Rows { file, .. } => file,
         }
     }
 }
@@ -27,6 +29,7 @@ pub(crate) fn asked<'a>(words: &[&'a str]) -> Option<Request<'a>>
         (λ request. Asks (map (λ w. w.now) words.now) (request_of request)) }
 {
     match words {
+        ["check", file] if is_file_name(file, ".net") => Some(Request::Check { file }),
         ["rows", file, count] if is_file_name(file, ".net") => {
             let cycles = count_of(count)?;
             Some(Request::Rows { file, cycles })

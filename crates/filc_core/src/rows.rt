@@ -9,19 +9,21 @@ ghost use Rattle.hw_bits.specs.declared.bits.TheConstants.{MAX_WIDTH};
 ghost use Rattle.net_core.specs.Netlist.{netlist_of};
 ghost use Rattle.net_core.specs.Rules.{IsValid};
 ghost use Rattle.net_core.specs.Table.{IsTableOf};
-ghost use Rattle.filc_core.specs.Built.{IsBuiltFrom};
+ghost use Rattle.filc_core.specs.Built.{IsReady};
 ghost use Rattle.filc_core.specs.Report.{Leaves};
 ghost use Rattle.filc_core.specs.Request.{RowsOf, Asks};
 ghost use Rattle.filc_core.specs.Slots.{HasNumbers};
 ghost use Rattle.filc_core.specs.Verdict.{AsksForRun};
 
-use crate::built::{Built, build};
-use crate::limits::{MOST_CYCLES, MOST_NET_BYTES};
+use crate::limits::MOST_CYCLES;
+use crate::memories::finish;
+use crate::net_file::{Built, load};
+use crate::refusal::Refusal;
 use crate::report::name_of;
 use crate::stop::Stop;
 use crate::stream::{Drive, RowEnd, stream_rows};
 use hw_bits::{Bits, Memory};
-use hw_io::{Failed, Files, Gather, ReadEnd, Sink, read_whole};
+use hw_io::{Failed, Files, Gather, Sink};
 use hw_names::Word;
 use net_core::{CycleList, PortInfo, Table};
 use net_sim::Sim;
@@ -44,22 +46,16 @@ pub(crate) fn rows<F: Files, O: Sink>(
     ensures write_fault { IsErrOf result Stop.WriteFault → Rose (O.faults out.old) (O.faults out.new) }
     ensures never_falls { O.faults out.old ≤ O.faults out.new }
 {
-    let text = match read_whole(alloc, files, file, MOST_NET_BYTES) {
-        Ok(text) => text,
-        Err(ReadEnd::Fault) => return Err(Stop::ReadFault),
-        Err(ReadEnd::TooLong) => return Err(Stop::TooLong),
-        Err(ReadEnd::Memory) => return Err(Stop::Memory),
-    };
-    let built = build(alloc, &text)?;
+    let built = load(alloc, file, files)?;
     if cycles > MOST_CYCLES {
-        return Err(Stop::TooManyCycles { cycles });
+        return Err(Stop::Refused(Refusal::TooManyCycles { cycles }));
     }
     run(alloc, &built, cycles, out)
 }
 
 /// Writes the rows of a netlist that can be run.
 fn run<O: Sink>(alloc: Global, built: &Built, cycles: u64, out: &mut O) -> Result<(), Stop>
-    requires { (text : Text) × IsBuiltFrom text built.now }
+    requires { IsReady built.now }
     ensures leaves { (words : List (List ℕ)) (contents : Text → Option Text) (file : Text) → AsksForRun words contents (netlist_of built.now.net) cycles
         → Leaves words contents file result (O.written out.old) (O.written out.new) }
     ensures read { IsErrOf result Stop.ReadFault → ⊥ }
@@ -85,13 +81,16 @@ fn run<O: Sink>(alloc: Global, built: &Built, cycles: u64, out: &mut O) -> Resul
         &mut held,
         out,
     );
-    if let RowEnd::WriteFault = end {
-        return Err(Stop::WriteFault);
-    }
-    held.flush(out)?;
     match end {
-        RowEnd::Conflict { cycle, port } => Err(conflict(alloc, &built.table, cycle, port)),
-        _ => Ok(()),
+        RowEnd::Done => {
+            finish(&sim, &built.net, &mut held, out)?;
+            Ok(())
+        }
+        RowEnd::Conflict { cycle, port } => {
+            held.flush(out)?;
+            Err(conflict(alloc, &built.table, cycle, port))
+        }
+        RowEnd::WriteFault => Err(Stop::WriteFault),
     }
 }
 
@@ -112,10 +111,10 @@ fn conflict(alloc: Global, table: &Table, cycle: u64, port: usize) -> Stop
     requires named { port < length table.now.names }
     requires numbers { HasNumbers table.now }
     ensures { (result ≡ Stop.Memory)
-        ⊎ ((name : Text) × (slice_get table.now.names port ≡ Some name) × (result ≡ Stop.Conflict cycle name)) }
+        ⊎ ((name : Text) × (slice_get table.now.names port ≡ Some name) × (result ≡ Stop.Refused (Refusal.Conflict cycle name))) }
 {
     match Word::make(alloc, name_of(table, port)) {
-        Ok(port) => Stop::Conflict { cycle, port },
+        Ok(port) => Stop::Refused(Refusal::Conflict { cycle, port }),
         Err(Memory) => Stop::Memory,
     }
 }

@@ -35,7 +35,25 @@ struct Case {
     line: &'static str,
 }
 
-const CASES: [Case; 12] = [
+const CASES: [Case; 15] = [
+    Case {
+        words: &["check", "counter.net"],
+        ended: Ended::Done,
+        report: "accepted\n",
+        line: "",
+    },
+    Case {
+        words: &["check", "bad.net"],
+        ended: Ended::Refused,
+        report: "",
+        line: "refused grammar at byte 8\n",
+    },
+    Case {
+        words: &["check", "counter.net", "5"],
+        ended: Ended::Usage,
+        report: "",
+        line: USAGE,
+    },
     Case {
         words: &["rows", "counter.net", "5"],
         ended: Ended::Done,
@@ -64,7 +82,7 @@ const CASES: [Case; 12] = [
         words: &["rows", "bad.net", "5"],
         ended: Ended::Refused,
         report: "",
-        line: "refused not built\n",
+        line: "refused grammar at byte 8\n",
     },
     Case {
         words: &["rows", "none.net", "5"],

@@ -1,9 +1,9 @@
 use Rattle.std.proofs.Common.{map, List, ℕ, Err, ap}
 use Rattle.std.specs.Borrow.{Bor}
 use Rattle.hw_io.proofs.WritingLemmas.{appends_none}
-use Rattle.filc_core.specs.Request.{RowsOf}
 use Rattle.filc_core.specs.Words.{request_of}
-use Rattle.filc_core.proofs.EndingLemmas.{unasked_verdict, unasked_write, stop_verdict, stop_read, stop_write, stop_memory, stop_called, stop_rose, run_ends}
+use Rattle.filc_core.proofs.EndingLemmas.{unasked_verdict, unasked_write, stop_verdict, stop_read, stop_write, stop_memory, stop_called, stop_rose, granted_ends}
+use Rattle.filc_core.proofs.VerdictLemmas.{granted_asks}
 use Rattle.filc_core.proofs.command.filc.Goals as goal
 
 abbrev words_of : List (Bor (List ℕ)) → List (List ℕ)
@@ -18,7 +18,7 @@ returns-in_default-clause-write_fault g c = λ is content.
     unasked_write (words_of c.args.words.now) (g.F.Files.content c.args.files.now) c.refuse_words.result _ _ _ _ (c.in_default.ensures) c.refuse_words.ensures.told _ _ _ _ is
 
 pub returns-in_default-clause-complete : goal.returns-in_default-clause-complete
-returns-in_default-clause-complete g c = λ n cycles asks no_fault. absurd (c.in_default.ensures (RowsOf asks.asks.file cycles) asks.asks.asks)
+returns-in_default-clause-complete g c = λ r granted no_fault. absurd (c.in_default.ensures r (granted_asks (words_of c.args.words.now) (g.F.Files.content c.args.files.now) r granted).1.asks)
 
 pub returns-in-Ok-clause-verdict : goal.returns-in-Ok-clause-verdict
 returns-in-Ok-clause-verdict g c = λ is content.
@@ -47,8 +47,8 @@ returns-in-Err-clause-memory g c = λ is content.
     (c.in-Err.ensures.leaves (words_of c.args.words.now) c.in-Some.ensures) (rw c.file.ensures at c.tell.ensures.told) is content
 
 pub returns-in-Err-clause-complete : goal.returns-in-Err-clause-complete
-returns-in-Err-clause-complete g c = λ n cycles asks no_fault.
-    run_ends (words_of c.args.words.now) (g.F.Files.content c.args.files.now) (g.F.Files.names c.args.files.now) (g.F.Files.faults c.args.files.now) (g.F.Files.faults c.perform.new.files) _ _ _ _ _ _ n cycles asks no_fault c.tell.result
+returns-in-Err-clause-complete g c = λ r granted no_fault.
+    granted_ends (words_of c.args.words.now) (g.F.Files.content c.args.files.now) (g.F.Files.names c.args.files.now) (g.F.Files.faults c.args.files.now) (g.F.Files.faults c.perform.new.files) _ _ _ _ _ _ r granted no_fault c.tell.result
     (returns-in-Err-clause-verdict g c)
     (stop_called (words_of c.args.words.now) (g.F.Files.content c.args.files.now) (request_of c.in-Some.request) c.tell.result (g.O.Sink.written c.args.out.now) (g.O.Sink.written c.args.out.now) _ _ _ c.in-Some.ensures c.in-Err.stop (rw c.file.ensures at c.tell.ensures.told))
     (returns-in-Err-clause-read_fault g c)

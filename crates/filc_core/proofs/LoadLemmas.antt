@@ -1,0 +1,112 @@
+-- From what the text of a file gives to the verdict on it.
+use Rattle.std.proofs.Common.{◌≡◌, ℕ, ◌+◌, ◌<◌, ◌≤◌, List, [], ◌∷◌, ◌++◌, length, map, take, get_or, Option, None, Some, refl, sym, ap, ap₂, ◌∙◌, subst, arith}
+use Rattle.std.proofs.lemmas.List.{take_more, take_all, map-append, length-map}
+use Rattle.std.proofs.lemmas.Option.{get_or_from_slice_get}
+use Rattle.std.specs.Prelude.{Result, Ok, Err, IsSome, IfSome, IfOk, IfErr, All, slice_get}
+use Rattle.std.specs.Result.{IsErrAnd}
+use Rattle.hw_io.proofs.WritingLemmas.{appends_none}
+use Rattle.hw_names.specs.Name.{Text}
+use Rattle.net_core.specs.Netlist.{Netlist, netlist_of}
+use Rattle.net_core.specs.Rules.{PortLine, ports_of, port_names, IsValid}
+use Rattle.net_sim.specs.Layout.{name_of}
+use Rattle.net_sim.specs.Order.{IsLeastLoopOf}
+use Rattle.filc_core.proofs.SinkLemmas.{keeps_all}
+use Rattle.filc_core.specs.Built.{IsBuiltFrom, IsUnbuilt, IsUnread, AreNamesOf}
+use Rattle.filc_core.specs.Ending.{HasPartOfReport}
+use Rattle.filc_core.specs.Lines.{net_rule, loop_line}
+use Rattle.filc_core.specs.NetFile.{GivesNet, IsTextOf, IsRefused, HasLoop}
+use Rattle.filc_core.specs.Report.{Leaves, LeavesAt}
+use Rattle.filc_core.specs.Request.{Request, file_of, Asks}
+use Rattle.filc_core.specs.Stops.{answer_of, refusal_line}
+use Rattle.filc_core.specs.Verdict.{Verdict, SourceTooLong, NetRefused, Reads, ReadsNet}
+use Rattle.filc_core.specs.declared.ended.Ended.TheVariants.{Refused}
+use Rattle.filc_core.specs.declared.limits.TheConstants.{MOST_NET_BYTES}
+use Rattle.filc_core.specs.declared.net_file.Built.{Built}
+use Rattle.filc_core.specs.declared.refusal.Refusal.TheVariants as refusal
+use Rattle.filc_core.specs.declared.stop.Stop.{Stop}
+use Rattle.filc_core.specs.declared.stop.Stop.TheVariants as stop
+
+some_text : (told : Option Text) → IsSome told → (bytes : Text) × (told ≡ Some bytes)
+some_text None is = cc
+some_text (Some bytes) is = (bytes, refl)
+
+-- what was read of a told content is that content
+told_is : (told : Option Text) (bytes : Text) → IsSome told → IfSome told (λ content. bytes ≡ content) → told ≡ Some bytes
+told_is None bytes is same = cc
+told_is (Some content) bytes is same = ap Some (sym same)
+
+module _ (words : List Text) (contents : Text → Option Text) (file : Text) (r : Request) (asks : Asks words r) (named : file_of r ≡ file) (told : IsSome (contents file)) where
+  content_is : (bytes : Text) → contents file ≡ Some bytes → contents (file_of r) ≡ Some bytes
+  content_is bytes is = subst (λ f. contents f ≡ Some bytes) (sym named) is
+
+  pub reads : (bytes : Text) → IfSome (contents file) (λ content. bytes ≡ content) → length bytes ≤ MOST_NET_BYTES → Reads words contents r bytes
+  reads bytes same within = record { asks = asks; told = content_is bytes (told_is (contents file) bytes told same); within = within }
+
+  pub reads_net : (bytes : Text) (n : Netlist) → IfSome (contents file) (λ content. bytes ≡ content) → length bytes ≤ MOST_NET_BYTES → GivesNet bytes n → ReadsNet words contents r n
+  reads_net bytes n same within gives = record { bytes = bytes; reads = reads bytes same within; gives = gives }
+
+  -- a file that is too long
+  pub too_long : IfSome (contents file) (λ content. MOST_NET_BYTES < length content) → Verdict words contents (answer_of refusal.SourceTooLong) [] (refusal_line refusal.SourceTooLong)
+  too_long long =
+      let bytes = some_text (contents file) told in
+      let over : MOST_NET_BYTES < length bytes.0 = subst (λ (o : Option Text). IfSome o (λ content. MOST_NET_BYTES < length content)) bytes.1 long in
+      SourceTooLong r bytes.0 asks (content_is bytes.0 bytes.1) over refl refl refl
+
+  unread : (bytes : Text) (why : Stop) → IfSome (contents file) (λ content. bytes ≡ content) → length bytes ≤ MOST_NET_BYTES → IsUnbuilt bytes why → IsUnread words contents why
+  unread bytes stop.ReadFault same within unbuilt = absurd unbuilt
+  unread bytes (stop.Refused why) same within unbuilt = NetRefused r bytes (reads bytes same within) unbuilt refl
+  unread bytes stop.WriteFault same within unbuilt = unbuilt
+  unread bytes stop.Memory same within unbuilt = tt
+
+  -- a text that gives no netlist to run
+  pub unread_text : {T : Type 0} (bytes : Text) (answer : Result T Stop) → IfSome (contents file) (λ content. bytes ≡ content) → length bytes ≤ MOST_NET_BYTES → IfErr answer (IsUnbuilt bytes) → IfErr answer (IsUnread words contents)
+  unread_text bytes (Ok value) same within unbuilt = tt
+  unread_text bytes (Err why) same within unbuilt = unread bytes why same within unbuilt
+
+  -- a text that gives a netlist
+  pub read_text : (bytes : Text) (answer : Result Built Stop) → IfSome (contents file) (λ content. bytes ≡ content) → length bytes ≤ MOST_NET_BYTES → IfOk answer (IsBuiltFrom bytes) → IfOk answer (λ (b : Built). ReadsNet words contents r (netlist_of b.net))
+  read_text bytes (Ok b) same within built = reads_net bytes (netlist_of b.net) same within built.gives
+  read_text bytes (Err why) same within built = tt
+
+-- an error that is passed on
+pub passed_on : {T : Type 0} (claim : Stop → Type 0) (answer : Result T Stop) (why : Stop) → IsErrAnd answer (λ other. other ≡ why) → claim why → IfErr answer claim
+passed_on claim (Ok value) why is holds = tt
+passed_on claim (Err other) why is holds = subst claim (sym is) holds
+
+-- nothing is a part of each report
+pub nothing_written : (words : List Text) (contents : Text → Option Text) (out : Option Text) → HasPartOfReport words contents out out
+nothing_written words contents out ended report line verdict = record { gained = []; left = report; in_order = refl; appended = appends_none out }
+
+-- a command that stopped before it wrote anything
+unread_leaves : (words : List Text) (contents : Text → Option Text) (file : Text) (why : Stop) (out : Option Text) → IsUnread words contents why → LeavesAt words contents file why out out
+unread_leaves words contents file stop.ReadFault out unread = keeps_all out
+unread_leaves words contents file (stop.Refused why) out unread = record { report = []; verdict = unread; reported = appends_none out }
+unread_leaves words contents file stop.WriteFault out unread = absurd unread
+unread_leaves words contents file stop.Memory out unread = nothing_written words contents out
+
+pub unread_report : (words : List Text) (contents : Text → Option Text) (file : Text) (answer : Result (Unit {0}) Stop) (why : Stop) (out : Option Text) → IsErrAnd answer (λ other. other ≡ why) → IsUnread words contents why → Leaves words contents file answer out out
+unread_report words contents file (Ok done) why out is unread = absurd is
+unread_report words contents file (Err other) why out is unread = unread_leaves words contents file other out (subst (IsUnread words contents) (sym is) unread)
+
+-- the names of ports with one more
+pub names_more : (names : List Text) (ports : List ℕ) (i d : ℕ) (texts : List Text) (text : Text) → i < length ports → slice_get names (get_or ports i d) ≡ Some text → AreNamesOf names (take i ports) texts → AreNamesOf names (take (i + 1) ports) (texts ++ text ∷ [])
+names_more names ports i d texts text within named are =
+    let name : get_or names (get_or ports i d) [] ≡ text = get_or_from_slice_get names (get_or ports i d) text [] named in
+    let last : take (i + 1) ports ≡ take i ports ++ get_or ports i d ∷ [] = take_more ports i d within in
+    sym (ap (map (λ (p : ℕ). get_or names p [])) last ∙ map-append (λ (p : ℕ). get_or names p []) (take i ports) (get_or ports i d ∷ []) ∙ ap₂ (λ (ts : List Text) (t : Text). ts ++ t ∷ []) (sym are) name)
+
+pub names_within : (names : List Text) (ports : List ℕ) (texts : List Text) (i : ℕ) → length ports ≤ i → AreNamesOf names (take i ports) texts → AreNamesOf names ports texts
+names_within names ports texts i long are = are ∙ ap (map (λ (p : ℕ). get_or names p [])) (take_all i ports long)
+
+-- the ports of the least loop are numbers of the table
+pub loop_within : (n : Netlist) (names : List Text) (ports : List ℕ) → names ≡ port_names (ports_of n) → IsLeastLoopOf n ports → All (λ (port : ℕ). port < length names) ports
+loop_within n names [] all least = absurd least
+loop_within n names (port ∷ ports) all least = λ k d inside.
+    let within = least.0 k d inside in omega (arith, within, ap length all, length-map (ports_of n) (λ (p : PortLine). p.name))
+
+-- a netlist with a loop is refused by its least
+pub loop_refused : (n : Netlist) (names : List Text) (ports : List ℕ) (name : Text) (texts : List Text) → IsValid n → names ≡ port_names (ports_of n) → IsLeastLoopOf n ports → name ≡ n.name → AreNamesOf names ports texts → (text : Text) → IsTextOf n text → IsRefused text Refused (loop_line (net_rule 6) name texts)
+loop_refused n names [] name texts valid all least named are text of = absurd least
+loop_refused n names (port ∷ ports) name texts valid all least named are text of =
+    HasLoop n (name_of n port) (map (name_of n) ports) of valid least.1 refl
+    (ap₂ (λ (t : Text) (ts : List Text). loop_line (net_rule 6) t ts) named (are ∙ ap (λ (ns : List Text). map (λ (p : ℕ). get_or ns p []) (port ∷ ports)) all))

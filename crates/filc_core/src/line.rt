@@ -1,0 +1,147 @@
+//! Lines of refusals, written into a sink.
+ghost use Rattle.std.specs.Prelude.{◌≤◌, OnOk, OnErr, map};
+ghost use Rattle.std.specs.Io.KnownBytes.{Appends};
+ghost use Rattle.hw_io.specs.Faults.{Rose};
+ghost use Rattle.hw_io.specs.Writing.{AppendsPrefix};
+ghost use Rattle.filc_core.specs.Lines.{as_line, read_fault_line, limit_line, grammar_line, net_rule, rule_line, spaced, loop_line, conflict_line};
+ghost use Rattle.filc_core.specs.Stops.{joined};
+
+use hw_io::{Failed, Sink, write_whole};
+use hw_names::Word;
+use itoa::Buffer;
+
+/// Writes the texts one after another.
+fn write_texts<S: Sink>(sink: &mut S, texts: &[&[u8]]) -> Result<(), Failed>
+    ensures appended { OnOk result (Appends (S.written sink.old) (S.written sink.new) (joined texts.now)) }
+    ensures prefix { OnErr result (AppendsPrefix (S.written sink.old) (S.written sink.new) (joined texts.now)) }
+    ensures failed { OnErr result (Rose (S.faults sink.old) (S.faults sink.new)) }
+    ensures never_falls { S.faults sink.old ≤ S.faults sink.new }
+{
+    for text in texts {
+        write_whole(sink, text)?;
+    }
+    Ok(())
+}
+
+/// Writes the line of a file that couldn't be read.
+pub(crate) fn write_read_fault<S: Sink>(sink: &mut S, file: &str) -> Result<(), Failed>
+    ensures appended { OnOk result (Appends (S.written sink.old) (S.written sink.new) (as_line (read_fault_line file.now))) }
+    ensures prefix { OnErr result (AppendsPrefix (S.written sink.old) (S.written sink.new) (as_line (read_fault_line file.now))) }
+    ensures failed { OnErr result (Rose (S.faults sink.old) (S.faults sink.new)) }
+    ensures never_falls { S.faults sink.old ≤ S.faults sink.new }
+{
+    let texts = ["read fault: ".as_bytes(), file.as_bytes(), "\n".as_bytes()];
+    write_texts(sink, &texts)
+}
+
+/// Writes the line of a count that is over its limit.
+pub(crate) fn write_limit<S: Sink>(
+    sink: &mut S,
+    name: &str,
+    count: u64,
+    limit: u64,
+) -> Result<(), Failed>
+    ensures appended { OnOk result (Appends (S.written sink.old) (S.written sink.new) (as_line (limit_line name.now count limit))) }
+    ensures prefix { OnErr result (AppendsPrefix (S.written sink.old) (S.written sink.new) (as_line (limit_line name.now count limit))) }
+    ensures failed { OnErr result (Rose (S.faults sink.old) (S.faults sink.new)) }
+    ensures never_falls { S.faults sink.old ≤ S.faults sink.new }
+{
+    let mut counted = Buffer::new();
+    let mut most = Buffer::new();
+    let texts = [
+        "limit ".as_bytes(),
+        name.as_bytes(),
+        " ".as_bytes(),
+        counted.format(count).as_bytes(),
+        " over ".as_bytes(),
+        most.format(limit).as_bytes(),
+        "\n".as_bytes(),
+    ];
+    write_texts(sink, &texts)
+}
+
+/// Writes the line of a text without the grammar.
+pub(crate) fn write_grammar<S: Sink>(sink: &mut S, place: u64) -> Result<(), Failed>
+    ensures appended { OnOk result (Appends (S.written sink.old) (S.written sink.new) (as_line (grammar_line place))) }
+    ensures prefix { OnErr result (AppendsPrefix (S.written sink.old) (S.written sink.new) (as_line (grammar_line place))) }
+    ensures failed { OnErr result (Rose (S.faults sink.old) (S.faults sink.new)) }
+    ensures never_falls { S.faults sink.old ≤ S.faults sink.new }
+{
+    let mut counted = Buffer::new();
+    let texts = [
+        "refused grammar at byte ".as_bytes(),
+        counted.format(place).as_bytes(),
+        "\n".as_bytes(),
+    ];
+    write_texts(sink, &texts)
+}
+
+/// Writes the line of a netlist's broken rule.
+pub(crate) fn write_rule<S: Sink>(
+    sink: &mut S,
+    rule: u8,
+    name: &[u8],
+    item: u64,
+) -> Result<(), Failed>
+    ensures appended { OnOk result (Appends (S.written sink.old) (S.written sink.new) (as_line (rule_line (net_rule rule) name.now item))) }
+    ensures prefix { OnErr result (AppendsPrefix (S.written sink.old) (S.written sink.new) (as_line (rule_line (net_rule rule) name.now item))) }
+    ensures failed { OnErr result (Rose (S.faults sink.old) (S.faults sink.new)) }
+    ensures never_falls { S.faults sink.old ≤ S.faults sink.new }
+{
+    let mut number = Buffer::new();
+    let mut place = Buffer::new();
+    let texts = [
+        "refused N".as_bytes(),
+        number.format(rule).as_bytes(),
+        " ".as_bytes(),
+        name,
+        " item ".as_bytes(),
+        place.format(item).as_bytes(),
+        "\n".as_bytes(),
+    ];
+    write_texts(sink, &texts)
+}
+
+/// Writes the ports, each after a space.
+fn write_ports<S: Sink>(sink: &mut S, ports: &[Word]) -> Result<(), Failed>
+    ensures appended { OnOk result (Appends (S.written sink.old) (S.written sink.new) (spaced ports.now)) }
+    ensures prefix { OnErr result (AppendsPrefix (S.written sink.old) (S.written sink.new) (spaced ports.now)) }
+    ensures failed { OnErr result (Rose (S.faults sink.old) (S.faults sink.new)) }
+    ensures never_falls { S.faults sink.old ≤ S.faults sink.new }
+{
+    for port in ports {
+        write_texts(sink, &[" ".as_bytes(), port.bytes()])?;
+    }
+    Ok(())
+}
+
+/// Writes the line of a netlist with a loop.
+pub(crate) fn write_loop<S: Sink>(sink: &mut S, name: &[u8], ports: &[Word]) -> Result<(), Failed>
+    ensures appended { OnOk result (Appends (S.written sink.old) (S.written sink.new) (as_line (loop_line (net_rule 6) name.now ports.now))) }
+    ensures prefix { OnErr result (AppendsPrefix (S.written sink.old) (S.written sink.new) (as_line (loop_line (net_rule 6) name.now ports.now))) }
+    ensures failed { OnErr result (Rose (S.faults sink.old) (S.faults sink.new)) }
+    ensures never_falls { S.faults sink.old ≤ S.faults sink.new }
+{
+    let front = ["refused N6 ".as_bytes(), name, " item 0 loop".as_bytes()];
+    write_texts(sink, &front)?;
+    write_ports(sink, ports)?;
+    write_whole(sink, "\n".as_bytes())
+}
+
+/// Writes the line of a Conflict.
+pub(crate) fn write_conflict<S: Sink>(sink: &mut S, cycle: u64, port: &[u8]) -> Result<(), Failed>
+    ensures appended { OnOk result (Appends (S.written sink.old) (S.written sink.new) (as_line (conflict_line cycle port.now))) }
+    ensures prefix { OnErr result (AppendsPrefix (S.written sink.old) (S.written sink.new) (as_line (conflict_line cycle port.now))) }
+    ensures failed { OnErr result (Rose (S.faults sink.old) (S.faults sink.new)) }
+    ensures never_falls { S.faults sink.old ≤ S.faults sink.new }
+{
+    let mut counted = Buffer::new();
+    let texts = [
+        "conflict cycle ".as_bytes(),
+        counted.format(cycle).as_bytes(),
+        " port ".as_bytes(),
+        port,
+        "\n".as_bytes(),
+    ];
+    write_texts(sink, &texts)
+}
