@@ -11,7 +11,7 @@ use Rattle.net_sim.proofs.SearchLemmas.{taken_read, contained_at, pushed, pushed
 use Rattle.net_sim.proofs.WalkLemmas.{last_on, cases_looked, reached_more, seen_stays, seen_set, seen_within, all_looked, reads_seen}
 use Rattle.net_sim.specs.ByName.{IsAtMost, IsLeastMarked}
 use Rattle.net_sim.specs.Components.{NeverRises, LeavesNoCycle}
-use Rattle.net_sim.specs.Reads.{HasRead, AreInRange, IsTrail, IsCycle, IsCycleFrom, IsLeastCycle, Reaches, Directly, Through, IsOffCycles}
+use Rattle.net_sim.specs.Reads.{HasRead, AreInRange, IsCycle, IsCycleFrom, IsLeastCycle, Reaches, Directly, Through, IsOffCycles}
 use Rattle.net_sim.specs.Unread.{AreUnread, TakesRead}
 use Rattle.net_sim.specs.Walk.{is_seen, IsWalk, IsStep}
 use Rattle.net_sim.specs.declared.walk.Walk.{Walk}
@@ -49,7 +49,7 @@ cycle_reaches reads ports c = from (length ports - 1) 0 (omega (arith, c.some))
     from zero i e =
         let last : length ports - 1 ≡ i = omega (arith, e) in
         Directly (get_or ports i 0) (get_or ports 0 0) (subst (λ k. HasRead reads (get_or ports k 0) (get_or ports 0 0)) last c.back)
-    from (suc n) i e = Through (get_or ports i 0) (get_or ports (i + 1) 0) (get_or ports 0 0) (c.along i (omega (arith, e))) (from n (i + 1) (omega (arith, e)))
+    from (suc n) i e = Through (get_or ports i 0) (get_or ports (i + 1) 0) (get_or ports 0 0) (c.trail.along i (omega (arith, e))) (from n (i + 1) (omega (arith, e)))
 
 -- ---- a search for a cycle from a port
 
@@ -125,16 +125,11 @@ module _ (reads : List (List ℕ)) (start : ℕ) (old new : Walk) (s : IsSeeking
     found_on false unseen goes is = let e : is_seen old.seen.items read ≡ true = ap (is_seen old.seen.items) is ∙ s.reached in absurd (cc)
     found_on true here goes is = rw goes.1 (record { is_cycle = cycle; first = s.first some })
       where
-        trail : IsTrail reads old.path.items
-        trail = s.walk.trail
-
         cycle : IsCycle reads old.path.items
         cycle = record {
           some = some;
-          in_range = trail.in_range;
-          along = trail.along;
+          trail = s.walk.trail;
           back = rw (← at_top, s.first some, ← is) (taken_read reads old.left.items new.left.items top read t);
-          once = trail.once;
         }
 
   pub seeking_more : (read : Option ℕ) → IsStep reads old new top read → (read ≡ Some start → ⊥) → IsSeeking reads start new

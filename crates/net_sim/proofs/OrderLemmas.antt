@@ -167,9 +167,9 @@ module _ (n : Netlist) (entries : List Entry) (reads : List (List ℕ)) (distinc
   pub loop_is : (ports : List ℕ) → IsCycle reads ports → IsLoopOf n ports
   loop_is [] cycle = absurd (omega (arith, cycle.some))
   loop_is (port ∷ ports) cycle = (
-    λ k d lt. omega (arith, cycle.in_range k lt, get_or_default (port ∷ ports) k d 0 lt, gathered.all, count_is),
+    λ k d lt. omega (arith, cycle.trail.in_range k lt, get_or_default (port ∷ ports) k d 0 lt, gathered.all, count_is),
     record {
-      along = along_from port ports port (λ i lt. subst (λ k. HasRead reads (get_or (port ∷ ports) i 0) (get_or (port ∷ ports) k 0)) (add-one i) (cycle.along i (omega (arith, lt)))) (subst (λ k. HasRead reads (get_or (port ∷ ports) k 0) port) (let e : length (port ∷ ports) - 1 ≡ length ports = omega arith in e) cycle.back);
+      along = along_from port ports port (λ i lt. subst (λ k. HasRead reads (get_or (port ∷ ports) i 0) (get_or (port ∷ ports) k 0)) (add-one i) (cycle.trail.along i (omega (arith, lt)))) (subst (λ k. HasRead reads (get_or (port ∷ ports) k 0) port) (let e : length (port ∷ ports) - 1 ≡ length ports = omega arith in e) cycle.back);
       distinct = λ i j name at at'. apart i j name at at';
     },
   )
@@ -183,7 +183,7 @@ module _ (n : Netlist) (entries : List Entry) (reads : List (List ℕ)) (distinc
       apart i j name at at' =
           let p = place_of i name at in
           let q = place_of j name at' in
-          cycle.once i j p.0 q.0 (same_port (get_or (port ∷ ports) i 0) (get_or (port ∷ ports) j 0) (omega (arith, cycle.in_range i p.0, gathered.all)) (omega (arith, cycle.in_range j q.0, gathered.all)) (p.1 ∙ sym q.1))
+          cycle.trail.once i j p.0 q.0 (same_port (get_or (port ∷ ports) i 0) (get_or (port ∷ ports) j 0) (omega (arith, cycle.trail.in_range i p.0, gathered.all)) (omega (arith, cycle.trail.in_range j q.0, gathered.all)) (p.1 ∙ sym q.1))
 
 -- ---- the assignments to each port
 

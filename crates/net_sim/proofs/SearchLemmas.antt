@@ -4,7 +4,7 @@ use Rattle.std.specs.Prelude.{Contains}
 use Rattle.std.proofs.lemmas.Bool.{cases_eq, cases_lt}
 use Rattle.std.proofs.lemmas.List.{get_or_append_left, get_or_push, length_push, get_or-take, get_or-drop, length-take, length-drop, take-append-le, get_or_default, get_or_read, get_or_past, get_or-replicate, length-replicate, take_all}
 use Rattle.std.proofs.lemmas.List.Elements.{Contains-append_left, Contains-push}
-use Rattle.net_sim.specs.Reads.{HasRead, AreInRange, IsReadOrder, IsCycle}
+use Rattle.net_sim.specs.Reads.{HasRead, AreInRange, IsReadOrder, IsTrail, IsCycle}
 use Rattle.net_sim.specs.Search.{mark_of, IsNext, IsPath, AreDone, AreLooked, IsSearch, IsSeen, KeepsSeen, IsTail}
 use Rattle.net_sim.specs.Unread.{AreUnread, TakesRead}
 use Rattle.net_sim.specs.declared.search.Mark.{Mark}
@@ -25,6 +25,56 @@ pushed xs y i within = get_or_append_left xs (y ∷ []) 0 i within
 pub pushed_last : (xs : List ℕ) (y i : ℕ) → i ≡ length xs → get_or (xs ++ y ∷ []) i 0 ≡ y
 pushed_last xs y i e = get_or_push xs y 0 i (sym e)
 
+-- a trail of no port, without its last ports, and with one more
+pub trail_none : (reads : List (List ℕ)) → IsTrail reads []
+trail_none reads = record { in_range = λ i lt. absurd (omega (arith, lt)); along = λ i lt. absurd (omega (arith, lt)); once = λ i j lt lt' same. absurd (omega (arith, lt)) }
+
+pub trail_less : (reads : List (List ℕ)) (path : List ℕ) (n : ℕ) → n ≤ length path → IsTrail reads path → IsTrail reads (take n path)
+trail_less reads path n le t = record {
+  in_range = λ i lt. rw (at i lt) (t.in_range i (omega (arith, lt, size, le)));
+  along = λ i lt. rw (at i (omega (arith, lt)), at (i + 1) lt) (t.along i (omega (arith, lt, size, le)));
+  once = λ i j lt lt' same. t.once i j (omega (arith, lt, size, le)) (omega (arith, lt', size, le)) (sym (at i lt) ∙ same ∙ at j lt');
+}
+  where
+    size : length (take n path) ≡ n
+    size = simp length-take (omega (arith, le))
+
+    at : (i : ℕ) → i < length (take n path) → get_or (take n path) i 0 ≡ get_or path i 0
+    at i lt = get_or-take n path i 0 (omega (arith, lt, size))
+
+pub trail_more : (reads : List (List ℕ)) (path : List ℕ) (q : ℕ) → q < length reads → (Contains path q → ⊥) → (0 < length path → HasRead reads (get_or path (length path - 1) 0) q) → IsTrail reads path → IsTrail reads (path ++ q ∷ [])
+trail_more reads path q within new read t = record { in_range = in_range; along = along; once = once }
+  where
+    n : length (path ++ q ∷ []) ≡ length path + 1
+    n = length_push path q
+
+    in_range : (i : ℕ) → i < length (path ++ q ∷ []) → get_or (path ++ q ∷ []) i 0 < length reads
+    in_range i lt = elim (cases_lt i (length path)) [
+      | inl before ↦ rw (pushed path q i before) (t.in_range i before)
+      | inr last ↦ rw (pushed_last path q i (omega (arith, lt, n, last))) within
+    ]
+
+    along : (i : ℕ) → i + 1 < length (path ++ q ∷ []) → HasRead reads (get_or (path ++ q ∷ []) i 0) (get_or (path ++ q ∷ []) (i + 1) 0)
+    along i lt = elim (cases_lt (i + 1) (length path)) [
+      | inl before ↦ rw (pushed path q i (omega (arith, before)), pushed path q (i + 1) before) (t.along i before)
+      | inr last ↦
+          let at_end : i ≡ length path - 1 = omega (arith, lt, n, last) in
+          rw (pushed path q i (omega (arith, lt, n)), pushed_last path q (i + 1) (omega (arith, lt, n, last)))
+          (subst (λ k. HasRead reads (get_or path k 0) q) (sym at_end) (read (omega (arith, lt, n))))
+    ]
+
+    once : (i j : ℕ) → i < length (path ++ q ∷ []) → j < length (path ++ q ∷ []) → get_or (path ++ q ∷ []) i 0 ≡ get_or (path ++ q ∷ []) j 0 → i ≡ j
+    once i j lt lt' same = elim (cases_lt i (length path)) [
+      | inl before ↦ elim (cases_lt j (length path)) [
+        | inl before' ↦ t.once i j before before' (sym (pushed path q i before) ∙ same ∙ pushed path q j before')
+        | inr last' ↦ absurd (new (contains_at path i q before (sym (pushed path q i before) ∙ same ∙ pushed_last path q j (omega (arith, lt', n, last')))))
+      ]
+      | inr last ↦ elim (cases_lt j (length path)) [
+        | inl before' ↦ absurd (new (contains_at path j q before' (sym (pushed path q j before') ∙ sym same ∙ pushed_last path q i (omega (arith, lt, n, last)))))
+        | inr last' ↦ omega (arith, lt, lt', last, last', n)
+      ]
+    ]
+
 mark_stays : (marks : List Mark) (port q : ℕ) (mark : Mark) → (q ≡ port → ⊥) → mark_of (set marks port mark) q ≡ mark_of marks q
 mark_stays marks port q mark ne = get_or-set_other marks port q mark Unseen ne
 
@@ -42,23 +92,14 @@ module _ (reads : List (List ℕ)) (marks : List Mark) (path : List ℕ) (q : �
   other_than p m is ne e = ne (sym unseen ∙ ap (mark_of marks) (sym e) ∙ is)
 
   pub path_opened : IsPath reads marks path → (0 < length path → HasRead reads (get_or path (length path - 1) 0) q) → IsPath reads (set marks q Open) (path ++ q ∷ [])
-  path_opened p read = record { in_range = within; are_open = are_open; all_open = all_open; once = once; along = along }
+  path_opened p read = record { trail = trail_more reads path q in_range fresh read p.trail; are_open = are_open; all_open = all_open }
     where
-      n : length (path ++ q ∷ []) ≡ length path + 1
-      n = length_push path q
-
-      within : (i : ℕ) → i < length (path ++ q ∷ []) → get_or (path ++ q ∷ []) i 0 < length reads
-      within i lt = elim (cases_lt i (length path)) [
-        | inl before ↦ rw (pushed path q i before) (p.in_range i before)
-        | inr last ↦ rw (pushed_last path q i (omega (arith, lt, n, last))) in_range
-      ]
-
       are_open : (i : ℕ) → i < length (path ++ q ∷ []) → mark_of (set marks q Open) (get_or (path ++ q ∷ []) i 0) ≡ Open
       are_open i lt = elim (cases_lt i (length path)) [
         | inl before ↦
             ap (mark_of (set marks q Open)) (pushed path q i before)
             ∙ mark_stays marks q (get_or path i 0) Open (other_than (get_or path i 0) Open (p.are_open i before) (λ e. cc)) ∙ p.are_open i before
-        | inr last ↦ ap (mark_of (set marks q Open)) (pushed_last path q i (omega (arith, lt, n, last))) ∙ mark_is marks q Open (omega (arith, all, in_range))
+        | inr last ↦ ap (mark_of (set marks q Open)) (pushed_last path q i (omega (arith, lt, length_push path q, last))) ∙ mark_is marks q Open (omega (arith, all, in_range))
       ]
 
       all_open : (port : ℕ) → mark_of (set marks q Open) port ≡ Open → Contains (path ++ q ∷ []) port
@@ -67,29 +108,8 @@ module _ (reads : List (List ℕ)) (marks : List Mark) (path : List ℕ) (q : �
         | inr ne ↦ Contains-append_left path (q ∷ []) port (p.all_open port (sym (mark_stays marks q port Open ne) ∙ is))
       ]
 
-      fresh : (i : ℕ) → i < length path → get_or path i 0 ≡ q → ⊥
-      fresh i lt e = other_than (get_or path i 0) Open (p.are_open i lt) (λ x. cc) e
-
-      once : (i j : ℕ) → i < length (path ++ q ∷ []) → j < length (path ++ q ∷ []) → get_or (path ++ q ∷ []) i 0 ≡ get_or (path ++ q ∷ []) j 0 → i ≡ j
-      once i j lt lt' same = elim (cases_lt i (length path)) [
-        | inl before ↦ elim (cases_lt j (length path)) [
-          | inl before' ↦ p.once i j before before' (sym (pushed path q i before) ∙ same ∙ pushed path q j before')
-          | inr last' ↦ absurd (fresh i before (sym (pushed path q i before) ∙ same ∙ pushed_last path q j (omega (arith, lt', n, last'))))
-        ]
-        | inr last ↦ elim (cases_lt j (length path)) [
-          | inl before' ↦ absurd (fresh j before' (sym (pushed path q j before') ∙ sym same ∙ pushed_last path q i (omega (arith, lt, n, last))))
-          | inr last' ↦ omega (arith, lt, lt', last, last', n)
-        ]
-      ]
-
-      along : (i : ℕ) → i + 1 < length (path ++ q ∷ []) → HasRead reads (get_or (path ++ q ∷ []) i 0) (get_or (path ++ q ∷ []) (i + 1) 0)
-      along i lt = elim (cases_lt (i + 1) (length path)) [
-        | inl before ↦ rw (pushed path q i (omega (arith, before)), pushed path q (i + 1) before) (p.along i before)
-        | inr last ↦
-            let at_end : i ≡ length path - 1 = omega (arith, lt, n, last) in
-            rw (pushed path q i (omega (arith, lt, n)), pushed_last path q (i + 1) (omega (arith, lt, n, last)))
-            (subst (λ k. HasRead reads (get_or path k 0) q) (sym at_end) (read (omega (arith, lt, n))))
-      ]
+      fresh : Contains path q → ⊥
+      fresh has = other_than (get_or path has.0 0) Open (p.are_open has.0 has.1) (λ x. cc) (contained_at path q has)
 
   pub done_opened : (order : List ℕ) → AreDone reads marks order → AreDone reads (set marks q Open) order
   done_opened order d = record {
@@ -166,7 +186,7 @@ module _ (reads : List (List ℕ)) (marks : List Mark) (left path : List ℕ) (t
 
 module _ (reads : List (List ℕ)) (marks : List Mark) (left path : List ℕ) (top : ℕ) (all : length marks ≡ length reads) (p : IsPath reads marks path) (some : 0 < length path) (at_top : top ≡ get_or path (length path - 1) 0) where
   top_within : top < length marks
-  top_within = rw at_top (omega (arith, all, p.in_range (length path - 1) (omega (arith, some))))
+  top_within = rw at_top (omega (arith, all, p.trail.in_range (length path - 1) (omega (arith, some))))
 
   top_open : mark_of marks top ≡ Open
   top_open = ap (mark_of marks) at_top ∙ p.are_open (length path - 1) (omega (arith, some))
@@ -178,17 +198,15 @@ module _ (reads : List (List ℕ)) (marks : List Mark) (left path : List ℕ) (t
   kept_at i lt = get_or-take (length path - 1) path i 0 lt
 
   below_top : (i : ℕ) → i < length path - 1 → get_or path i 0 ≡ top → ⊥
-  below_top i lt e = let twice : i ≡ length path - 1 = p.once i (length path - 1) (omega (arith, lt)) (omega (arith, some)) (e ∙ at_top) in omega (arith, lt, twice)
+  below_top i lt e = let twice : i ≡ length path - 1 = p.trail.once i (length path - 1) (omega (arith, lt)) (omega (arith, some)) (e ∙ at_top) in omega (arith, lt, twice)
 
   pub path_closed : IsPath reads (set marks top Done) (take (length path - 1) path)
   path_closed = record {
-    in_range = λ i lt. rw (kept_at i (omega (arith, lt, shorter))) (p.in_range i (omega (arith, lt, shorter)));
+    trail = trail_less reads path (length path - 1) (omega arith) p.trail;
     are_open = λ i lt.
         let below : i < length path - 1 = omega (arith, lt, shorter) in
         ap (mark_of (set marks top Done)) (kept_at i below) ∙ mark_stays marks top (get_or path i 0) Done (below_top i below) ∙ p.are_open i (omega (arith, below));
     all_open = all_open;
-    once = λ i j lt lt' same. p.once i j (omega (arith, lt, shorter)) (omega (arith, lt', shorter)) (sym (kept_at i (omega (arith, lt, shorter))) ∙ same ∙ kept_at j (omega (arith, lt', shorter)));
-    along = λ i lt. rw (kept_at i (omega (arith, lt, shorter)), kept_at (i + 1) (omega (arith, lt, shorter))) (p.along i (omega (arith, lt, shorter)));
   }
     where
       all_open : (port : ℕ) → mark_of (set marks top Done) port ≡ Open → Contains (take (length path - 1) path) port
@@ -286,7 +304,7 @@ module _ (reads : List (List ℕ)) (marks : List Mark) (left path : List ℕ) (t
 -- ---- a read of an open port closes a loop
 
 pub cycle_found : (reads : List (List ℕ)) (marks : List Mark) (path tail : List ℕ) (q top : ℕ) → IsPath reads marks path → 0 < length path → top ≡ get_or path (length path - 1) 0 → HasRead reads top q → IsTail path q tail → IsCycle reads tail
-cycle_found reads marks path tail q top p some at_top read t = rw t.is (record { some = nonempty; in_range = λ i lt. rw (at i) (p.in_range (t.place + i) (omega (arith, lt, n))); along = along; back = back; once = once })
+cycle_found reads marks path tail q top p some at_top read t = rw t.is (record { some = nonempty; trail = record { in_range = λ i lt. rw (at i) (p.trail.in_range (t.place + i) (omega (arith, lt, n))); along = along; once = once }; back = back })
   where
     n : length (drop t.place path) ≡ length path - t.place
     n = length-drop t.place path
@@ -300,7 +318,7 @@ cycle_found reads marks path tail q top p some at_top read t = rw t.is (record {
     along : (i : ℕ) → i + 1 < length (drop t.place path) → HasRead reads (get_or (drop t.place path) i 0) (get_or (drop t.place path) (i + 1) 0)
     along i lt =
         let e : t.place + (i + 1) ≡ t.place + i + 1 = omega arith in
-        rw (at i, at (i + 1), e) (p.along (t.place + i) (omega (arith, lt, n)))
+        rw (at i, at (i + 1), e) (p.trail.along (t.place + i) (omega (arith, lt, n)))
 
     back : HasRead reads (get_or (drop t.place path) (length (drop t.place path) - 1) 0) (get_or (drop t.place path) 0 0)
     back =
@@ -310,7 +328,7 @@ cycle_found reads marks path tail q top p some at_top read t = rw t.is (record {
 
     once : (i j : ℕ) → i < length (drop t.place path) → j < length (drop t.place path) → get_or (drop t.place path) i 0 ≡ get_or (drop t.place path) j 0 → i ≡ j
     once i j lt lt' same =
-        let e : t.place + i ≡ t.place + j = p.once (t.place + i) (t.place + j) (omega (arith, lt, n)) (omega (arith, lt', n)) (sym (at i) ∙ same ∙ at j) in
+        let e : t.place + i ≡ t.place + j = p.trail.once (t.place + i) (t.place + j) (omega (arith, lt, n)) (omega (arith, lt', n)) (sym (at i) ∙ same ∙ at j) in
         omega (arith, e)
 
 -- the mark that was read
@@ -324,7 +342,7 @@ taken_read reads left left' port read t = contains_at (get_or reads port []) t.p
 
 module _ (reads : List (List ℕ)) (old new : Search) (top : ℕ) (s : IsSearch reads old) (some : 0 < length old.path.items) (at_top : top ≡ get_or old.path.items (length old.path.items - 1) 0) where
   last_in_range : top < length reads
-  last_in_range = rw at_top (s.path.in_range (length old.path.items - 1) (omega (arith, some)))
+  last_in_range = rw at_top (s.path.trail.in_range (length old.path.items - 1) (omega (arith, some)))
 
   pub step_closed : get_or old.left.items top 0 ≡ 0 → new.left.items ≡ old.left.items → new.marks.items ≡ set old.marks.items top Done → new.path.items ≡ take (length old.path.items - 1) old.path.items → new.order.items ≡ old.order.items ++ top ∷ [] → IsSearch reads new
   step_closed none left marks path order =
@@ -387,11 +405,9 @@ search_none reads s marks are path order = record {
   all_marks = ap length marks ∙ length-replicate (length reads) Unseen;
   all_left = are.all;
   path = rw (marks, path) (record {
-    in_range = λ i lt. absurd (omega (arith, lt));
+    trail = trail_none reads;
     are_open = λ i lt. absurd (omega (arith, lt));
     all_open = λ port is. let bad : Unseen ≡ Open = sym (unseen_at (length reads) port) ∙ is in absurd (cc);
-    once = λ i j lt lt' same. absurd (omega (arith, lt));
-    along = λ i lt. absurd (omega (arith, lt));
   });
   order = rw (marks, order) (record {
     in_range = λ i lt. absurd (omega (arith, lt));

@@ -4,8 +4,8 @@ use Rattle.std.specs.Prelude.{Contains}
 use Rattle.std.proofs.lemmas.Bool.{cases_eq, cases_lt}
 use Rattle.std.proofs.lemmas.List.{get_or_read, get_or-take, length-take, length_push, get_or_past, get_or-replicate, length-replicate}
 use Rattle.std.proofs.lemmas.List.Elements.{Contains-append_left, Contains-push}
-use Rattle.net_sim.proofs.SearchLemmas.{contained_at, contains_at, pushed, pushed_last}
-use Rattle.net_sim.specs.Reads.{HasRead, IsTrail}
+use Rattle.net_sim.proofs.SearchLemmas.{contained_at, contains_at, pushed, pushed_last, trail_none, trail_less, trail_more}
+use Rattle.net_sim.specs.Reads.{HasRead}
 use Rattle.net_sim.specs.Unread.{AreUnread}
 use Rattle.net_sim.specs.Walk.{is_seen, HasReached}
 
@@ -15,59 +15,12 @@ seen_stays seen q port within done = elim (cases_eq port q) [
   | inr ne ↦ get_or-set_other seen q port true false ne ∙ done
 ]
 
--- a trail without its last port, and with one more
-trail_less : (reads : List (List ℕ)) (path : List ℕ) (n : ℕ) → n ≤ length path → IsTrail reads path → IsTrail reads (take n path)
-trail_less reads path n le t = record {
-  in_range = λ i lt. rw (at i lt) (t.in_range i (omega (arith, lt, size, le)));
-  along = λ i lt. rw (at i (omega (arith, lt)), at (i + 1) lt) (t.along i (omega (arith, lt, size, le)));
-  once = λ i j lt lt' same. t.once i j (omega (arith, lt, size, le)) (omega (arith, lt', size, le)) (sym (at i lt) ∙ same ∙ at j lt');
-}
-  where
-    size : length (take n path) ≡ n
-    size = simp length-take (omega (arith, le))
-
-    at : (i : ℕ) → i < length (take n path) → get_or (take n path) i 0 ≡ get_or path i 0
-    at i lt = get_or-take n path i 0 (omega (arith, lt, size))
-
-trail_more : (reads : List (List ℕ)) (path : List ℕ) (q : ℕ) → q < length reads → (Contains path q → ⊥) → (0 < length path → HasRead reads (get_or path (length path - 1) 0) q) → IsTrail reads path → IsTrail reads (path ++ q ∷ [])
-trail_more reads path q within new read t = record { in_range = in_range; along = along; once = once }
-  where
-    n : length (path ++ q ∷ []) ≡ length path + 1
-    n = length_push path q
-
-    in_range : (i : ℕ) → i < length (path ++ q ∷ []) → get_or (path ++ q ∷ []) i 0 < length reads
-    in_range i lt = elim (cases_lt i (length path)) [
-      | inl before ↦ rw (pushed path q i before) (t.in_range i before)
-      | inr last ↦ rw (pushed_last path q i (omega (arith, lt, n, last))) within
-    ]
-
-    along : (i : ℕ) → i + 1 < length (path ++ q ∷ []) → HasRead reads (get_or (path ++ q ∷ []) i 0) (get_or (path ++ q ∷ []) (i + 1) 0)
-    along i lt = elim (cases_lt (i + 1) (length path)) [
-      | inl before ↦ rw (pushed path q i (omega (arith, before)), pushed path q (i + 1) before) (t.along i before)
-      | inr last ↦
-          let at_end : i ≡ length path - 1 = omega (arith, lt, n, last) in
-          rw (pushed path q i (omega (arith, lt, n)), pushed_last path q (i + 1) (omega (arith, lt, n, last)))
-          (subst (λ k. HasRead reads (get_or path k 0) q) (sym at_end) (read (omega (arith, lt, n))))
-    ]
-
-    once : (i j : ℕ) → i < length (path ++ q ∷ []) → j < length (path ++ q ∷ []) → get_or (path ++ q ∷ []) i 0 ≡ get_or (path ++ q ∷ []) j 0 → i ≡ j
-    once i j lt lt' same = elim (cases_lt i (length path)) [
-      | inl before ↦ elim (cases_lt j (length path)) [
-        | inl before' ↦ t.once i j before before' (sym (pushed path q i before) ∙ same ∙ pushed path q j before')
-        | inr last' ↦ absurd (new (contains_at path i q before (sym (pushed path q i before) ∙ same ∙ pushed_last path q j (omega (arith, lt', n, last')))))
-      ]
-      | inr last ↦ elim (cases_lt j (length path)) [
-        | inl before' ↦ absurd (new (contains_at path j q before' (sym (pushed path q j before') ∙ sym same ∙ pushed_last path q i (omega (arith, lt, n, last)))))
-        | inr last' ↦ omega (arith, lt, lt', last, last', n)
-      ]
-    ]
-
 -- nothing is reached
 pub reached_none : (reads : List (List ℕ)) (left : List ℕ) → AreUnread reads left → HasReached reads (replicate (length reads) false) left []
 reached_none reads left are = record {
   all_seen = length-replicate (length reads) false;
   all_left = are.all;
-  trail = record { in_range = λ i lt. absurd (omega (arith, lt)); along = λ i lt. absurd (omega (arith, lt)); once = λ i j lt lt' same. absurd (omega (arith, lt)) };
+  trail = trail_none reads;
   on_path = λ i lt. absurd (omega (arith, lt));
   at_most = λ port lt. omega (arith, are.each port lt);
   reached = λ port j lt le within. absurd (omega (arith, are.each port lt, le, within));

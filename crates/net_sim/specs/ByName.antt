@@ -1,4 +1,4 @@
--- Ports in the order of their names, by bytes.
+-- Ports in the order of their names, by bytes. This project's, for private functions alone.
 use Rattle.std.specs.Prelude.{◌≡◌, ◌≢◌, ◌⊎◌, ℕ, ◌<◌, Bool, true, false, List, [], length, Option, Some, None, slice_index_or}
 use Rattle.std.specs.Cmp.Lexicographic.{slice_cmp}
 use Rattle.std.specs.Ordering.{nat_cmp}

@@ -1,4 +1,4 @@
--- Numbers of a graph's ports that fall along no cycle, so that each cycle has one.
+-- Numbers of a graph's ports that rise along no read, so that each cycle has one. This project's, for private functions alone.
 use Rattle.std.specs.Prelude.{◌≡◌, ℕ, ◌<◌, ◌≤◌, Bool, false, List, length, All, slice_index, slice_index_or}
 use Rattle.net_sim.specs.Reads.{HasRead, IsOffCycles}
 use Rattle.net_sim.specs.declared.groups.Entry.{Entry}

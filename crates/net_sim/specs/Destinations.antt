@@ -1,4 +1,4 @@
--- Entries of assignments' numbers by the ports that they drive.
+-- Entries of assignments' numbers by the ports that they drive. This project's, for private functions alone.
 use Rattle.std.specs.Prelude.{◌≡◌, ℕ, ◌+◌, ◌<◌, List, [], ◌∷◌, length, slice_index_or}
 use Rattle.hw_names.specs.Name.{Text}
 use Rattle.net_core.specs.Netlist.{SetLine}

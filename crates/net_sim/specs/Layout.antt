@@ -1,4 +1,4 @@
--- Where the ports of a netlist stand in their order: inputs, outputs, wires, then each cell's ports, its inputs first.
+-- Where the ports of a netlist stand in their order: inputs, outputs, wires, then each cell's ports, its inputs first. This project's.
 use Rattle.std.specs.Prelude.{◌≡◌, ℕ, ◌+◌, List, [], length, map, take, slice_get, slice_index_or, Some}
 use Rattle.std.specs.List.{flat_map}
 use Rattle.hw_names.specs.Name.{Text}

@@ -1,4 +1,4 @@
--- What an order's end tells of a loop.
+-- What an order's end tells of a loop. This project's.
 use Rattle.std.specs.Prelude.{ℕ, List, Result, Ok, Err}
 use Rattle.net_sim.specs.declared.order_end.OrderEnd.{OrderEnd}
 use Rattle.net_sim.specs.declared.order_end.OrderEnd.TheVariants.{Loop, Memory}

@@ -1,4 +1,4 @@
--- A graph as a list, for each port, of the ports that it reads; orders and loops in it.
+-- A graph as a list, for each port, of the ports that it reads; orders and cycles in it. This project's, for private functions alone.
 use Rattle.std.specs.Prelude.{◌≡◌, ℕ, ◌+◌, ◌-◌, ◌<◌, List, [], length, take, Contains, slice_index, slice_index_or}
 use Rattle.hw_names.specs.Name.{Text}
 use Rattle.net_sim.specs.ByName.{IsAtMost}
@@ -24,13 +24,11 @@ pub record IsTrail (reads : List (List ℕ)) (ports : List ℕ) : Type 0 where
   pub along : (i : ℕ) → i + 1 < length ports → HasRead reads (slice_index ports i) (slice_index ports (i + 1))
   pub once : (i j : ℕ) → i < length ports → j < length ports → slice_index ports i ≡ slice_index ports j → i ≡ j
 
--- distinct ports, of which each reads the next, and the last reads the first
+-- a trail whose last port reads the first
 pub record IsCycle (reads : List (List ℕ)) (ports : List ℕ) : Type 0 where
   pub some : 0 < length ports
-  pub in_range : (i : ℕ) → i < length ports → slice_index ports i < length reads
-  pub along : (i : ℕ) → i + 1 < length ports → HasRead reads (slice_index ports i) (slice_index ports (i + 1))
+  pub trail : IsTrail reads ports
   pub back : HasRead reads (slice_index ports (length ports - 1)) (slice_index ports 0)
-  pub once : (i j : ℕ) → i < length ports → j < length ports → slice_index ports i ≡ slice_index ports j → i ≡ j
 
 -- a cycle that starts with this port
 pub record IsCycleFrom (reads : List (List ℕ)) (start : ℕ) (ports : List ℕ) : Type 0 where

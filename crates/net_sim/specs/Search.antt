@@ -1,6 +1,6 @@
--- A search through a graph, depth first: what it has seen so far.
+-- A search through a graph, depth first: what it has seen so far. This project's, for private functions alone.
 use Rattle.std.specs.Prelude.{◌≡◌, ℕ, ◌+◌, ◌*◌, ◌<◌, ◌≤◌, ◌⊎◌, List, [], length, take, drop, sum, Contains, slice_index, slice_index_or}
-use Rattle.net_sim.specs.Reads.{HasRead}
+use Rattle.net_sim.specs.Reads.{HasRead, IsTrail}
 use Rattle.net_sim.specs.declared.search.Mark.{Mark}
 use Rattle.net_sim.specs.declared.search.Mark.TheVariants.{Unseen, Open, Done}
 use Rattle.net_sim.specs.declared.search.Search.{Search}
@@ -12,13 +12,11 @@ mark_of marks port = slice_index_or marks port Unseen
 abbrev pub IsNext : List ℕ → ℕ → ℕ → Type 0
 IsNext path port other = (i : ℕ) × (i + 1 < length path) × (slice_index path i ≡ port) × (slice_index path (i + 1) ≡ other)
 
--- the ports from the root of the search to where it stands are open, and each reads the next
+-- the path from the root of the search to where it stands: the open ports
 pub record IsPath (reads : List (List ℕ)) (marks : List Mark) (path : List ℕ) : Type 0 where
-  pub in_range : (i : ℕ) → i < length path → slice_index path i < length reads
+  pub trail : IsTrail reads path
   pub are_open : (i : ℕ) → i < length path → mark_of marks (slice_index path i) ≡ Open
   pub all_open : (port : ℕ) → mark_of marks port ≡ Open → Contains path port
-  pub once : (i j : ℕ) → i < length path → j < length path → slice_index path i ≡ slice_index path j → i ≡ j
-  pub along : (i : ℕ) → i + 1 < length path → HasRead reads (slice_index path i) (slice_index path (i + 1))
 
 -- the ports that are done are in order
 pub record AreDone (reads : List (List ℕ)) (marks : List Mark) (order : List ℕ) : Type 0 where

@@ -1,4 +1,4 @@
--- How many of each port's reads a search has not looked at; it looks at the last first.
+-- How many of each port's reads a search has not looked at; it looks at the last first. This project's, for private functions alone.
 use Rattle.std.specs.Prelude.{◌≡◌, ℕ, ◌+◌, ◌<◌, List, [], length, slice_index, slice_index_or, slice_set}
 
 -- all reads of each port are left

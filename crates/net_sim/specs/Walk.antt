@@ -1,4 +1,4 @@
--- A walk through a graph, depth first: what it has reached so far.
+-- A walk through a graph, depth first: what it has reached so far. This project's, for private functions alone.
 use Rattle.std.specs.Prelude.{◌≡◌, ℕ, ◌+◌, ◌-◌, ◌*◌, ◌<◌, ◌≤◌, ◌⊎◌, Bool, true, false, List, [], ◌∷◌, ◌++◌, length, take, sum, Option, Some, None, Contains, MatchBool, slice_index, slice_index_or, slice_set}
 use Rattle.net_sim.specs.Reads.{IsTrail}
 use Rattle.net_sim.specs.Unread.{TakesRead}

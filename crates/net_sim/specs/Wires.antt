@@ -1,4 +1,4 @@
--- The pairs of ports of which one reads the other within a row, as a list. This project's.
+-- The pairs of ports of which one reads the other within a row, as a list. This project's, for private functions alone.
 use Rattle.std.specs.Prelude.{◌≡◌, ℕ, ◌+◌, ◌<◌, List, [], ◌∷◌, ◌++◌, length, map, All, Option, Some, None, if◌then◌else◌, slice_get, slice_index_or}
 use Rattle.std.specs.List.{flat_map}
 use Rattle.hw_names.specs.Name.{Text, dotted}

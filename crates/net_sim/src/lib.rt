@@ -27,3 +27,6 @@ pub use laws::{
 pub use order_end::OrderEnd;
 pub use port_order::{PortOrder, order};
 pub use sim::{Conflict, Phase, Sim};
+
+#[cfg(test)]
+mod order_tests;
