@@ -39,7 +39,7 @@ pub record AreShownSoFar (n : Netlist) (i : ℕ) (shown : List ℕ) : Type 0 whe
 pub shown_none : (n : Netlist) → AreShownSoFar n 0 []
 shown_none n = record { all = refl; each = λ mem k line none at. let bad : None ≡ Some line = none in absurd (cc) }
 
-filter_more : (cells : List CellLine) (i : ℕ) (line : CellLine) → slice_get cells i ≡ Some line → filter is_shown (take (i + 1) cells) ≡ filter is_shown (take i cells) ++ cond (is_shown line) (line ∷ []) []
+pub filter_more : (cells : List CellLine) (i : ℕ) (line : CellLine) → slice_get cells i ≡ Some line → filter is_shown (take (i + 1) cells) ≡ filter is_shown (take i cells) ++ cond (is_shown line) (line ∷ []) []
 filter_more cells i line at =
     ap (filter is_shown) (take_more cells i line (slice_get_within cells i line at) ∙ ap (λ (c : CellLine). take i cells ++ c ∷ []) (get_or_from_slice_get cells i line line at))
     ∙ filter-append is_shown (take i cells) (line ∷ [])

@@ -30,3 +30,6 @@ pub use sim::{Conflict, Phase, Sim};
 
 #[cfg(test)]
 mod order_tests;
+
+#[cfg(test)]
+mod sim_tests;
