@@ -6,3 +6,4 @@ pub mod Designs
 pub mod Finding
 pub mod OffsetLists
 pub mod Parsed
+pub mod PrintLemmas

@@ -6,7 +6,9 @@ mod input;
 mod offsets;
 mod parse;
 mod port;
+mod print;
 mod statement;
 mod value;
 
 pub use parse::{FilTextEnd, MOST_NESTING, MOST_OFFSET, one_design, parse_fil};
+pub use print::print_fil;
