@@ -1,0 +1,158 @@
+#!/bin/sh
+# The times of `check` and `rows` over large netlists, which this script makes, the best of three each.
+# `check` of each shape at full size and at half of it, with their ratio: under 6 s, and at most 2.3.
+# `rows` of 2,000 cells and 6,000 guarded assignments, with the port evaluations a second: 25 million or more.
+top=$(cd "$(dirname "$0")/.." && pwd) || exit
+"$top/filc" rows "$top/examples/counter.net" 0 || exit
+program=$top/crates/filc/out/filc
+work=$(mktemp -d) || exit
+trap 'rm -rf "$work"' EXIT
+
+# $1 wires with long names, each driven from the one before under a guard; the forms of guards take turns.
+text() {
+    awk -v wires="$1" '
+        function name(i) { return sprintf("pipeline.stage.w%06d", i) }
+        BEGIN {
+            print "net text\nin go 1\nin a 16\nout q 16"
+            for (i = 0; i < wires; i++) print "wire " name(i) " 16"
+            print "set " name(0) " = a"
+            for (i = 1; i < wires; i++) {
+                from = name(i - 1)
+                form = i % 5
+                guard = "go"
+                if (form == 1) guard = "(" from " != 16\047d0)"
+                if (form == 2) guard = "!(" from " >= a)"
+                if (form == 3) guard = "(!go & (a <= 16\047d" i % 60000 "))"
+                if (form == 4) guard = "(go | !go | 1\047d1)"
+                print "set " name(i) " = " guard " ? " from
+            }
+            print "set q = " name(wires - 1) "\nend"
+        }'
+}
+
+# $1 wires, each read by the next; in reverse order where $2 is 1.
+chain() {
+    awk -v wires="$1" -v reverse="$2" '
+        function place(i) { return reverse ? wires - 1 - i : i }
+        BEGIN {
+            print "net chain\nin a 8\nout q 8"
+            for (i = 0; i < wires; i++) print "wire w" place(i) " 8"
+            for (i = 0; i < wires; i++) {
+                at = place(i)
+                print "set w" at " = " (at ? "w" at - 1 : "a")
+            }
+            print "set q = w" wires - 1 "\nend"
+        }'
+}
+
+# $1 groups of 30 cells, one for each name of a primitive, and 90 assignments; all of them are guarded where $2 is 1.
+# A group reads the one before, by wires. Of two assignments of one port one guard is true, so there is no Conflict.
+groups() {
+    awk -v groups="$1" -v all="$2" '
+        function cell(name, prim) { print "cell g" k "." name " " prim }
+        # The guard with this number, of eight forms.
+        function guard(i) {
+            i %= 8
+            if (i == 0) return c
+            if (i == 1) return "(" v " == " x ")"
+            if (i == 2) return "(" v " != " x ")"
+            if (i == 3) return "(" v " < " x ")"
+            if (i == 4) return "(" v " > " x ")"
+            if (i == 5) return "((" v " <= " x ") & " c ")"
+            if (i == 6) return "((" v " >= " x ") | " c " | !" d ")"
+            return "(!" c " & !(" v " < " x ") & 1\047d1)"
+        }
+        function set(port, source) {
+            turn++
+            print "set " g port " = " (all ? guard(turn) " ? " : "") source
+        }
+        function always(port, source) { print "set " port " = " (all ? "(" c " | !" c ") ? " : "") source }
+        function either(port, one, other) {
+            turn++
+            print "set " g port " = " guard(turn) " ? " one
+            print "set " g port " = !" guard(turn) " ? " other
+        }
+        function cells() {
+            cell("number", "std_const 16 7"); cell("wire", "std_wire 16")
+            cell("add", "std_add 16"); cell("sub", "std_sub 16"); cell("and", "std_and 16"); cell("or", "std_or 16")
+            cell("xor", "std_xor 16"); cell("not", "std_not 16"); cell("eq", "std_eq 16"); cell("neq", "std_neq 16")
+            cell("lt", "std_lt 16"); cell("gt", "std_gt 16"); cell("le", "std_le 16"); cell("ge", "std_ge 16")
+            cell("lsh", "std_lsh 16"); cell("rsh", "std_rsh 16"); cell("low", "std_slice 16 4"); cell("pad", "std_pad 4 16")
+            cell("mux", "fil_mux 16"); cell("part", "fil_slice 16 11 4"); cell("join", "fil_concat 8 8")
+            cell("reg", "std_reg 16"); cell("mem", "std_mem_d1 16 16 4"); cell("table", "comb_mem_d1 16 12 4")
+            cell("grid", "std_mem_d2 16 4 4 4 4"); cell("field", "comb_mem_d2 16 3 5 4 4")
+            cell("mult", "std_mult_pipe 16"); cell("delay", "fil_delay 16"); cell("fast", "fil_fast_mult 16"); cell("seq", "fil_seq_mult 16")
+        }
+        function compare(name) { either(name ".left", v, x); either(name ".right", x, "16\047d" k % 100) }
+        function reckon(name) { either(name ".left", v, "16\047d" k + 1); always(g name ".right", g "reg.out") }
+        function memory(name, data) {
+            set(name ".addr0", g "low.out"); set(name ".write_data", data); set(name ".write_en", g "neq.out")
+        }
+        function multiply(name) { either(name ".left", v, x); set(name ".right", g "reg.out") }
+        function sets() {
+            reckon("add"); reckon("sub"); reckon("and"); reckon("or"); reckon("xor")
+            compare("eq"); compare("neq"); compare("lt"); compare("gt"); compare("le"); compare("ge")
+            set("not.in", v); set("low.in", g "reg.out"); set("pad.in", g "low.out"); set("part.in", v)
+            set("join.high", g "part.out"); set("join.low", "8\047d3")
+            either("lsh.left", v, x); set("lsh.right", "16\047d3"); either("rsh.left", v, x); set("rsh.right", g "pad.out")
+            set("mux.sel", g "lt.out"); either("mux.tru", v, g "add.out"); set("mux.fal", g "not.out")
+            set("wire.in", g "mux.out")
+            either("reg.in", g "add.out", g "sub.out"); always(g "reg.write_en", "1\047d1")
+            memory("mem", v); memory("table", g "add.out"); memory("grid", g "xor.out"); memory("field", x)
+            set("grid.addr1", g "low.out"); set("field.addr1", g "low.out")
+            set("mult.go", "1\047d1"); multiply("mult"); multiply("fast"); set("seq.go", g "reg.done"); multiply("seq")
+            either("delay.in", v, g "fast.out")
+        }
+        BEGIN {
+            print "net groups\nin a 16\nin go 1\nout q 16"
+            for (k = 0; k < groups; k++) print "wire v" k " 16\nwire x" k " 16\nwire c" k " 1\nwire d" k " 1"
+            for (k = 0; k < groups; k++) cells()
+            v = "a"; x = "16\047d5"; c = "go"; d = "1\047d1"
+            for (k = 0; k < groups; k++) {
+                g = "g" k "."
+                sets()
+                always("v" k, g "wire.out"); always("x" k, g "reg.out"); always("c" k, g "lt.out"); always("d" k, g "eq.out")
+                v = "v" k; x = "x" k; c = "c" k; d = "d" k
+            }
+            always("q", x)
+            print "end"
+        }'
+}
+
+# milliseconds that the program takes for the words, the best of three
+best() {
+    least=
+    for turn in 1 2 3; do
+        begin=$(date +%s%N)
+        "$program" "$@" >/dev/null || exit
+        took=$((($(date +%s%N) - begin) / 1000000))
+        if [ -z "$least" ] || [ "$took" -lt "$least" ]; then least=$took; fi
+    done
+    echo "$least"
+}
+
+# Prints the times of `check` of the shape $1 at half of the size $2 and at all of it; what follows goes to the shape.
+check() {
+    shape=$1
+    size=$2
+    shift 2
+    "$shape" $((size / 2)) "$@" >"$work/half.net" || exit
+    "$shape" "$size" "$@" >"$work/whole.net" || exit
+    half=$(best check "$work/half.net") || exit
+    whole=$(best check "$work/whole.net") || exit
+    bytes=$(wc -c <"$work/whole.net")
+    echo "check $shape $size $*: half $half ms, whole $whole ms, $bytes bytes"
+    awk "BEGIN { printf \"ratio: %.2f\\n\", $whole / $half }"
+}
+
+check text 149000
+check groups 3333 0
+check chain 100000 0
+check chain 100000 1
+
+rows=5000
+groups 67 1 >"$work/guarded.net" || exit
+assignments=$(grep -c '^set ' "$work/guarded.net")
+took=$(best rows "$work/guarded.net" "$rows") || exit
+echo "rows of $assignments guarded assignments, $rows rows: $took ms"
+awk "BEGIN { printf \"million port evaluations a second: %.1f\\n\", $rows * $assignments / $took / 1000 }"

@@ -1,0 +1,124 @@
+//! Files and sinks that fail in mid-stream: each call in its turn.
+use crate::case::{CHECK, ROWS, Said, ask, files};
+use crate::counter::COUNTER;
+use filc_core::{Ended, filc};
+use hw_io::MemSink;
+use std::alloc::Global;
+use std::process::Abort;
+use std::test::Fail;
+
+/// The most bytes that a sink takes at once.
+const MOST: usize = 4;
+
+const SHOWN: &str = "net shown
+out q 8
+ext m std_mem_d1 8 3 2
+set m.addr0 = 2'd1
+set m.write_data = 8'd200
+set m.write_en = 1'd1
+set q = m.read_data
+end
+";
+
+const CLASH: &str = "net clash
+out q 8
+cell r std_reg 8
+set q = 8'd1
+set q = r.done ? 8'd1
+set r.write_en = 1'd1
+end
+";
+
+/// Words, and a text with which they have a report, a line, or both.
+const ASKED: [(&[&str], &str); 7] = [
+    (CHECK, COUNTER),
+    (ROWS, COUNTER),
+    (ROWS, SHOWN),
+    (ROWS, CLASH),
+    (CHECK, "net n\nin a 0\nend\n"),
+    (CHECK, "net\n"),
+    (&[], COUNTER),
+];
+
+/// Asks the program, where these calls of the file and of each sink fail.
+fn ask_faulty(alloc: Global, words: &[&str], text: &str, fails: [&[u64]; 3]) -> Result<Said, Fail> {
+    let [pieces, reports, lines] = fails;
+    let mut files = files(alloc, text, pieces)?;
+    let mut out = MemSink::new(alloc, 1000, MOST, reports.to_vec(alloc)?)?;
+    let mut err = MemSink::new(alloc, 1000, MOST, lines.to_vec(alloc)?)?;
+    let ended = filc(alloc, words, &mut files, &mut out, &mut err);
+    Ok(Said {
+        ended,
+        report: String::from_utf8_lossy(alloc, out.written())?,
+        line: String::from_utf8_lossy(alloc, err.written())?,
+    })
+}
+
+/// Both are what was said without a fault.
+fn try_same(rt: &impl Abort, said: &Said, told: &Said) {
+    assert_eq!(rt; said.ended, told.ended);
+    assert_eq!(rt; said.report.as_str(), told.report.as_str());
+    assert_eq!(rt; said.line.as_str(), told.line.as_str());
+}
+
+// A small file is read in a piece, and a second one finds its end.
+#[test]
+fn each_piece_may_fail(rt: HostRuntime) -> Result<(), Fail> {
+    let alloc = rt.alloc();
+    for words in [CHECK, ROWS] {
+        let told = ask(alloc, words, SHOWN)?;
+        for call in 1..4 {
+            let said = ask_faulty(alloc, words, SHOWN, [&[call], &[], &[]])?;
+            if call > 2 {
+                try_same(&rt, &said, &told);
+                continue;
+            }
+            assert_eq!(rt; said.ended, Ended::ReadFault);
+            assert_eq!(rt; said.report.as_str(), "");
+            assert_eq!(rt; said.line.as_str(), "read fault: f.net\n");
+        }
+    }
+    Ok(())
+}
+
+// What is there is the beginning of the report, and no line is due.
+#[test]
+fn each_put_of_a_report_may_fail(rt: HostRuntime) -> Result<(), Fail> {
+    let alloc = rt.alloc();
+    for (words, text) in ASKED {
+        let told = ask(alloc, words, text)?;
+        for call in 1..30 {
+            let said = ask_faulty(alloc, words, text, [&[], &[call], &[]])?;
+            if call > told.report.len().div_ceil(MOST) as u64 {
+                try_same(&rt, &said, &told);
+                continue;
+            }
+            assert_eq!(rt; said.ended, Ended::WriteFault);
+            assert!(rt; told.report.as_str().starts_with(said.report.as_str()));
+            assert!(rt; said.report.len() < told.report.len());
+            assert_eq!(rt; said.line.as_str(), "");
+        }
+    }
+    Ok(())
+}
+
+// The report is whole by then.
+#[test]
+fn each_put_of_a_line_may_fail(rt: HostRuntime) -> Result<(), Fail> {
+    let alloc = rt.alloc();
+    for (words, text) in ASKED {
+        let told = ask(alloc, words, text)?;
+        for call in 1..30 {
+            let said = ask_faulty(alloc, words, text, [&[], &[], &[call]])?;
+            if said.ended == told.ended {
+                try_same(&rt, &said, &told);
+                continue;
+            }
+            assert_eq!(rt; said.ended, Ended::WriteFault);
+            assert_eq!(rt; said.report.as_str(), told.report.as_str());
+            assert!(rt; told.line.as_str().starts_with(said.line.as_str()));
+            assert!(rt; said.line.len() < told.line.len());
+        }
+    }
+    Ok(())
+}

@@ -1,0 +1,21 @@
+//! Tests of the whole program, from the words to the answer: tables, one file for each subject.
+#![tactic(auto)]
+
+#[cfg(test)]
+mod case;
+#[cfg(test)]
+mod counter;
+#[cfg(test)]
+mod faults;
+#[cfg(test)]
+mod grammar;
+#[cfg(test)]
+mod guards;
+#[cfg(test)]
+mod limits;
+#[cfg(test)]
+mod memories;
+#[cfg(test)]
+mod primitives;
+#[cfg(test)]
+mod rules;
