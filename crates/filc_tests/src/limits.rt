@@ -33,12 +33,17 @@ const DEEP: [(&str, u64, &str); 4] = [
     ("(])", 1000, "!"),
 ];
 
-/// A netlist whose one assignment has a guard of so many sources, all `a`: its weight is two more.
-fn heavy(alloc: Global, line: &str, sources: u64) -> Result<String, AllocError> {
-    let mut text = String::from_str(alloc, "net heavy\nwire a 1\nwire b 1\n")?;
+/// A netlist of this weight, at least 999,758, with nodes of each form: 8 without what is in the one long list, which
+/// has 3,999 runs of 249 negations, each with its source, and as many sources alone as are lacking.
+fn heavy(alloc: Global, line: &str, weight: u64) -> Result<String, AllocError> {
+    let mut text = String::from_str(alloc, "net heavy\nwire a 1\nwire b 1\ncell c std_not 1\n")?;
     text.push_str(line)?;
-    text.push_str("set b = (a")?;
-    push_times(&mut text, " & a", sources.saturating_sub(1))?;
+    text.push_str("set c.in = (a == b) ? a\nset b = ((a | a)")?;
+    let mut run = String::from_str(alloc, " & ")?;
+    push_times(&mut run, "!", 249)?;
+    run.push_str("a")?;
+    push_times(&mut text, run.as_str(), 3999)?;
+    push_times(&mut text, " & a", weight.saturating_sub(999_758))?;
     text.push_str(") ? a\nend\n")?;
     Ok(text)
 }
@@ -55,26 +60,16 @@ fn large(alloc: Global, memories: u64, line: &str) -> Result<String, AllocError>
     Ok(text)
 }
 
-/// A netlist without lines, whose text has so many bytes.
-fn long(alloc: Global, bytes: u64) -> Result<String, AllocError> {
-    let mut text = String::from_str(alloc, "net ")?;
-    push_times(&mut text, "n", bytes.saturating_sub(9))?;
-    text.push_str("\nend\n")?;
-    Ok(text)
-}
-
+// It is looked for before the nesting.
 #[test]
 fn the_source_has_a_limit(rt: HostRuntime) -> Result<(), Fail> {
-    let alloc = rt.alloc();
-    try_accepted(&rt, alloc, long(alloc, 16_777_216)?.as_str())?;
-    let line = "limit source 16777217 over 16777216\n";
-    let text = long(alloc, 16_777_217)?;
-    try_refused(&rt, alloc, text.as_str(), Ended::Limit, line)?;
-
-    // It is looked for before the nesting.
-    let mut text = String::new(alloc);
-    push_times(&mut text, "(", 16_777_218)?;
-    try_refused(&rt, alloc, text.as_str(), Ended::Limit, line)
+    let mut text = String::new(rt.alloc());
+    push_times(&mut text, "((((((((((((((((", 1_048_576)?;
+    text.push_str("(")?;
+    let said = ask(rt.alloc(), CHECK, text.as_str())?;
+    assert_eq!(rt; said.line.as_str(), "limit source 16777217 over 16777216\n");
+    assert_eq!(rt; said.ended, Ended::Limit);
+    Ok(())
 }
 
 #[test]
@@ -109,22 +104,31 @@ fn what_nests_within_the_limit_is_judged_by_the_grammar(rt: HostRuntime) -> Resu
 }
 
 #[test]
+fn the_greatest_weight_is_accepted(rt: HostRuntime) -> Result<(), Fail> {
+    let text = heavy(rt.alloc(), "", 1_000_000)?;
+    try_accepted(&rt, rt.alloc(), text.as_str())
+}
+
+#[test]
 fn the_weight_has_a_limit(rt: HostRuntime) -> Result<(), Fail> {
     let alloc = rt.alloc();
-    let most = 999_998;
-    try_accepted(&rt, alloc, heavy(alloc, "", most)?.as_str())?;
-    let line = "limit weight 1000001 over 1000000\n";
-    let source = heavy(alloc, "", most + 1)?;
-    try_refused(&rt, alloc, source.as_str(), Ended::Limit, line)?;
-    let cell = heavy(alloc, "cell c std_mem_d1 1 1 1\n", most)?;
-    try_refused(&rt, alloc, cell.as_str(), Ended::Limit, line)?;
-    let assignment = heavy(alloc, "set a = 1'd1\n", most)?;
-    try_refused(&rt, alloc, assignment.as_str(), Ended::Limit, line)?;
+    let text = heavy(alloc, "", 1_000_001)?;
+    let said = ask(alloc, CHECK, text.as_str())?;
+    assert_eq!(rt; said.line.as_str(), "limit weight 1000001 over 1000000\n");
+    assert_eq!(rt; said.ended, Ended::Limit);
+    Ok(())
+}
 
-    // The rules come first.
-    let broken = heavy(alloc, "set a = b\n", most)?;
-    let line = "refused N6 heavy item 0 loop a b\n";
-    try_refused(&rt, alloc, broken.as_str(), Ended::Refused, line)
+#[test]
+fn the_rules_come_before_the_weight(rt: HostRuntime) -> Result<(), Fail> {
+    let alloc = rt.alloc();
+    let text = heavy(alloc, "set a = c.out\n", 1_000_001)?;
+    let said = ask(alloc, CHECK, text.as_str())?;
+    assert_eq!(rt;
+        said.line.as_str(),
+        "refused N6 heavy item 0 loop a c.out c.in\n"
+    );
+    Ok(())
 }
 
 #[test]
