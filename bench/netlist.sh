@@ -45,11 +45,43 @@ chain() {
         }'
 }
 
-# $1 groups of 30 cells, one for each name of a primitive, and 90 assignments; all of them are guarded where $2 is 1.
-# A group reads the one before, by wires. Of two assignments of one port one guard is true, so there is no Conflict.
+# The cells of a group: one for each name of a primitive.
+cells='number std_const 16 7
+wire std_wire 16
+add std_add 16
+sub std_sub 16
+and std_and 16
+or std_or 16
+xor std_xor 16
+not std_not 16
+eq std_eq 16
+neq std_neq 16
+lt std_lt 16
+gt std_gt 16
+le std_le 16
+ge std_ge 16
+lsh std_lsh 16
+rsh std_rsh 16
+low std_slice 16 4
+pad std_pad 4 16
+mux fil_mux 16
+part fil_slice 16 11 4
+join fil_concat 8 8
+reg std_reg 16
+mem std_mem_d1 16 16 4
+table comb_mem_d1 16 12 4
+grid std_mem_d2 16 4 4 4 4
+field comb_mem_d2 16 3 5 4 4
+mult std_mult_pipe 16
+delay fil_delay 16
+fast fil_fast_mult 16
+seq fil_seq_mult 16'
+
+# $1 groups of these 30 cells and of 90 assignments; all assignments are guarded where $2 is 1, and else most.
+# A group reads four wires of the one before: the numbers v and x, the bits c and d.
+# Of two assignments of one port, exactly one has a guard that is true, so there is no Conflict.
 groups() {
-    awk -v groups="$1" -v all="$2" '
-        function cell(name, prim) { print "cell g" k "." name " " prim }
+    CELLS=$cells awk -v groups="$1" -v all="$2" '
         # The guard with this number, of eight forms.
         function guard(i) {
             i %= 8
@@ -72,46 +104,45 @@ groups() {
             print "set " g port " = " guard(turn) " ? " one
             print "set " g port " = !" guard(turn) " ? " other
         }
-        function cells() {
-            cell("number", "std_const 16 7"); cell("wire", "std_wire 16")
-            cell("add", "std_add 16"); cell("sub", "std_sub 16"); cell("and", "std_and 16"); cell("or", "std_or 16")
-            cell("xor", "std_xor 16"); cell("not", "std_not 16"); cell("eq", "std_eq 16"); cell("neq", "std_neq 16")
-            cell("lt", "std_lt 16"); cell("gt", "std_gt 16"); cell("le", "std_le 16"); cell("ge", "std_ge 16")
-            cell("lsh", "std_lsh 16"); cell("rsh", "std_rsh 16"); cell("low", "std_slice 16 4"); cell("pad", "std_pad 4 16")
-            cell("mux", "fil_mux 16"); cell("part", "fil_slice 16 11 4"); cell("join", "fil_concat 8 8")
-            cell("reg", "std_reg 16"); cell("mem", "std_mem_d1 16 16 4"); cell("table", "comb_mem_d1 16 12 4")
-            cell("grid", "std_mem_d2 16 4 4 4 4"); cell("field", "comb_mem_d2 16 3 5 4 4")
-            cell("mult", "std_mult_pipe 16"); cell("delay", "fil_delay 16"); cell("fast", "fil_fast_mult 16"); cell("seq", "fil_seq_mult 16")
-        }
-        function compare(name) { either(name ".left", v, x); either(name ".right", x, "16\047d" k % 100) }
         function reckon(name) { either(name ".left", v, "16\047d" k + 1); always(g name ".right", g "reg.out") }
-        function memory(name, data) {
-            set(name ".addr0", g "low.out"); set(name ".write_data", data); set(name ".write_en", g "neq.out")
-        }
+        function compare(name) { either(name ".left", v, x); either(name ".right", x, "16\047d" k % 100) }
+        function shift(name, places) { either(name ".left", v, x); set(name ".right", places) }
         function multiply(name) { either(name ".left", v, x); set(name ".right", g "reg.out") }
-        function sets() {
+        function memory(name, data) {
+            set(name ".addr0", g "low.out")
+            set(name ".write_data", data)
+            set(name ".write_en", g "neq.out")
+        }
+        function arithmetic() {
             reckon("add"); reckon("sub"); reckon("and"); reckon("or"); reckon("xor")
             compare("eq"); compare("neq"); compare("lt"); compare("gt"); compare("le"); compare("ge")
+            shift("lsh", "16\047d3"); shift("rsh", g "pad.out")
             set("not.in", v); set("low.in", g "reg.out"); set("pad.in", g "low.out"); set("part.in", v)
             set("join.high", g "part.out"); set("join.low", "8\047d3")
-            either("lsh.left", v, x); set("lsh.right", "16\047d3"); either("rsh.left", v, x); set("rsh.right", g "pad.out")
             set("mux.sel", g "lt.out"); either("mux.tru", v, g "add.out"); set("mux.fal", g "not.out")
             set("wire.in", g "mux.out")
+        }
+        function states() {
             either("reg.in", g "add.out", g "sub.out"); always(g "reg.write_en", "1\047d1")
+            either("delay.in", v, g "fast.out")
             memory("mem", v); memory("table", g "add.out"); memory("grid", g "xor.out"); memory("field", x)
             set("grid.addr1", g "low.out"); set("field.addr1", g "low.out")
-            set("mult.go", "1\047d1"); multiply("mult"); multiply("fast"); set("seq.go", g "reg.done"); multiply("seq")
-            either("delay.in", v, g "fast.out")
+            set("mult.go", "1\047d1"); set("seq.go", g "reg.done")
+            multiply("mult"); multiply("fast"); multiply("seq")
+        }
+        function wires() {
+            always("v" k, g "wire.out"); always("x" k, g "reg.out")
+            always("c" k, g "lt.out"); always("d" k, g "eq.out")
         }
         BEGIN {
             print "net groups\nin a 16\nin go 1\nout q 16"
             for (k = 0; k < groups; k++) print "wire v" k " 16\nwire x" k " 16\nwire c" k " 1\nwire d" k " 1"
-            for (k = 0; k < groups; k++) cells()
+            count = split(ENVIRON["CELLS"], cells, "\n")
+            for (k = 0; k < groups; k++) for (i = 1; i <= count; i++) print "cell g" k "." cells[i]
             v = "a"; x = "16\047d5"; c = "go"; d = "1\047d1"
             for (k = 0; k < groups; k++) {
                 g = "g" k "."
-                sets()
-                always("v" k, g "wire.out"); always("x" k, g "reg.out"); always("c" k, g "lt.out"); always("d" k, g "eq.out")
+                arithmetic(); states(); wires()
                 v = "v" k; x = "x" k; c = "c" k; d = "d" k
             }
             always("q", x)
