@@ -7,3 +7,4 @@ pub mod Finding
 pub mod OffsetLists
 pub mod Parsed
 pub mod PrintLemmas
+pub mod Shown

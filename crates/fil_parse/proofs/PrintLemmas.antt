@@ -10,7 +10,7 @@ use Rattle.fil_ast.specs.declared.tree.FilPort.{FilPort}
 use Rattle.fil_ast.specs.declared.tree.FilComp.{FilComp}
 use Rattle.fil_ast.specs.declared.tree.FilDesign.{FilDesign}
 use Rattle.fil_ast.specs.declared.tree.Value.{Value}
-use Rattle.fil_ast.specs.Tree.{Event, DataPort, Interface, Statement, time_tree, event_tree, interface_tree, port_tree, value_tree, giving, statement_tree, component_tree, design_of}
+use Rattle.fil_ast.specs.Tree.{time_tree, event_tree, interface_tree, port_tree, value_tree, giving, statement_tree, component_tree, design_of}
 use Rattle.fil_parse.specs.Grammar.{Input, InterfacePort, DataInput}
 use Rattle.fil_parse.specs.Layout.{joined, time_text, value_text, call_text, params_text, line_text, event_text, interface_text, port_text, input_text, inputs_of, component_text, fil_text}
 

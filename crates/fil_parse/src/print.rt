@@ -1,10 +1,11 @@
 //! A design as text.
-ghost use Rattle.std.specs.Prelude.{◌≡◌, ◌++◌, map, flat_map, All, codes, decimal, OnOk, IfOk};
+ghost use Rattle.std.specs.Prelude.{◌≡◌, ℕ, List, ◌++◌, map, flat_map, All, codes, decimal, OnOk, IfOk};
 ghost use Rattle.hw_names.specs.Name.{text_of};
 ghost use Rattle.fil_ast.specs.Numbers.{IsNumberOf, TimeHasNumber, EventHasNumber, InterfaceHasNumbers, PortHasNumbers, ValueHasNumbers, GivingHasNumbers, StatementHasNumbers, ComponentHasNumbers, HasNumbers};
 ghost use Rattle.fil_ast.specs.Tree.{New, time_tree, event_tree, interface_tree, port_tree, value_tree, giving, statement_tree, component_tree, design_of};
 ghost use Rattle.fil_parse.specs.Grammar.{InterfacePort, DataInput};
 ghost use Rattle.fil_parse.specs.Layout.{joined, time_text, value_text, call_text, params_text, statement_text, line_text, event_text, interface_text, port_text, input_text, component_text, fil_text};
+ghost use Rattle.fil_parse.specs.Spelling.{SpellsDesign};
 
 use fil_ast::{EventDef, FilComp, FilDesign, FilPort, GoPort, Stmt, Time, Value};
 use hw_bits::Memory;
@@ -95,12 +96,7 @@ fn put_values(out: &mut Vec<u8>, names: &Names, values: &[Value]) -> Result<(), 
 }
 
 /// Times and arguments of an invocation.
-fn put_call(
-    out: &mut Vec<u8>,
-    names: &Names,
-    at: &[Time],
-    args: &[Value],
-) -> Result<(), Memory>
+fn put_call(out: &mut Vec<u8>, names: &Names, at: &[Time], args: &[Value]) -> Result<(), Memory>
     requires { GivingHasNumbers names.now at.now args.now }
     ensures { OnOk result (out.new.items ≡ out.old.items ++ call_text (giving names.now at.now args.now)) }
 {
@@ -239,11 +235,7 @@ fn put_interface(out: &mut Vec<u8>, names: &Names, port: GoPort) -> Result<(), M
 }
 
 /// The ports, each after a comma.
-fn put_more_interfaces(
-    out: &mut Vec<u8>,
-    names: &Names,
-    ports: &[GoPort],
-) -> Result<(), Memory>
+fn put_more_interfaces(out: &mut Vec<u8>, names: &Names, ports: &[GoPort]) -> Result<(), Memory>
     requires { All (InterfaceHasNumbers names.now) ports.now }
     ensures { OnOk result (out.new.items ≡ out.old.items ++ flat_map (λ p. codes ", " ++ interface_text (interface_tree names.now p)) ports.now) }
 {
@@ -350,9 +342,64 @@ fn put_components(out: &mut Vec<u8>, names: &Names, comps: &[FilComp]) -> Result
 /// The canonical text of the design. Where some text spells the design, this text spells it too.
 pub fn print_fil(alloc: Global, design: &FilDesign) -> Result<Vec<u8>, Memory>
     requires { HasNumbers design.now }
-    ensures { IfOk result (λ text. text.items ≡ fil_text (design_of design.now)) }
+    ensures text { IfOk result (λ text. text.items ≡ fil_text (design_of design.now)) }
+    ensures spelled { IfOk result (λ text. (other : List ℕ) → SpellsDesign other (design_of design.now) → SpellsDesign text.items (design_of design.now)) }
 {
     let mut out = Vec::new(alloc);
     put_components(&mut out, &design.names, &design.comps)?;
     Ok(out)
+}
+
+#[cfg(test)]
+mod tests {
+    use super::*;
+    use crate::parse::parse_fil;
+    use std::test::Fail;
+
+    const MAC: &str =
+        "comp Mac<G: 1>(@interface[G] go: 1, @[G, G+1] a: 8, @[G, G+1] b: 8, @[G, G+1] c: 8) -> (@[G+2, G+3] out: 8) {
+  M := new FastMult[8];
+  D1 := new Delay[8];
+  D2 := new Delay[8];
+  A := new Add[8];
+  p := M<G>(a, b);
+  c1 := D1<G>(c);
+  c2 := D2<G+1>(c1.out);
+  s := A<G+2>(p.out, c2.out);
+  out = s.out;
+}
+";
+
+    // A text, and what is printed of its design.
+    const TEXTS: [(&str, &str); 4] = [
+        (MAC, MAC),
+        ("comp A<G:1>()->(){}", "comp A<G: 1>() -> () {\n}\n"),
+        (
+            "import \"p.fil\"; comp A<G: 03, H: 2>(@[G+0, G+1] a: 8, @interface[H] go: 1,) -> (@[H+1, H+2] o: 8,) { /* one */
+ v := new B [8, 4] <G, H+4>(a, 8'xfF, w.o,); w := new C; o = 4'b0101; } // two",
+            "comp A<G: 3, H: 2>(@interface[H] go: 1, @[G, G+1] a: 8) -> (@[H+1, H+2] o: 8) {
+  v := new B[8, 4]<G, H+4>(a, 8'd255, w.o);
+  w := new C;
+  o = 4'd5;
+}
+",
+        ),
+        (
+            "comp A<G: 1>() -> () { v := new C<G>(); w := v<G>(); } comp B<G: 1>() -> () { }",
+            "comp A<G: 1>() -> () {\n  v := new C<G>();\n  w := v<G>();\n}\ncomp B<G: 1>() -> () {\n}\n",
+        ),
+    ];
+
+    #[test]
+    fn prints_what_is_read(rt: HostRuntime) -> Result<(), Fail> {
+        for (text, printed) in TEXTS {
+            let read = parse_fil(rt.alloc(), text.as_bytes());
+            assert!(rt; read.is_ok(), "in {text:?}");
+            if let Ok(design) = read {
+                let out = print_fil(rt.alloc(), &design)?;
+                assert_eq!(rt; out.as_slice(), printed.as_bytes());
+            }
+        }
+        Ok(())
+    }
 }

@@ -54,7 +54,7 @@ name_of dialect kinds.Literal word w e = absurd (false≢true (ap (λ (s : Sort)
 name_of dialect kinds.Text word w e = absurd (false≢true (ap (λ (s : Sort). same_sort s sorts.Name) e))
 name_of dialect kinds.Mark word w e = absurd (clash (ap (λ (s : Sort). same_sort s sorts.Name) e) (mark_no_name word))
 
-named : (names : List Text) (word : Text) (t : Terminal) → IsNumbered names word t.sort t.name → t.sort ≡ sorts.Name → text_of names t.name ≡ word
+pub named : (names : List Text) (word : Text) (t : Terminal) → IsNumbered names word t.sort t.name → t.sort ≡ sorts.Name → text_of names t.name ≡ word
 named names word t is e =
     let yes : same_sort t.sort sorts.Name ≡ true = ap (λ (s : Sort). same_sort s sorts.Name) e in
     let get : slice_get names t.name.0 ≡ Some word = subst (λ (v : Bool). MatchBool v (slice_get names t.name.0 ≡ Some word) (t.name.0 ≡ 0)) yes is in
@@ -84,7 +84,7 @@ alike dialect old new kind word t u w f p q = record {
   value = (subst IsWritten (sym p.value) (value_written kind word f), p.value ∙ sym q.value);
 }
 
-each_of : {X : Type 0} (P : X → Type 0) (xs : List X) → ((i : ℕ) (d : X) → i < length xs → P (get_or xs i d)) → AllByRecursion P xs
+pub each_of : {X : Type 0} (P : X → Type 0) (xs : List X) → ((i : ℕ) (d : X) → i < length xs → P (get_or xs i d)) → AllByRecursion P xs
 each_of P [] h = tt
 each_of P (x ∷ xs) h = (h 0 x (omega arith), each_of P xs (λ i d lt. h (suc i) d (omega arith)))
 

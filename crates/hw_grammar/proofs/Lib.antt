@@ -16,3 +16,5 @@ pub mod Carried
 pub mod Closed
 pub mod Passing
 pub mod Alike
+pub mod Fragments
+pub mod Decimals

@@ -1,4 +1,4 @@
-use Rattle.std.proofs.Common.{◌≡◌, ◌++◌, take, codes, decimal}
+use Rattle.std.proofs.Common.{◌≡◌, ◌++◌, take, codes}
 use Rattle.std.specs.List.{flat_map}
 use Rattle.fil_ast.specs.Tree.{component_tree}
 use Rattle.fil_parse.specs.Layout.{component_text}

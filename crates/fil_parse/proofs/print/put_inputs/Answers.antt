@@ -1,4 +1,4 @@
-use Rattle.std.proofs.Common.{◌≡◌, List, ◌++◌, ap, ◌∙◌, append_assoc, arith}
+use Rattle.std.proofs.Common.{◌++◌, ap, ◌∙◌, append_assoc, arith}
 use Rattle.hw_names.specs.Name.{Text}
 use Rattle.fil_parse.proofs.PrintLemmas.{OnOk-is, no_interface, interfaces_first}
 use Rattle.fil_parse.proofs.print.put_inputs.Goals as goal
