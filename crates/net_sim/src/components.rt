@@ -8,8 +8,8 @@ use crate::walk::Walk;
 use hw_bits::Memory;
 use std::alloc::Global;
 
-/// A number for each port, such that no read leads to a greater one. Ports that reach one another have
-/// one number, and mostly no others have it.
+/// A number for each port, such that no read leads to a greater one: the ports of a loop have one number.
+/// That no port of another component has it is not proved, and no answer rests on it.
 pub fn component_numbers(alloc: Global, reads: &Groups) -> Result<Vec<usize>, Memory>
     requires in_range { AreInRange reads.now }
     requires room { length reads.now < 2 ^ 32 }
@@ -17,7 +17,7 @@ pub fn component_numbers(alloc: Global, reads: &Groups) -> Result<Vec<usize>, Me
     ensures falling { IfOk result (λ numbers. NeverRises reads.now numbers.items) }
 {
     let numbers = numbers_by_walks(alloc, reads)?;
-    // A test in place of a proof that walks find the components: it fails for no graph.
+    // A test in place of a proof that the walks find the components: it fails for no graph.
     if never_rises(reads, numbers.as_slice()) {
         return Ok(numbers);
     }

@@ -36,8 +36,8 @@ pub fn order_or_least_loop(
     }
 }
 
-/// The least loop, if there is any. A port with a mark lies on a loop, as the numbers are those of the
-/// strongly connected components: then the first search finds it.
+/// The least loop, if there is any. As the numbers are those of the strongly connected components, each
+/// port with a mark lies on a loop, and the first search finds it; were it not so, others would follow.
 fn least_cycle(alloc: Global, reads: &Groups, names: &Names) -> Result<Option<Vec<usize>>, Memory>
     requires in_range { AreInRange reads.now }
     requires names { length reads.now ≡ length names.now }
