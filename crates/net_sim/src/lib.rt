@@ -11,6 +11,8 @@ mod guards;
 mod laws;
 mod least_loop;
 mod order_end;
+#[cfg(test)]
+mod order_tests;
 mod plan;
 mod port_order;
 mod search;
@@ -27,9 +29,6 @@ pub use laws::{
 pub use order_end::OrderEnd;
 pub use port_order::{PortOrder, order};
 pub use sim::{Conflict, Phase, Sim};
-
-#[cfg(test)]
-mod order_tests;
 
 #[cfg(test)]
 mod sim_tests;
