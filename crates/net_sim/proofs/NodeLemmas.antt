@@ -45,9 +45,6 @@ node_truth-set ports place values truths k t (Either i j) le is = ap₂ ◌||◌
 node_truth-set ports place values truths k t Always le is = refl
 node_truth-set ports place values truths k t Never le is = refl
 
-pub truths_none : (nodes : List Node) (values : List ℕ) (truths : List Bool) (first : ℕ) → AreTruths nodes values truths first first
-truths_none nodes values truths first i node from lt at = absurd (omega (arith, from, lt))
-
 pub truths_more : (ports : ℕ) (nodes : List Node) (values : List ℕ) (truths : List Bool) (first k : ℕ) (node : Node) (t : Bool) → AreNodes ports nodes → k < length truths → slice_get nodes k ≡ Some node → t ≡ node_truth values truths node → AreTruths nodes values truths first k → AreTruths nodes values (set truths k t) first (k + 1)
 truths_more ports nodes values truths first k node t are within here is so_far i other from lt at = elim (cases_lt i k) [
   | inl before ↦

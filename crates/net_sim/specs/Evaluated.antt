@@ -41,10 +41,7 @@ abbrev pub source_number : List ℕ → Source → ℕ
 source_number values (Slot k) = slice_index values k
 source_number values (Fixed bits) = bits.value
 
--- the number that an assignment gives
-abbrev pub number_at : List ℕ → List Source → ℕ → ℕ
-number_at values sources k = source_number values (slice_index_or sources k (Slot 0))
-
+-- the source of an assignment has this width
 abbrev pub HasWidthAt : List ℕ → ℕ → List Source → ℕ → Type 0
 HasWidthAt widths width sources k = (k < length sources) × HasWidth widths width (slice_index_or sources k (Slot 0))
 
