@@ -19,6 +19,8 @@ mod search;
 mod settle;
 mod shown;
 mod sim;
+#[cfg(test)]
+mod sim_tests;
 mod unread;
 mod walk;
 mod wires;
@@ -29,6 +31,3 @@ pub use laws::{
 pub use order_end::OrderEnd;
 pub use port_order::{PortOrder, order};
 pub use sim::{Conflict, Phase, Sim};
-
-#[cfg(test)]
-mod sim_tests;
