@@ -1,5 +1,5 @@
 #!/bin/sh
-# The times of `check` and `rows` over large netlists, which this script makes, the best of three each.
+# The times of `check` and `rows` over large netlists, which this script makes, the best of five each.
 # `check` of each shape at full size and at half of it, with their ratio: under 6 s, and at most 2.3.
 # `rows` of 2,000 cells and 6,000 guarded assignments, with the port evaluations a second: 25 million or more.
 top=$(cd "$(dirname "$0")/.." && pwd) || exit
@@ -150,10 +150,10 @@ groups() {
         }'
 }
 
-# milliseconds that the program takes for the words, the best of three
+# milliseconds that the program takes for the words, the best of five
 best() {
     least=
-    for turn in 1 2 3; do
+    for turn in 1 2 3 4 5; do
         begin=$(date +%s%N)
         "$program" "$@" >/dev/null || exit
         took=$((($(date +%s%N) - begin) / 1000000))
