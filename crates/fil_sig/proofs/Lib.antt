@@ -1,0 +1,4 @@
+pub mod ListLemmas
+pub mod PinLemmas
+pub mod ShapeLemmas
+pub mod UseLemmas

@@ -1,0 +1,14 @@
+//! Signatures of Filament's primitives and of a design's components.
+#![tactic(auto)]
+
+mod component;
+mod named;
+mod names;
+mod primitive;
+mod shape;
+mod time_sig;
+
+pub use component::component_named;
+pub use named::{MOST_OFFSET, SigEnd, signature, used_signature};
+pub use names::add_name;
+pub use time_sig::{Delay, Off, SigEvent, SigPort, TimeSig};
