@@ -12,3 +12,6 @@ pub use component::component_named;
 pub use named::{MOST_OFFSET, SigEnd, signature, used_signature};
 pub use names::add_name;
 pub use time_sig::{Delay, Off, SigEvent, SigPort, TimeSig};
+
+#[cfg(test)]
+mod tests;
