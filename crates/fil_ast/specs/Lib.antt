@@ -1,6 +1,7 @@
 pub use Rattle.hw_names.specs.Name
 pub mod Tree
 pub mod Numbers
+pub mod Limits
 pub mod Signature
 pub mod Primitives
 pub mod Scope

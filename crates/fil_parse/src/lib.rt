@@ -10,5 +10,8 @@ mod print;
 mod statement;
 mod value;
 
-pub use parse::{FilTextEnd, MOST_NESTING, MOST_OFFSET, one_design, parse_fil};
+pub use parse::{FilTextEnd, MOST_NESTING, one_design, parse_fil};
 pub use print::print_fil;
+
+#[cfg(test)]
+mod tests;

@@ -4,8 +4,7 @@ ghost use Rattle.fil_ast.specs.Tree.{design_of};
 ghost use Rattle.fil_parse.specs.Offsets.{of_times, of_port, of_statement, of_events, of_component};
 ghost use Rattle.fil_parse.specs.Spelling.{is_large, first_large};
 
-use crate::parse::MOST_OFFSET;
-use fil_ast::{EventDef, FilComp, FilDesign, FilPort, Stmt, Time};
+use fil_ast::{EventDef, FilComp, FilDesign, FilPort, MOST_OFFSET, Stmt, Time};
 
 /// The first of the times that is too late.
 fn large_time(times: &[Time]) -> Option<u128>

@@ -1,6 +1,5 @@
 pub use Rattle.fil_ast.specs.Signature
 pub mod Seen
 pub mod Kinds
-pub mod Limits
 pub mod Shape
 pub mod Refusals

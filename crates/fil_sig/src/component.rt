@@ -6,12 +6,11 @@ ghost use Rattle.fil_ast.specs.Scope.{component_named};
 ghost use Rattle.fil_ast.specs.Signature.{component_signature, event_number, interface_of, offset_of, sig_event, sig_port};
 ghost use Rattle.fil_ast.specs.Tree.{component_tree, design_of, event_tree, interface_tree, port_tree, time_tree};
 ghost use Rattle.fil_ast.specs.Typing.{HasWidths, IsWidth};
-ghost use Rattle.fil_sig.specs.Limits.{KeepsDelayLimit, KeepsOffsetLimit, KeepsLimits};
+ghost use Rattle.fil_ast.specs.Limits.{KeepsDelayLimit, KeepsOffsetLimit, KeepsLimits};
 ghost use Rattle.fil_sig.specs.Seen.{seen, seen_event, seen_offset, seen_port};
 
-use crate::named::MOST_OFFSET;
 use crate::time_sig::{Delay, Off, SigEvent, SigPort, TimeSig};
-use fil_ast::{EventDef, FilComp, FilDesign, FilPort, GoPort, Time};
+use fil_ast::{EventDef, FilComp, FilDesign, FilPort, GoPort, MOST_OFFSET, Time};
 use hw_bits::Memory;
 use hw_names::{NameId, Names, Word};
 use std::alloc::Global;

@@ -8,9 +8,11 @@ mod primitive;
 mod shape;
 mod time_sig;
 
-pub use component::component_named;
-pub use named::{MOST_OFFSET, SigEnd, signature, used_signature};
+pub use component::{component_named, component_signature};
+pub use named::{SigEnd, signature, used_signature};
 pub use names::add_name;
+pub use primitive::table_name;
+pub use shape::{has_shape, has_widths};
 pub use time_sig::{Delay, Off, SigEvent, SigPort, TimeSig};
 
 #[cfg(test)]

@@ -7,7 +7,7 @@ ghost use Rattle.fil_ast.specs.Primitives.{primitive_signature, table_name};
 ghost use Rattle.fil_ast.specs.Signature.{component_signature};
 ghost use Rattle.fil_ast.specs.Tree.{Design, component_tree, design_of};
 ghost use Rattle.fil_ast.specs.Typing.{HasWidths, HasShape};
-ghost use Rattle.fil_sig.specs.Limits.{KeepsLimits, HasSmallOffsets};
+ghost use Rattle.fil_ast.specs.Limits.{KeepsLimits, HasSmallOffsets};
 ghost use Rattle.fil_sig.specs.Refusals.{IsUsable, TellsCause, TellsFault};
 ghost use Rattle.fil_sig.specs.Seen.{seen};
 
@@ -20,9 +20,6 @@ use hw_bits::Memory;
 use hw_names::{NameId, Names};
 use hw_prims::Prim;
 use std::alloc::Global;
-
-/// The greatest offset and the greatest delay of a signature.
-pub const MOST_OFFSET: u128 = 4096;
 
 /// Why a name with parameters has no signature.
 #[derive(Clone, Copy, Debug, PartialEq, Eq)]

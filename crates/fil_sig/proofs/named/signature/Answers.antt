@@ -6,7 +6,7 @@ use Rattle.hw_names.specs.Name.{Text}
 use Rattle.hw_names.proofs.NameLemmas.{text_of-slice_get}
 use Rattle.fil_ast.specs.Scope.{signature_in}
 use Rattle.fil_ast.specs.Tree.{design_of}
-use Rattle.fil_sig.specs.Limits.{KeepsLimits}
+use Rattle.fil_ast.specs.Limits.{KeepsLimits}
 use Rattle.fil_sig.specs.Refusals.{IsUsable, TellsCause}
 use Rattle.fil_sig.specs.Seen.{seen}
 use Rattle.fil_sig.proofs.named.signature.Goals as goal
