@@ -1,20 +1,10 @@
 -- The least of marked ports by their names.
-use Rattle.std.proofs.Common.{◌≡◌, ◌≢◌, ℕ, ◌+◌, ◌<◌, ◌≤◌, inl, inr, Bool, true, false, List, length, get_or, Option, Some, None, sym, ap, ◌∙◌, arith, subst}
-use Rattle.std.specs.Prelude.{slice_get, IfSome, IfNone}
-use Rattle.std.specs.Cmp.Lexicographic.{slice_cmp}
-use Rattle.std.specs.Ordering.{nat_cmp}
-use Rattle.std.specs.declared.cmp.Ordering.TheVariants.{Greater}
+use Rattle.std.proofs.Common.{◌≡◌, ℕ, ◌+◌, ◌<◌, ◌≤◌, inl, inr, Bool, true, false, List, length, get_or, Option, Some, None, sym, ap, ◌∙◌, arith, subst}
+use Rattle.std.specs.Prelude.{IfSome, IfNone}
 use Rattle.std.proofs.lemmas.Bool.{cases_lt}
 use Rattle.hw_names.specs.Name.{Text}
-use Rattle.net_sim.proofs.NameOrderLemmas.{is_lesser_second, is_lesser_first, at_most_trans, at_most_itself}
-use Rattle.net_sim.specs.ByName.{IsAtMost, IsLesser, IsLeastWith, IsLeastMarked}
-
-module _ (names : List Text) (a b : ℕ) (x y : Text) (at : slice_get names a ≡ Some x) (at' : slice_get names b ≡ Some y) where
-  pub lesser_second : slice_cmp nat_cmp x y ≡ Greater → IsLesser names a b b
-  lesser_second e = let r = is_lesser_second names a b x y at at' e in record { one = r.one; first = r.first; second = r.second }
-
-  pub lesser_first : slice_cmp nat_cmp x y ≢ Greater → IsLesser names a b a
-  lesser_first le = let r = is_lesser_first names a b x y at at' le in record { one = r.one; first = r.first; second = r.second }
+use Rattle.net_sim.proofs.NameOrderLemmas.{at_most_trans, at_most_itself}
+use Rattle.net_sim.specs.ByName.{IsAtMost, IsLeastWith, IsLeastMarked}
 
 -- the least marked port of the first ones
 pub record IsLeastOf (names : List Text) (marks : List Bool) (n least : ℕ) : Type 0 where

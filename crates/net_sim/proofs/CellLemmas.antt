@@ -1,16 +1,15 @@
 -- The listing of a netlist's cells with their primitives and ports.
-use Rattle.std.proofs.Common.{◌≡◌, ℕ, ◌+◌, ◌<◌, List, [], ◌∷◌, ◌++◌, None, Some, length, get_or, refl, sym, ap, ◌∙◌, arith, subst, inl, inr}
+use Rattle.std.proofs.Common.{◌≡◌, ℕ, ◌+◌, ◌<◌, List, [], ◌∷◌, ◌++◌, None, Some, length, get_or, refl, sym, ap, ◌∙◌, arith, subst}
 use Rattle.std.specs.Prelude.{slice_get, option_map}
-use Rattle.std.proofs.lemmas.Bool.{cases_lt}
 use Rattle.std.proofs.lemmas.List.{length_push, length-map}
-use Rattle.std.proofs.lemmas.Option.{slice_get-map, slice_get_read, slice_get_within, same_Some}
+use Rattle.std.proofs.lemmas.Option.{slice_get-map, slice_get_read}
 use Rattle.hw_prims.specs.Table.{inputs_of, outputs_of}
 use Rattle.net_core.specs.Netlist.{Netlist, CellLine, netlist_of, cell_of, set_of}
 use Rattle.net_core.specs.declared.net.Net.{Net}
 use Rattle.net_core.specs.declared.net.NetAssign.{NetAssign}
 use Rattle.net_core.specs.declared.net.NetCell.{NetCell}
 use Rattle.net_sim.proofs.LayoutLemmas.{first_port-more, length-ports_of_cell}
-use Rattle.net_sim.proofs.ValidLemmas.{slice_get-append_right, slice_get-append_before}
+use Rattle.net_sim.proofs.GrowthLemmas.{each_more}
 use Rattle.net_sim.specs.Layout.{IsCellPorts, first_port, own_count}
 use Rattle.net_sim.specs.declared.cells.CellPorts.{CellPorts}
 
@@ -38,19 +37,11 @@ module _ (n : Netlist) (i first : ℕ) (cells : List CellPorts) (c : CellLine) (
   next_first = omega (arith, so_far.next, first_port-more n i c at, length-ports_of_cell c ports.prim is.prim)
 
   pub listed_more : AreListed n (i + 1) (cells ++ ports ∷ []) (first + (length (inputs_of ports.prim) + length (outputs_of ports.prim)))
-  listed_more = record { all = length_push cells ports ∙ ap (λ k. k + 1) so_far.all; each = each; next = next_first }
-    where
-      each : (k : ℕ) (d : CellLine) (other : CellPorts) → slice_get n.cells k ≡ Some d → slice_get (cells ++ ports ∷ []) k ≡ Some other → IsCellPorts n k d other
-      each k d other at' there = elim (cases_lt k i) [
-        | inl before ↦ so_far.each k d other at' (sym (slice_get-append_before cells (ports ∷ []) k (omega (arith, before, so_far.all))) ∙ there)
-        | inr last ↦
-            let within = slice_get_within (cells ++ ports ∷ []) k other there in
-            let same : k ≡ i = omega (arith, within, length_push cells ports, last, so_far.all) in
-            let here : slice_get (cells ++ ports ∷ []) k ≡ Some ports = ap (slice_get (cells ++ ports ∷ [])) (let e : k ≡ length cells + 0 = omega (arith, same, so_far.all) in e) ∙ slice_get-append_right cells (ports ∷ []) 0 in
-            let e : other ≡ ports = same_Some other ports (sym there ∙ here) in
-            let e' : d ≡ c = same_Some d c (sym at' ∙ ap (slice_get n.cells) same ∙ at) in
-            rw (same, e, e') is
-      ]
+  listed_more = record {
+    all = length_push cells ports ∙ ap (λ k. k + 1) so_far.all;
+    each = each_more (IsCellPorts n) (IsCellPorts n) n.cells cells c ports (λ k d other has. has) (ap (slice_get n.cells) so_far.all ∙ at) (subst (λ k. IsCellPorts n k c ports) (sym so_far.all) is) so_far.each;
+    next = next_first;
+  }
 
 -- the same of the items that a loop goes over
 pub cell_item : (net : Net) (items : List NetCell) (i : ℕ) (cell : NetCell) → items ≡ net.cells.items → i < length items → cell ≡ get_or items i cell → slice_get (netlist_of net).cells i ≡ Some (cell_of net.names cell)

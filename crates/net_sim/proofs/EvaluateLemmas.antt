@@ -26,7 +26,8 @@ use Rattle.net_sim.proofs.PlaceLemmas.{in_place, writable_place, output_place, n
 use Rattle.net_sim.proofs.PortLemmas.{port_with}
 use Rattle.net_sim.proofs.RowLemmas.{Once, once_from_distinct, row_at, row_set, AgreeBut, drivers_kept, value_kept}
 use Rattle.net_sim.proofs.SettleLemmas.{driven_writable}
-use Rattle.net_sim.specs.Evaluated.{IsValueOf, Clashes, IsAtMost, IsLesser, IsLeastWith}
+use Rattle.net_sim.specs.ByName.{IsAtMost, IsLesser}
+use Rattle.net_sim.specs.Evaluated.{IsValueOf, Clashes, IsLeastConflict}
 use Rattle.net_sim.specs.Layout.{port_names, name_of}
 use Rattle.net_sim.specs.Order.{IsNamed}
 use Rattle.net_sim.specs.OrderValue.{OrderValue}
@@ -110,10 +111,10 @@ module _ (n : Netlist) (row : Row) (ports : List ℕ) (i port : ℕ) (here : sli
     ],
   )
 
-  pub least_more : (s : Settled) (found result : Option ℕ) → (IsClash s → Clashes n row port) → (Clashes n row port → IsClash s) → IsLeastWith (port_names n) s found port result → IsLeastSoFar n row ports i found → IsLeastSoFar n row ports (i + 1) result
+  pub least_more : (s : Settled) (found result : Option ℕ) → (IsClash s → Clashes n row port) → (Clashes n row port → IsClash s) → IsLeastConflict (port_names n) s found port result → IsLeastSoFar n row ports i found → IsLeastSoFar n row ports (i + 1) result
   least_more Undriven found result clash of is least = subst (IsLeastSoFar n row ports (i + 1)) (sym is) (unchanged found of least)
-  least_more (Driven bits) found result clash of is least = subst (IsLeastSoFar n row ports (i + 1)) (sym is) (unchanged found of least)
-  least_more Clash None result clash of is least = subst (IsLeastSoFar n row ports (i + 1)) (sym is) (first_found (clash tt) least)
+  least_more (Driven value) found result clash of is least = subst (IsLeastSoFar n row ports (i + 1)) (sym is) (unchanged found of least)
+  least_more Clash None result clash of is least = subst (IsLeastSoFar n row ports (i + 1)) (sym (is.1 ∙ ap Some is.2)) (first_found (clash tt) least)
   least_more Clash (Some other) result clash of is least = subst (IsLeastSoFar n row ports (i + 1)) (sym is.1) (lesser_found other is.0 (clash tt) is.2 least)
 
 -- ---- one more port

@@ -1,10 +1,10 @@
--- Guards made flat, one node after another.
-use Rattle.std.proofs.Common.{◌≡◌, ℕ, zero, suc, ◌+◌, ◌<◌, List, [], ◌∷◌, ◌++◌, Bool, true, false, ◌&&◌, ◌||◌, Option, Some, None, Result, Ok, Err, length, take, map, get_or, Vec, Global, refl, sym, ap, ap₂, ◌∙◌, arith, inl, inr, subst}
-use Rattle.std.specs.Prelude.{slice_get, not, ◌==◌, Contains, is_some, option_map, IfOk}
-use Rattle.std.proofs.lemmas.Bool.{cases_lt, and_parts}
-use Rattle.std.proofs.lemmas.List.{length_push, take_more, map-append}
+-- Guards made flat, one test after another.
+use Rattle.std.proofs.Common.{◌≡◌, ℕ, zero, suc, ◌+◌, ◌<◌, List, [], ◌∷◌, ◌++◌, Bool, true, false, ◌&&◌, ◌||◌, Option, Some, None, Result, Ok, Err, length, drop, map, get_or, Vec, Global, refl, sym, ap, ap₂, ◌∙◌, arith, subst}
+use Rattle.std.specs.Prelude.{slice_get, ◌==◌, not, Contains, is_some, option_map, IfOk}
+use Rattle.std.proofs.lemmas.Bool.{and_parts}
+use Rattle.std.proofs.lemmas.List.{length_push, drop_more}
 use Rattle.std.proofs.lemmas.List.Elements.{All-cons, All-nil}
-use Rattle.std.proofs.lemmas.Option.{slice_get_within, slice_get_read, slice_get-map, same_Some}
+use Rattle.std.proofs.lemmas.Option.{slice_get_read, slice_get-map, same_Some}
 use Rattle.hw_names.specs.Name.{Text}
 use Rattle.hw_names.specs.declared.names.NameId.{NameId}
 use Rattle.hw_prims.specs.Row.{Row}
@@ -13,21 +13,23 @@ use Rattle.net_core.specs.Guard.{GuardTree, GuardTrees, Reads, Compares, Negates
 use Rattle.net_core.specs.Netlist.{Netlist, SetLine}
 use Rattle.net_core.specs.Rules.{PortLine, ports_of, port_named, port_width, source_width, source_exists, literal_fits, each_read, each_reads, each_in_guard, each_source, option_widths_agree, IsValid}
 use Rattle.net_core.specs.declared.net.Cmp.{Cmp}
+use Rattle.net_core.specs.declared.net.Cmp.TheVariants.{Eq}
 use Rattle.net_core.specs.declared.net.Guard.{Guard}
 use Rattle.net_core.specs.declared.net.Guard.TheVariants as variants
 use Rattle.net_core.specs.declared.net.Src.{Src}
 use Rattle.net_core.specs.declared.net.Src.TheVariants.{Port, Lit}
-use Rattle.net_sim.proofs.NodeLemmas.{adds, keeps_on, keeps_itself, stands_on, stands_alike, truth_of, guard_on, source_within, number_in}
-use Rattle.net_sim.proofs.ValidLemmas.{named_contains, set_keeps, slice_get-append_before}
+use Rattle.net_sim.proofs.GrowthLemmas.{each_more}
+use Rattle.net_sim.proofs.TestLemmas.{adds_one, keeps_on, keeps_itself, leads_on, leads_kept, stands_on, number_in}
+use Rattle.net_sim.proofs.ValidLemmas.{named_contains, set_keeps}
 use Rattle.net_sim.specs.Compiled.{IsSource}
-use Rattle.net_sim.specs.Flattening.{IsKnownSource, EachSource, EachSourceOf, EachOptionSource, AddsTest, AddsGuard, IsListed, StandsForList, signed, of_two, joined}
+use Rattle.net_sim.specs.Evaluated.{IsWithin, source_number}
+use Rattle.net_sim.specs.Flattening.{IsKnownSource, EachSource, EachSourceOf, EachOptionSource, AreExits, AddsTests, AddsGuard, KeepsTests, joined, exit_of, exits_before}
 use Rattle.net_sim.specs.Layout.{port_names}
-use Rattle.net_sim.specs.Nodes.{truth_at, node_truth, IsNodeAt, AreNodes, StandsFor, IsGuard}
+use Rattle.net_sim.specs.Tests.{AreTests, AreValuesIn, Leads, Here, StandsFor, end_of}
+use Rattle.net_sim.specs.declared.flatten.Exits.{Exits}
 use Rattle.net_sim.specs.declared.flatten.Join.{Join}
 use Rattle.net_sim.specs.declared.flatten.Join.TheVariants.{All as AllGuards, Any as AnyGuards}
-use Rattle.net_sim.specs.declared.guards.GuardNodes.{GuardNodes}
-use Rattle.net_sim.specs.declared.guards.Node.{Node}
-use Rattle.net_sim.specs.declared.guards.Node.TheVariants.{Read, Test, Not}
+use Rattle.net_sim.specs.declared.guards.Test.{Test}
 use Rattle.net_sim.specs.declared.plan.Source.{Source}
 
 -- ---- results
@@ -85,41 +87,33 @@ source_of_list P (h ∷ gs) (suc k) g at each = source_of_list P gs k g at each.
 
 -- ---- leaves
 
-pub adds_read : (names : List Text) (start : List Node) (src : Src Text) (s : Source) → IsSource names src s → AddsTest names start (start ++ Read s ∷ []) (length start) (λ row. holds row (Reads src))
-adds_read names start src s is =
-    adds names start start (Read s) (λ row. holds row (Reads src)) (keeps_itself start) (λ are. are) (source_within names src s is)
-    (λ row values truths has are. ap (λ v. v == 1) (number_in row names values src s has is))
+-- a comparison that leads to the exits
+abbrev pub compares : Cmp → (left right : Source) → Exits → Test
+compares op left right exits = record { op = op; left = left; right = right; yes = exits.yes; no = exits.no }
 
-pub adds_test : (names : List Text) (start : List Node) (op : Cmp) (left right : Src Text) (s t : Source) → IsSource names left s → IsSource names right t → AddsTest names start (start ++ Test op s t ∷ []) (length start) (λ row. holds row (Compares op left right))
-adds_test names start op left right s t is is' =
-    adds names start start (Test op s t) (λ row. holds row (Compares op left right)) (keeps_itself start) (λ are. are) (source_within names left s is, source_within names right t is')
-    (λ row values truths has are. ap₂ (compare_values op) (number_in row names values left s has is) (number_in row names values right t has is'))
+pub adds_leaf : (names : List Text) (tests : List Test) (exits : Exits) (truth : Row → Bool) (op : Cmp) (left right : Source) (test : Test) → test ≡ compares op left right exits → AreExits tests exits → IsWithin (length names) left → IsWithin (length names) right
+    → ((row : Row) (values : List ℕ) → AreValuesIn row names values → compare_values op (source_number values left) (source_number values right) ≡ truth row)
+    → AddsTests names tests (tests ++ test ∷ []) exits truth (length tests + 2)
+adds_leaf names tests exits truth op left right test e are l r same =
+    subst (λ t. AddsTests names tests (tests ++ t ∷ []) exits truth (length tests + 2)) (sym e)
+    (adds_one names tests exits truth (compares op left right exits) (record { left = l; right = r; yes = are.yes; no = are.no })
+    (λ row values has. ap (exit_of exits) (same row values has)))
 
--- ---- negations
+-- a lone source is 1
+pub read_truth : (names : List Text) (src : Src Text) (left right : Source) → IsSource names src left → ((values : List ℕ) → source_number values right ≡ 1) → (row : Row) (values : List ℕ) → AreValuesIn row names values → compare_values Eq (source_number values left) (source_number values right) ≡ holds row (Reads src)
+read_truth names src left right is is_one row values has = ap₂ ◌==◌ (number_in row names values src left has is) (is_one values)
 
-pub adds_not : (names : List Text) (start nodes : List Node) (whole : ℕ) (test : Row → Bool) → AddsTest names start nodes whole test → AddsTest names start (nodes ++ Not whole ∷ []) (length nodes) (λ row. not (test row))
-adds_not names start nodes whole test so_far =
-    adds names start nodes (Not whole) (λ row. not (test row)) so_far.keeps so_far.nodes so_far.stands.within
-    (λ row values truths has are. ap not (truth_of names nodes (length start) whole test so_far.stands row values truths has are))
+pub compare_truth : (names : List Text) (op : Cmp) (a b : Src Text) (left right : Source) → IsSource names a left → IsSource names b right → (row : Row) (values : List ℕ) → AreValuesIn row names values → compare_values op (source_number values left) (source_number values right) ≡ holds row (Compares op a b)
+compare_truth names op a b left right is is' row values has = ap₂ (compare_values op) (number_in row names values a left has is) (number_in row names values b right has is')
 
-pub adds_alike : (names : List Text) (start nodes : List Node) (whole : ℕ) (test other : Row → Bool) → ((row : Row) → test row ≡ other row) → AddsTest names start nodes whole test → AddsTest names start nodes whole other
-adds_alike names start nodes whole test other same so_far = record { keeps = so_far.keeps; nodes = so_far.nodes; stands = stands_alike names nodes (length start) whole test other same so_far.stands }
-
-pub signed-not : (negated b : Bool) → signed (not negated) b ≡ signed negated (not b)
-signed-not true true = refl
-signed-not true false = refl
-signed-not false b = refl
-
--- what was added stands for the whole, once it is negated or not
-pub finish : {E : Type 0} (names : List Text) (start first mid new : List Node) (whole : ℕ) (negated : Bool) (test all : Row → Bool) (r : Result ℕ E) → first ≡ start → ((row : Row) → signed negated (test row) ≡ all row) → AddsTest names first mid whole test
-    → IfOk r (λ node. (names : List Text) (start : List Node) (test : Row → Bool) → AddsTest names start mid whole test → AddsTest names start new node (λ row. signed negated (test row)))
-    → IfOk r (λ node. AddsTest names start new node all)
-finish names start first mid new whole negated test all r e same added negates =
-    if_ok r
-    (λ node. (names : List Text) (start : List Node) (test : Row → Bool) → AddsTest names start mid whole test → AddsTest names start new node (λ row. signed negated (test row)))
-    (λ node. AddsTest names start new node all)
-    (λ node negate. adds_alike names start new node (λ row. signed negated (test row)) all same (negate names start test (subst (λ l. AddsTest names l mid whole test) e added)))
-    negates
+-- what was added for one truth and its exits, for another with others
+pub finish : (names : List Text) (start first new : List Test) (exits ways : Exits) (test all : Row → Bool) (number : ℕ) → first ≡ start → ((row : Row) → exit_of ways (test row) ≡ exit_of exits (all row)) → AddsTests names first new ways test number → AddsTests names start new exits all number
+finish names start first new exits ways test all number e same added = record {
+  keeps = subst (λ l. KeepsTests l new) e added.keeps;
+  tests = subst (λ l. AreTests (length names) l → AreTests (length names) new) e added.tests;
+  within = added.within;
+  leads = λ row values has. subst (λ to. Leads new values to number) (same row) (added.leads row values has);
+}
 
 -- ---- guards in the code's tree
 
@@ -151,124 +145,92 @@ module _ (f : NameId → Text) where
   source_in P items i g lt is each =
       source_of_list P (map (guard_tree f) items) i (guard_tree f g) (slice_get-map (guard_tree f) items i ∙ ap (option_map (guard_tree f)) (slice_get_read items (length items) i g refl lt is)) each
 
-  pub taken_more : (items : List (Guard NameId)) (i : ℕ) (g : Guard NameId) → i < length items → g ≡ get_or items i g → map (guard_tree f) (take (i + 1) items) ≡ map (guard_tree f) (take i items) ++ guard_tree f g ∷ []
-  taken_more items i g lt is =
-      ap (map (guard_tree f)) (take_more items i g lt ∙ ap (λ (x : Guard NameId). take i items ++ x ∷ []) (sym is)) ∙ map-append (guard_tree f) (take i items) (g ∷ [])
-
 -- ---- lists
 
-and_nil : (b : Bool) → (b && true) ≡ b
-and_nil true = refl
-and_nil false = refl
+abbrev of_two : Join → Bool → Bool → Bool
+of_two AllGuards a b = a && b
+of_two AnyGuards a b = a || b
 
-or_nil : (b : Bool) → (b || false) ≡ b
-or_nil true = refl
-or_nil false = refl
+joined_more : (join : Join) (row : Row) (g : GuardTree Text) (gs : GuardTrees Text) → joined join row (MoreGuards g gs) ≡ of_two join (holds row g) (joined join row gs)
+joined_more AllGuards row g gs = refl
+joined_more AnyGuards row g gs = refl
 
-and_and : (a b c : Bool) → (a && (b && c)) ≡ ((a && b) && c)
-and_and true b c = refl
-and_and false b c = refl
+-- the first guard leads to the exit of the list, or to the others, which lead there
+first_leads : (tests : List Test) (values : List ℕ) (join : Join) (exits : Exits) (rest start : ℕ) (first others : Bool) → Leads tests values (exit_of (exits_before join exits rest) first) start → Leads tests values (exit_of exits others) rest → Leads tests values (exit_of exits (of_two join first others)) start
+first_leads tests values AllGuards exits rest start true others here on = leads_on tests values (exit_of exits others) rest start here on
+first_leads tests values AllGuards exits rest start false others here on = here
+first_leads tests values AnyGuards exits rest start true others here on = here
+first_leads tests values AnyGuards exits rest start false others here on = leads_on tests values (exit_of exits others) rest start here on
 
-or_or : (a b c : Bool) → (a || (b || c)) ≡ ((a || b) || c)
-or_or true b c = refl
-or_or false b c = refl
+exit_within : (tests : List Test) (exits : Exits) (b : Bool) → AreExits tests exits → exit_of exits b < length tests + 2
+exit_within tests exits true are = are.yes
+exit_within tests exits false are = are.no
 
-joined_one : (join : Join) (row : Row) (g : GuardTree Text) → joined join row (guards_of (g ∷ [])) ≡ holds row g
-joined_one AllGuards row g = and_nil (holds row g)
-joined_one AnyGuards row g = or_nil (holds row g)
+pub exits_there : (join : Join) (old new : List Test) (exits : Exits) (rest : ℕ) → AreExits old exits → KeepsTests old new → rest < length new + 2 → AreExits new (exits_before join exits rest)
+exits_there AllGuards old new exits rest are keeps within = record { yes = within; no = omega (arith, are.no, keeps.longer) }
+exits_there AnyGuards old new exits rest are keeps within = record { yes = omega (arith, are.yes, keeps.longer); no = within }
 
-joined_push : (join : Join) (row : Row) (gs : List (GuardTree Text)) (g : GuardTree Text) → joined join row (guards_of (gs ++ g ∷ [])) ≡ of_two join (joined join row (guards_of gs)) (holds row g)
-joined_push AllGuards row [] g = and_nil (holds row g)
-joined_push AllGuards row (h ∷ gs) g = ap (λ b. holds row h && b) (joined_push AllGuards row gs g) ∙ and_and (holds row h) (all_hold row (guards_of gs)) (holds row g)
-joined_push AnyGuards row [] g = or_nil (holds row g)
-joined_push AnyGuards row (h ∷ gs) g = ap (λ b. holds row h || b) (joined_push AnyGuards row gs g) ∙ or_or (holds row h) (any_holds row (guards_of gs)) (holds row g)
+pub negated_exit : (exits : Exits) (b : Bool) → exit_of (record { yes = exits.no; no = exits.yes }) b ≡ exit_of exits (not b)
+negated_exit exits true = refl
+negated_exit exits false = refl
 
--- the first guard of a list
-pub listed_first : (names : List Text) (start nodes : List Node) (join : Join) (gs : List (GuardTree Text)) (g : GuardTree Text) (so_far : Option ℕ) (this : ℕ) → so_far ≡ None → IsListed names start nodes join gs so_far → StandsFor names nodes (length start) this (λ row. holds row g) → IsListed names start nodes join (gs ++ g ∷ []) (Some this)
-listed_first names start nodes join gs g None this e listed stands = record {
-  keeps = listed.keeps;
-  nodes_are = listed.nodes_are;
-  stands = stands_alike names nodes (length start) this (λ row. holds row g) (λ row. joined join row (guards_of (gs ++ g ∷ []))) (λ row. sym (ap (λ (l : List (GuardTree Text)). joined join row (guards_of (l ++ g ∷ []))) listed.stands ∙ joined_one join row g)) stands;
-}
-listed_first names start nodes join gs g (Some before) this e listed stands = absurd (cc)
+pub exits_negated : (tests : List Test) (exits : Exits) → AreExits tests exits → AreExits tests (record { yes = exits.no; no = exits.yes })
+exits_negated tests exits are = record { yes = are.no; no = are.yes }
 
--- one more guard of a list
-pub listed_more : (names : List Text) (start nodes : List Node) (join : Join) (gs : List (GuardTree Text)) (g : GuardTree Text) (so_far : Option ℕ) (before this : ℕ) (node : Node) → so_far ≡ Some before
-    → ((ports place : ℕ) → before < place → this < place → IsNodeAt ports place node)
-    → ((values : List ℕ) (truths : List Bool) → node_truth values truths node ≡ of_two join (truth_at truths before) (truth_at truths this))
-    → IsListed names start nodes join gs so_far → StandsFor names nodes (length start) this (λ row. holds row g) → IsListed names start (nodes ++ node ∷ []) join (gs ++ g ∷ []) (Some (length nodes))
-listed_more names start nodes join gs g None before this node e reads truth listed stands = absurd (cc)
-listed_more names start nodes join gs g (Some other) before this node e reads truth listed stands = record { keeps = added.keeps; nodes_are = added.nodes; stands = added.stands }
-  where
-    so_far : StandsFor names nodes (length start) before (λ row. joined join row (guards_of gs))
-    so_far = subst (λ k. StandsFor names nodes (length start) k (λ row. joined join row (guards_of gs))) (same_Some other before e) listed.stands
-
-    added : AddsTest names start (nodes ++ node ∷ []) (length nodes) (λ row. joined join row (guards_of (gs ++ g ∷ [])))
-    added =
-        adds names start nodes node (λ row. joined join row (guards_of (gs ++ g ∷ []))) listed.keeps listed.nodes_are (reads (length names) (length nodes) so_far.within stands.within)
-        (λ row values truths has are.
-        truth values truths
-        ∙ ap₂ (of_two join) (truth_of names nodes (length start) before (λ r. joined join r (guards_of gs)) so_far row values truths has are) (truth_of names nodes (length start) this (λ r. holds r g) stands row values truths has are)
-        ∙ sym (joined_push join row gs g))
-
-pub listed_none : (names : List Text) (start : List Node) (join : Join) → IsListed names start start join [] None
-listed_none names start join = record { keeps = keeps_itself start; nodes_are = λ are. are; stands = refl }
-
--- a guard of the list was added
-pub listed_on : (names : List Text) (start nodes nodes' : List Node) (join : Join) (gs : List (GuardTree Text)) (so_far : Option ℕ) (this : ℕ) (test : Row → Bool) → IsListed names start nodes join gs so_far → AddsTest names nodes nodes' this test → IsListed names start nodes' join gs so_far × StandsFor names nodes' (length start) this test
-listed_on names start nodes nodes' join gs so_far this test listed added = (
-  record { keeps = keeps_on start nodes nodes' listed.keeps added.keeps; nodes_are = λ are. added.nodes (listed.nodes_are are); stands = on so_far listed.stands },
-  stands_on names nodes' nodes' (length nodes) (length start) this test (keeps_itself nodes') listed.keeps.longer added.stands,
-)
-  where
-    on : (o : Option ℕ) → StandsForList names nodes (length start) join gs o → StandsForList names nodes' (length start) join gs o
-    on None e = e
-    on (Some node) stands = stands_on names nodes nodes' (length start) (length start) node (λ row. joined join row (guards_of gs)) added.keeps (omega arith) stands
-
--- the whole list
-pub listed_some : (names : List Text) (start nodes : List Node) (join : Join) (gs : List (GuardTree Text)) (so_far : Option ℕ) (node : ℕ) → so_far ≡ Some node → IsListed names start nodes join gs so_far → AddsTest names start nodes node (λ row. joined join row (guards_of gs))
-listed_some names start nodes join gs None node e listed = absurd (cc)
-listed_some names start nodes join gs (Some other) node e listed = record {
-  keeps = listed.keeps;
-  nodes = listed.nodes_are;
-  stands = subst (λ k. StandsFor names nodes (length start) k (λ row. joined join row (guards_of gs))) (same_Some other node e) listed.stands;
+pub listed_none : (names : List Text) (tests : List Test) (join : Join) (exits : Exits) (start : ℕ) → AreExits tests exits → ((row : Row) → start ≡ exit_of exits (joined join row NoGuards)) → AddsTests names tests tests exits (λ row. joined join row NoGuards) start
+listed_none names tests join exits start are same = record {
+  keeps = keeps_itself tests;
+  tests = λ old. old;
+  within = subst (λ k. k < length tests + 2) (sym (same (λ name. 0))) (exit_within tests exits (joined join (λ name. 0) NoGuards) are);
+  leads = λ row values has. subst (Leads tests values (exit_of exits (joined join row NoGuards))) (sym (same row)) Here;
 }
 
-pub listed_empty : (names : List Text) (start nodes : List Node) (join : Join) (gs : List (GuardTree Text)) (so_far : Option ℕ) (node : Node) → so_far ≡ None
-    → ((ports place : ℕ) → IsNodeAt ports place node)
-    → ((row : Row) (values : List ℕ) (truths : List Bool) → node_truth values truths node ≡ joined join row NoGuards)
-    → IsListed names start nodes join gs so_far → AddsTest names start (nodes ++ node ∷ []) (length nodes) (λ row. joined join row (guards_of gs))
-listed_empty names start nodes join gs None node e reads truth listed =
-    adds names start nodes node (λ row. joined join row (guards_of gs)) listed.keeps listed.nodes_are (reads (length names) (length nodes))
-    (λ row values truths has are. truth row values truths ∙ ap (λ (l : List (GuardTree Text)). joined join row (guards_of l)) (sym listed.stands))
-listed_empty names start nodes join gs (Some other) node e reads truth listed = absurd (cc)
+-- one more guard before those of a list
+pub listed_more : (names : List Text) (old mid new : List Test) (join : Join) (exits : Exits) (rest start : ℕ) (g : GuardTree Text) (gs : GuardTrees Text) → AddsTests names old mid exits (λ row. joined join row gs) rest → AddsTests names mid new (exits_before join exits rest) (λ row. holds row g) start → AddsTests names old new exits (λ row. joined join row (MoreGuards g gs)) start
+listed_more names old mid new join exits rest start g gs others first = record {
+  keeps = keeps_on old mid new others.keeps first.keeps;
+  tests = λ are. first.tests (others.tests are);
+  within = first.within;
+  leads = λ row values has.
+      subst (λ b. Leads new values (exit_of exits b) start) (sym (joined_more join row g gs))
+      (first_leads new values join exits rest start (holds row g) (joined join row gs) (first.leads row values has) (leads_kept mid new values (exit_of exits (joined join row gs)) rest first.keeps (others.leads row values has)));
+}
+
+pub drop_trees : (f : NameId → Text) (items : List (Guard NameId)) (i : ℕ) (g : Guard NameId) → i < length items → g ≡ get_or items i g → guards_of (map (guard_tree f) (drop i items)) ≡ MoreGuards (guard_tree f g) (guards_of (map (guard_tree f) (drop (i + 1) items)))
+drop_trees f items i g lt is = ap (λ (l : List (Guard NameId)). guards_of (map (guard_tree f) l)) (drop_more items i g lt ∙ ap (λ (x : Guard NameId). x ∷ drop (i + 1) items) (sym is))
+
+-- ---- one assignment
+
+pub adds_some : (names : List Text) (old new : List Test) (exits : Exits) (g : GuardTree Text) (start : ℕ) → exits.yes ≡ 1 → exits.no ≡ 0 → AddsTests names old new exits (λ row. holds row g) start → AddsGuard names old new (Some g) start
+adds_some names old new exits g start is_yes is_no added = record {
+  keeps = added.keeps;
+  tests = added.tests;
+  stands = record { within = added.within; leads = λ row values has. subst (λ to. Leads new values to start) (ends (holds row g)) (added.leads row values has) };
+}
+  where
+    ends : (b : Bool) → exit_of exits b ≡ end_of b
+    ends true = is_yes
+    ends false = is_no
+
+pub adds_none : (names : List Text) (tests : List Test) → AddsGuard names tests tests None 1
+adds_none names tests = record { keeps = keeps_itself tests; tests = λ are. are; stands = record { within = omega arith; leads = λ row values has. Here } }
 
 -- ---- all assignments
 
 -- the guards of the first assignments
-pub record AreGuardsSoFar (n : Netlist) (i : ℕ) (nodes : List Node) (sets : List (Option GuardNodes)) : Type 0 where
-  pub nodes_are : AreNodes (length (port_names n)) nodes
-  pub all : length sets ≡ i
-  pub each : (k : ℕ) (a : SetLine) (flat : Option GuardNodes) → slice_get n.sets k ≡ Some a → slice_get sets k ≡ Some flat → IsGuard (port_names n) nodes a.guard flat
+pub record AreGuardsSoFar (n : Netlist) (i : ℕ) (tests : List Test) (starts : List ℕ) : Type 0 where
+  pub tests_are : AreTests (length (port_names n)) tests
+  pub all : length starts ≡ i
+  pub each : (k : ℕ) (a : SetLine) (start : ℕ) → slice_get n.sets k ≡ Some a → slice_get starts k ≡ Some start → StandsFor (port_names n) tests start a.guard
 
 pub guards_none : (n : Netlist) → AreGuardsSoFar n 0 [] []
-guards_none n = record { nodes_are = λ i node none. (let bad : None ≡ Some node = none in absurd (cc)); all = refl; each = λ k a flat at none. let bad : None ≡ Some flat = none in absurd (cc) }
+guards_none n = record { tests_are = λ k test none. (let bad : None ≡ Some test = none in absurd (cc)); all = refl; each = λ k a start at none. let bad : None ≡ Some start = none in absurd (cc) }
 
-pub guards_more : (n : Netlist) (i : ℕ) (nodes nodes' : List Node) (sets : List (Option GuardNodes)) (a : SetLine) (flat : Option GuardNodes) → AreGuardsSoFar n i nodes sets → slice_get n.sets i ≡ Some a → AddsGuard (port_names n) nodes nodes' a.guard flat → AreGuardsSoFar n (i + 1) nodes' (sets ++ flat ∷ [])
-guards_more n i nodes nodes' sets a flat so_far at added = record { nodes_are = added.nodes so_far.nodes_are; all = length_push sets flat ∙ ap (λ k. k + 1) so_far.all; each = each }
-  where
-    each : (k : ℕ) (b : SetLine) (f : Option GuardNodes) → slice_get n.sets k ≡ Some b → slice_get (sets ++ flat ∷ []) k ≡ Some f → IsGuard (port_names n) nodes' b.guard f
-    each k b f at' there = elim (cases_lt k i) [
-      | inl before ↦ guard_on (port_names n) nodes nodes' b.guard f added.keeps (so_far.each k b f at' (sym (slice_get-append_before sets (flat ∷ []) k (omega (arith, before, so_far.all))) ∙ there))
-      | inr last ↦
-          let within = slice_get_within (sets ++ flat ∷ []) k f there in
-          let same : k ≡ i = omega (arith, within, length_push sets flat, last, so_far.all) in
-          let here : slice_get (sets ++ flat ∷ []) k ≡ Some flat = ap (slice_get (sets ++ flat ∷ [])) (same ∙ sym so_far.all) ∙ pushed_at sets flat in
-          let e : f ≡ flat = same_Some f flat (sym there ∙ here) in
-          let e' : b ≡ a = same_Some b a (sym at' ∙ ap (slice_get n.sets) same ∙ at) in
-          rw (e, e') added.stands
-    ]
-      where
-        pushed_at : (xs : List (Option GuardNodes)) (x : Option GuardNodes) → slice_get (xs ++ x ∷ []) (length xs) ≡ Some x
-        pushed_at [] x = refl
-        pushed_at (y ∷ xs) x = pushed_at xs x
+pub guards_more : (n : Netlist) (i : ℕ) (tests tests' : List Test) (starts : List ℕ) (a : SetLine) (start : ℕ) → AreGuardsSoFar n i tests starts → slice_get n.sets i ≡ Some a → AddsGuard (port_names n) tests tests' a.guard start → AreGuardsSoFar n (i + 1) tests' (starts ++ start ∷ [])
+guards_more n i tests tests' starts a start so_far at added = record {
+  tests_are = added.tests so_far.tests_are;
+  all = length_push starts start ∙ ap (λ k. k + 1) so_far.all;
+  each =
+      each_more (λ k (b : SetLine) s. StandsFor (port_names n) tests s b.guard) (λ k (b : SetLine) s. StandsFor (port_names n) tests' s b.guard) n.sets starts a start (λ k b s. stands_on (port_names n) tests tests' s b.guard added.keeps)
+      (ap (slice_get n.sets) so_far.all ∙ at) added.stands so_far.each;
+}

@@ -2,6 +2,7 @@ pub mod CutLemmas
 pub mod GroupLemmas
 pub mod LayoutLemmas
 pub mod ValidLemmas
+pub mod GrowthLemmas
 pub mod CellLemmas
 pub mod MemberLemmas
 pub mod RowLemmas
@@ -12,9 +13,10 @@ pub mod GiverLemmas
 pub mod PlaceLemmas
 pub mod PortLemmas
 pub mod WideLemmas
-pub mod NodeLemmas
+pub mod TestLemmas
 pub mod FlattenLemmas
 pub mod SettleLemmas
+pub mod BranchLemmas
 pub mod ShownLemmas
 pub mod LoadLemmas
 pub mod StandsLemmas

@@ -12,7 +12,7 @@ use Rattle.net_core.specs.NetRun.{values_for}
 use Rattle.net_core.specs.Netlist.{Netlist}
 use Rattle.net_sim.proofs.EvaluateLemmas.{AreEvaluated, IsAmong, done_more, same_drivers, least_kept, least_more, in_range, row_is_made, conflicts_are}
 use Rattle.net_sim.proofs.PlanLemmas.{count_numbers}
-use Rattle.net_sim.specs.Evaluated.{IsValueOf, Clashes, IsLeastWith}
+use Rattle.net_sim.specs.Evaluated.{IsValueOf, Clashes, IsLeastConflict}
 use Rattle.net_sim.specs.Layout.{port_names, port_widths, name_of}
 use Rattle.net_sim.specs.OrderValue.{OrderValue}
 use Rattle.net_sim.specs.Plan.{IsCompiled}
@@ -46,7 +46,7 @@ module _ (n : Netlist) (order : OrderValue) (cells : List CellPorts) (sources : 
   pub evaluated_more : (v : Bits) (s : Settled) (found result : Option ℕ) → i < length items → v.value ≡ settled_value s
       → IsValueOf n inputs states (port_row n (values_of values)) (name_of n (get_or items i 0)) (settled_value s)
       → (IsClash s ↔ Clashes n (port_row n (values_of values)) (get_or items i 0))
-      → IsLeastWith (port_names n) s found (get_or items i 0) result
+      → IsLeastConflict (port_names n) s found (get_or items i 0) result
       → AreEvaluated n inputs states order.ports i (values_of values) found → AreEvaluated n inputs states order.ports (i + 1) (values_of (set values (get_or items i 0) v)) result
   evaluated_more v s found result lt value is clash least so_far = subst (λ vs. AreEvaluated n inputs states order.ports (i + 1) vs result) (sym (values_set values (get_or items i 0) v)) (record {
     done = done_more n order cells sources givers compiled inputs states (values_of values) i port v.value (count_numbers n values widths) (here lt) (subst (IsValueOf n inputs states (port_row n (values_of values)) (name_of n port)) (sym value) is) so_far.done;

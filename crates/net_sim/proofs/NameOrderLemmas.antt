@@ -9,7 +9,7 @@ use Rattle.std.specs.Prelude.{slice_get}
 use Rattle.std.specs.declared.cmp.Ordering.{Ordering}
 use Rattle.std.specs.declared.cmp.Ordering.TheVariants.{Less, Equal, Greater}
 use Rattle.hw_names.specs.Name.{Text}
-use Rattle.net_sim.specs.Evaluated.{IsLesser, IsAtMost}
+use Rattle.net_sim.specs.ByName.{IsLesser, IsAtMost}
 
 abbrev order : Text → Text → Ordering
 order = slice_cmp nat_cmp

@@ -91,6 +91,11 @@ input_number n cell prim (k, c, at, named, made) input has =
     let port = input_at n k c prim at made pin.index none pin.within in
     (first_port n k + pin.index, (cell_input c.name (get_or (inputs_of prim) pin.index none), port, ap₂ dotted named pin.named))
 
+-- rows that agree at the pins of a cell agree in its values
+pub values_alike : (row row' : Row) (cell : Text) (pins : List Text) → ((k : ℕ) (pin : Text) → slice_get pins k ≡ Some pin → row (dotted cell pin) ≡ row' (dotted cell pin)) → values_at row (dotted cell) pins ≡ values_at row' (dotted cell) pins
+values_alike row row' cell [] same = refl
+values_alike row row' cell (pin ∷ pins) same = ap₂ ◌∷◌ (same 0 pin refl) (values_alike row row' cell pins (λ k q at. same (suc k) q at))
+
 module _ (n : Netlist) (valid : IsValid n) (ports : List ℕ) (ordered : IsOrderOf n ports) where
   -- the place of a port in the order
   place_of : (m : ℕ) (name : Text) → IsNamed n m name → (i : ℕ) × (slice_get ports i ≡ Some m)
@@ -135,10 +140,6 @@ module _ (n : Netlist) (valid : IsValid n) (ports : List ℕ) (ordered : IsOrder
 
     rows_agree : (m : ℕ) (name : Text) → IsNamed n m name → row name ≡ row' name
     rows_agree m name named = let i = place_of m name named in agree_below (suc i.0) i.0 m name (omega arith) i.1 named
-
-  values_alike : (row row' : Row) (cell : Text) (pins : List Text) → ((k : ℕ) (pin : Text) → slice_get pins k ≡ Some pin → row (dotted cell pin) ≡ row' (dotted cell pin)) → values_at row (dotted cell) pins ≡ values_at row' (dotted cell) pins
-  values_alike row row' cell [] same = refl
-  values_alike row row' cell (pin ∷ pins) same = ap₂ ◌∷◌ (same 0 pin refl) (values_alike row row' cell pins (λ k q at. same (suc k) q at))
 
   module _ (inputs other : Trace) (loads : Text → List ℕ) (same : SameInputs n inputs other) (height tall : ℕ) (trace second : Trace) (rows : AreRows n inputs loads height trace) (rows' : AreRows n other loads tall second) where
     abbrev AgreeBefore : ℕ → Type 0

@@ -2,21 +2,21 @@
 use Rattle.std.proofs.Common.{◌≡◌, ℕ, ◌+◌, ◌<◌, ◌≤◌, List, [], Some, length, get_or, refl, sym, ap, ◌∙◌, arith, map, subst}
 use Rattle.std.specs.Prelude.{slice_get, option_map}
 use Rattle.std.proofs.lemmas.List.{length-map, get_or-map}
-use Rattle.std.proofs.lemmas.Option.{slice_get-map, slice_get_within, get_or_from_slice_get, slice_get-get_or, slice_get_read}
+use Rattle.std.proofs.lemmas.Option.{slice_get-map, get_or_from_slice_get, slice_get-get_or, slice_get_read, same_Some}
 use Rattle.hw_bits.specs.Values.{values_of, widths_of}
 use Rattle.hw_bits.specs.declared.bits.Bits.{Bits}
 use Rattle.hw_names.specs.Name.{Text}
 use Rattle.hw_prims.specs.Table.{Pin, inputs_of, outputs_of, pin_widths}
-use Rattle.net_core.specs.Netlist.{Netlist}
+use Rattle.net_core.specs.Netlist.{Netlist, SetLine}
 use Rattle.net_core.specs.Rules.{PortLine, ports_of, port_width, source_width}
 use Rattle.net_core.specs.declared.net.Src.{Src}
 use Rattle.net_core.specs.declared.net.Src.TheVariants.{Port, Lit}
-use Rattle.net_sim.proofs.GiverLemmas.{at_some, length-givers_of, output_of, input_within}
+use Rattle.net_sim.proofs.GiverLemmas.{length-givers_of, output_of, input_within}
 use Rattle.net_sim.proofs.LayoutLemmas.{in_at}
 use Rattle.net_sim.proofs.PortLemmas.{width_at, set_width, set_of_number, input_widths, output_width}
 use Rattle.net_sim.proofs.RowLemmas.{Once, once_from_distinct}
 use Rattle.net_sim.specs.Compiled.{IsSource}
-use Rattle.net_sim.specs.Evaluated.{HasWidth, HasWidthAt, cell_inputs}
+use Rattle.net_sim.specs.Evaluated.{HasWidth, HasSourceWidth, cell_inputs}
 use Rattle.net_sim.specs.Layout.{port_names, port_widths, name_of}
 use Rattle.net_sim.specs.OrderValue.{OrderValue}
 use Rattle.net_sim.specs.Plan.{IsCompiled}
@@ -73,24 +73,19 @@ module _ (n : Netlist) (order : OrderValue) (cells : List CellPorts) (sources : 
   names_once : Once (port_names n)
   names_once = once_from_distinct (port_names n) compiled.distinct
 
-  source_has_width : (a : Src Text) (s : Source) → IsSource (port_names n) a s → HasWidth (port_widths n) (source_width (ports_of n) a) s
+  pub source_has_width : (a : Src Text) (s : Source) → IsSource (port_names n) a s → HasWidth (port_widths n) (source_width (ports_of n) a) s
   source_has_width (Port p) (Slot k) is = width_at n names_once k p is
   source_has_width (Port p) (Fixed bits) is = absurd is
   source_has_width (Lit width value) (Slot k) is = absurd is
   source_has_width (Lit width value) (Fixed bits) is = is.1
 
   -- an assignment of a port fits its width
-  pub number_fits : (name : Text) (i k : ℕ) → slice_get (numbers_of name 0 n.sets) i ≡ Some k → HasWidthAt (port_widths n) (port_width (ports_of n) name) sources k
-  number_fits name i k at =
-      let a = set_of_number name 0 n.sets i k at in
-      let same : k ≡ a.index = omega (arith, a.counted) in
-      let lt : a.index < length sources = omega (arith, slice_get_within n.sets a.index a.set a.at, compiled.sourced.all) in
-      let s = at_some sources a.index lt in
-      let width : source_width (ports_of n) a.set.src ≡ port_width (ports_of n) name = sym (set_width n compiled.valid a.index a.set a.at) ∙ ap (port_width (ports_of n)) a.named in (
-        omega (arith, lt, same),
-        subst (HasWidth (port_widths n) (port_width (ports_of n) name)) (sym (ap (λ x. get_or sources x (Slot 0)) same ∙ get_or_from_slice_get sources a.index s.0 (Slot 0) s.1))
-            (subst (λ w. HasWidth (port_widths n) w s.0) width (source_has_width a.set.src s.0 (compiled.sourced.each a.index a.set s.0 a.at s.1))),
-      )
+  pub number_fits : (name : Text) (i k : ℕ) → slice_get (numbers_of name 0 n.sets) i ≡ Some k → HasSourceWidth n k (port_width (ports_of n) name)
+  number_fits name i k at a here =
+      let s = set_of_number name 0 n.sets i k at in
+      let same : k ≡ s.index = omega (arith, s.counted) in
+      let e : s.set ≡ a = same_Some s.set a (sym s.at ∙ ap (slice_get n.sets) (sym same) ∙ here) in
+      ap (λ (x : SetLine). source_width (ports_of n) x.src) (sym e) ∙ sym (set_width n compiled.valid s.index s.set s.at) ∙ ap (port_width (ports_of n)) s.named
 
   -- the width of a port, by its number
   pub width_of : (port : ℕ) → port < length (port_names n) → port_width (ports_of n) (name_of n port) ≡ get_or (port_widths n) port 0

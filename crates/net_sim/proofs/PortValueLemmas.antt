@@ -24,7 +24,7 @@ use Rattle.net_sim.specs.Evaluated.{IsValueOf, Clashes, cell_inputs}
 use Rattle.net_sim.specs.Layout.{port_names, name_of, first_port, AreCellPorts}
 use Rattle.net_sim.specs.OrderValue.{OrderValue}
 use Rattle.net_sim.specs.Plan.{IsCompiled, ArePrims}
-use Rattle.net_sim.specs.Nodes.{AreValuesIn}
+use Rattle.net_sim.specs.Tests.{AreValuesIn}
 use Rattle.net_sim.specs.Sim.{port_row, input_row, states_of, cell_names}
 use Rattle.net_sim.specs.declared.cells.CellPorts.{CellPorts}
 use Rattle.net_sim.specs.declared.plan.Giver.{Giver}

@@ -1,5 +1,5 @@
 -- The assignments to a port, one after another: which of them act, and what they give it.
-use Rattle.std.proofs.Common.{◌≡◌, ℕ, suc, ◌+◌, ◌<◌, ◌≤◌, List, [], ◌∷◌, ◌++◌, Bool, true, false, Option, Some, None, length, get_or, take, refl, sym, ap, ap₂, ◌∙◌, arith, append_assoc, subst}
+use Rattle.std.proofs.Common.{◌≡◌, ℕ, suc, ◌+◌, ◌<◌, ◌≤◌, List, [], ◌∷◌, ◌++◌, Bool, true, false, Some, length, get_or, take, refl, sym, ap, ap₂, ◌∙◌, arith, append_assoc, subst}
 use Rattle.std.specs.Prelude.{slice_get, option_map, bytes_eq, ◌&&◌, if◌then◌else◌}
 use Rattle.std.proofs.lemmas.List.{take_more, append-nil}
 use Rattle.std.proofs.lemmas.Option.{slice_get-map, get_or_from_slice_get, same_Some}
@@ -9,17 +9,14 @@ use Rattle.hw_bits.specs.declared.bits.Bits.{Bits}
 use Rattle.hw_names.specs.Name.{Text}
 use Rattle.hw_prims.specs.Row.{Row}
 use Rattle.net_core.specs.Circuit.{settled}
-use Rattle.net_core.specs.Guard.{GuardTree, guard_holds, source_value}
+use Rattle.net_core.specs.Guard.{guard_holds, source_value}
 use Rattle.net_core.specs.NetRun.{values_for, IsWritable}
 use Rattle.net_core.specs.Netlist.{Netlist, SetLine}
 use Rattle.net_core.specs.Rules.{IsValid}
 use Rattle.net_sim.proofs.PortLemmas.{set_writable}
 use Rattle.net_sim.specs.Evaluated.{HasWidth, IsBitsOf, source_number}
-use Rattle.net_sim.specs.Nodes.{AreTruths, AreValuesIn, IsGuard, truth_at}
 use Rattle.net_sim.specs.PortOrder.{numbers_of}
-use Rattle.net_sim.specs.Settled.{IsSettled, IsClash, HasSettledWidth, settled_value, value_if_acting}
-use Rattle.net_sim.specs.declared.guards.GuardNodes.{GuardNodes}
-use Rattle.net_sim.specs.declared.guards.Node.{Node}
+use Rattle.net_sim.specs.Settled.{IsSettled, IsClash, FitsWidth, settled_value, value_if_acting}
 use Rattle.net_sim.specs.declared.plan.Source.{Source}
 use Rattle.net_sim.specs.declared.plan.Source.TheVariants.{Slot, Fixed}
 use Rattle.net_sim.specs.declared.settle.Settled.{Settled}
@@ -84,24 +81,24 @@ bits_width values (Fixed bits) b width has is = ap (λ (x : Bits). x.width) is �
 
 pub value_is : (width : ℕ) (values : List ℕ) (s : Settled) → IsSettled width values s → settled_value s ≡ settled values
 value_is width values Undriven is = ap settled (sym is)
-value_is width values (Driven bits) is = ap settled (sym is.0)
+value_is width values (Driven value) is = ap settled (sym is.0)
 value_is width [] Clash is = refl
 value_is width (v ∷ []) Clash is = let one : length (v ∷ []) ≡ 1 = refl in absurd (omega (arith, is, one))
 value_is width (v ∷ (w ∷ vs)) Clash is = refl
 
-pub width_is : (width : ℕ) (values : List ℕ) (s : Settled) → IsSettled width values s → HasSettledWidth width s
+pub width_is : (width : ℕ) (values : List ℕ) (s : Settled) → IsSettled width values s → FitsWidth width s
 width_is width values Undriven is = tt
-width_is width values (Driven bits) is = is.1
+width_is width values (Driven value) is = is.1
 width_is width values Clash is = tt
 
 pub clash_is : (width : ℕ) (values : List ℕ) (s : Settled) → IsSettled width values s → IsClash s → 2 ≤ length values
 clash_is width values Undriven is clash = absurd clash
-clash_is width values (Driven bits) is clash = absurd clash
+clash_is width values (Driven value) is clash = absurd clash
 clash_is width values Clash is clash = is
 
 pub clash_of : (width : ℕ) (values : List ℕ) (s : Settled) → IsSettled width values s → 2 ≤ length values → IsClash s
 clash_of width values Undriven is two = let none : length {A = ℕ} [] ≡ 0 = refl in absurd (omega (arith, two, ap length is, none))
-clash_of width values (Driven bits) is two = let one : length (bits.value ∷ []) ≡ 1 = refl in absurd (omega (arith, two, ap length is.0, one))
+clash_of width values (Driven value) is two = let one : length (value ∷ []) ≡ 1 = refl in absurd (omega (arith, two, ap length is.0, one))
 clash_of width values Clash is two = tt
 
 -- a port that is driven is the destination of an assignment
@@ -118,17 +115,3 @@ pub driven_writable : (n : Netlist) → IsValid n → (row : Row) (port : Text) 
 driven_writable n valid row port some =
     let s = assigned row port n.sets some in
     subst (IsWritable n) s.3 (set_writable n valid s.0 s.1 s.2)
-
--- ---- guards by their nodes
-
-pub guard_within : (names : List Text) (nodes : List Node) (guard : Option (GuardTree Text)) (flat : GuardNodes) → IsGuard names nodes guard (Some flat) → (flat.first ≤ flat.last) × (flat.last < length nodes)
-guard_within names nodes None flat is = absurd is
-guard_within names nodes (Some guard) flat is = (is.from, is.within)
-
-pub guard_truth_is : (names : List Text) (nodes : List Node) (guard : Option (GuardTree Text)) (flat : GuardNodes) (row : Row) (values : List ℕ) (truths : List Bool) → IsGuard names nodes guard (Some flat) → AreValuesIn row names values → AreTruths nodes values truths flat.first (flat.last + 1) → truth_at truths flat.last ≡ guard_holds row guard
-guard_truth_is names nodes None flat row values truths is has are = absurd is
-guard_truth_is names nodes (Some guard) flat row values truths is has are = is.truth row values truths has are
-
-pub no_guard_is : (names : List Text) (nodes : List Node) (guard : Option (GuardTree Text)) (row : Row) → IsGuard names nodes guard None → true ≡ guard_holds row guard
-no_guard_is names nodes None row is = refl
-no_guard_is names nodes (Some guard) row is = absurd is

@@ -18,11 +18,12 @@ use Rattle.net_core.specs.NetRun.{IsNetCell}
 use Rattle.net_core.specs.Netlist.{Netlist, CellLine}
 use Rattle.net_core.specs.Rules.{IsValid}
 use Rattle.net_sim.proofs.GiverLemmas.{at_some}
+use Rattle.net_sim.proofs.GrowthLemmas.{slice_get-last}
 use Rattle.net_sim.proofs.PlaceLemmas.{listed_cell}
 use Rattle.net_sim.proofs.PortLemmas.{cells_once}
 use Rattle.net_sim.proofs.PortValueLemmas.{state_of_cell}
 use Rattle.net_sim.proofs.StepLemmas.{same_count, same_prim}
-use Rattle.net_sim.proofs.ValidLemmas.{slice_get-append_right, slice_get-append_before}
+use Rattle.net_sim.proofs.ValidLemmas.{slice_get-append_before}
 use Rattle.net_sim.specs.Layout.{AreCellPorts, IsCellPorts}
 use Rattle.net_sim.specs.Plan.{ArePrims}
 use Rattle.net_sim.specs.Shown.{is_shown, shown_cells, IsShown, AreShown, HasOneWordMore}
@@ -54,9 +55,6 @@ module _ (n : Netlist) (i : ℕ) (shown : List ℕ) (line : CellLine) (so_far : 
       more : filter is_shown (take (i + 1) n.cells) ≡ filter is_shown (take i n.cells) ++ line ∷ []
       more = filter_more n.cells i line at ∙ ap (λ b. filter is_shown (take i n.cells) ++ cond b (line ∷ []) []) is
 
-      last : {X : Type 0} (xs : List X) (x : X) → slice_get (xs ++ x ∷ []) (length xs) ≡ Some x
-      last xs x = ap (slice_get (xs ++ x ∷ [])) (let e : length xs ≡ length xs + 0 = omega arith in e) ∙ slice_get-append_right xs (x ∷ []) 0
-
       each : (mem k : ℕ) (other : CellLine) → slice_get (filter is_shown (take (i + 1) n.cells)) mem ≡ Some other → slice_get (shown ++ i ∷ []) mem ≡ Some k → slice_get n.cells k ≡ Some other
       each mem k other there here = elim (cases_lt mem (length shown)) [
         | inl before ↦
@@ -66,8 +64,8 @@ module _ (n : Netlist) (i : ℕ) (shown : List ℕ) (line : CellLine) (so_far : 
         | inr past ↦
             let within = slice_get_within (shown ++ i ∷ []) mem k here in
             let same : mem ≡ length shown = omega (arith, within, length_push shown i, past) in
-            let k_is : i ≡ k = same_Some i k (sym (last shown i) ∙ ap (slice_get (shown ++ i ∷ [])) (sym same) ∙ here) in
-            let line_is : line ≡ other = same_Some line other (sym (last (filter is_shown (take i n.cells)) line) ∙ ap (slice_get (filter is_shown (take i n.cells) ++ line ∷ [])) (sym so_far.all ∙ sym same) ∙ ap (λ l. slice_get l mem) (sym more) ∙ there) in
+            let k_is : i ≡ k = same_Some i k (sym (slice_get-last shown i) ∙ ap (slice_get (shown ++ i ∷ [])) (sym same) ∙ here) in
+            let line_is : line ≡ other = same_Some line other (sym (slice_get-last (filter is_shown (take i n.cells)) line) ∙ ap (slice_get (filter is_shown (take i n.cells) ++ line ∷ [])) (sym so_far.all ∙ sym same) ∙ ap (λ l. slice_get l mem) (sym more) ∙ there) in
             ap (slice_get n.cells) (sym k_is) ∙ at ∙ ap Some line_is
       ]
 

@@ -1,8 +1,5 @@
 -- The value of one port in a row, by names and by numbers. This project's.
-use Rattle.std.specs.Cmp.Lexicographic.{slice_cmp}
-use Rattle.std.specs.Ordering.{nat_cmp}
-use Rattle.std.specs.declared.cmp.Ordering.TheVariants.{Greater}
-use Rattle.std.specs.Prelude.{◌≡◌, ◌≢◌, ◌⊎◌, ℕ, ◌+◌, ◌<◌, ◌≤◌, List, [], length, slice_get, slice_index, slice_index_or, slice_range, Some, Option, None}
+use Rattle.std.specs.Prelude.{◌≡◌, ℕ, ◌+◌, ◌<◌, ◌≤◌, List, length, slice_get, slice_index, slice_range, Some, Option}
 use Rattle.hw_bits.specs.declared.bits.Bits.{Bits}
 use Rattle.hw_names.specs.Name.{Text, dotted}
 use Rattle.hw_prims.specs.Cell.{CellValue}
@@ -13,7 +10,9 @@ use Rattle.hw_prims.specs.Table.{inputs_of, outputs_of, pin_names, pin_widths}
 use Rattle.hw_prims.specs.declared.prim.Primitive.{Primitive}
 use Rattle.net_core.specs.Circuit.{settled}
 use Rattle.net_core.specs.NetRun.{HasPin, IsWritable, IsNetCell, values_for}
-use Rattle.net_core.specs.Netlist.{Netlist}
+use Rattle.net_core.specs.Netlist.{Netlist, SetLine}
+use Rattle.net_core.specs.Rules.{ports_of, source_width}
+use Rattle.net_sim.specs.ByName.{IsLeastWith}
 use Rattle.net_sim.specs.declared.cells.CellPorts.{CellPorts}
 use Rattle.net_sim.specs.Layout.{name_of}
 use Rattle.net_sim.specs.declared.plan.Source.{Source}
@@ -42,8 +41,8 @@ source_number values (Slot k) = slice_index values k
 source_number values (Fixed bits) = bits.value
 
 -- the source of an assignment has this width
-abbrev pub HasWidthAt : List ℕ → ℕ → List Source → ℕ → Type 0
-HasWidthAt widths width sources k = (k < length sources) × HasWidth widths width (slice_index_or sources k (Slot 0))
+abbrev pub HasSourceWidth : Netlist → ℕ → ℕ → Type 0
+HasSourceWidth n number width = (a : SetLine) → slice_get n.sets number ≡ Some a → source_width (ports_of n) a.src ≡ width
 
 -- the inputs of a cell, from the values of all ports
 abbrev pub cell_inputs : List ℕ → CellPorts → List ℕ
@@ -74,17 +73,7 @@ abbrev pub AreCellInputs : List ℕ → List CellPorts → Type 0
 AreCellInputs widths cells =
     (k : ℕ) (c : CellPorts) → slice_get cells k ≡ Some c → (c.first + length (inputs_of c.prim) ≤ length widths) × (cell_inputs widths c ≡ pin_widths (inputs_of c.prim))
 
-abbrev pub IsAtMost : List Text → ℕ → ℕ → Type 0
-IsAtMost names a b = slice_cmp nat_cmp (slice_index_or names a []) (slice_index_or names b []) ≢ Greater
-
--- the lesser of two ports, by the bytes of their names
-pub record IsLesser (names : List Text) (a b least : ℕ) : Type 0 where
-  pub one : (least ≡ a) ⊎ (least ≡ b)
-  pub first : IsAtMost names least a
-  pub second : IsAtMost names least b
-
 -- the Conflict that was found stays, or it is the lesser of it and of a port with one
-abbrev pub IsLeastWith : List Text → Settled → Option ℕ → ℕ → Option ℕ → Type 0
-IsLeastWith names Clash None port result = result ≡ Some port
-IsLeastWith names Clash (Some other) port result = (least : ℕ) × (result ≡ Some least) × IsLesser names other port least
-IsLeastWith names settled found port result = result ≡ found
+abbrev pub IsLeastConflict : List Text → Settled → Option ℕ → ℕ → Option ℕ → Type 0
+IsLeastConflict names Clash found port result = (least : ℕ) × (result ≡ Some least) × IsLeastWith names found port least
+IsLeastConflict names settled found port result = result ≡ found

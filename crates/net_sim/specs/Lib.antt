@@ -9,10 +9,12 @@ pub mod Order
 pub mod OrderValue
 pub mod PortOrder
 pub mod Compiled
-pub mod Plan
 pub mod Evaluated
 pub mod Slots
-pub mod Nodes
+pub mod Tests
+pub mod Branches
+pub mod Lowered
+pub mod Plan
 pub mod Flattening
 pub mod Settled
 pub mod Shown

@@ -7,7 +7,7 @@ use Rattle.net_core.specs.Rules.{IsValid}
 use Rattle.net_core.specs.Table.{IsTableOf}
 use Rattle.net_sim.specs.Compiled.{AreSources, givers_of}
 use Rattle.net_sim.specs.Layout.{port_names, AreCellPorts}
-use Rattle.net_sim.specs.Nodes.{AreGuards}
+use Rattle.net_sim.specs.Lowered.{AreLowered}
 use Rattle.net_sim.specs.OrderValue.{OrderValue}
 use Rattle.net_sim.specs.PortOrder.{IsPortOrderOf}
 use Rattle.net_sim.specs.Shown.{AreShown}
@@ -31,8 +31,8 @@ compiled_net plan = netlist_of plan.net.now
 
 pub record IsPlan (plan : Plan) : Type 0 where
   pub table : IsTableOf (netlist_of plan.net.now) plan.table.now
-  pub compiled : IsCompiled (netlist_of plan.net.now) plan.order.now plan.cells.items plan.sources.items plan.givers.items
-  pub guards : AreGuards (netlist_of plan.net.now) plan.guards
+  pub lowered : AreLowered (netlist_of plan.net.now) plan.lowered
+  pub compiled : IsCompiled (netlist_of plan.net.now) plan.order.now plan.cells.items lowered.sources plan.givers.items
   pub shown : AreShown (netlist_of plan.net.now) plan.shown.items
 
 -- the states are those of the cells' primitives

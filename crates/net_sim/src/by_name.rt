@@ -21,7 +21,7 @@ pub fn least_marked(names: &Names, marks: &[bool]) -> Option<usize>
 }
 
 /// The lesser of the port that was found, if one was, and another.
-fn lesser_of(names: &Names, found: Option<usize>, port: usize) -> usize
+pub fn lesser_of(names: &Names, found: Option<usize>, port: usize) -> usize
     requires found { IfSome found (λ other. other < length names.now) }
     requires port { port < length names.now }
     ensures { IsLeastWith names.now found port result }

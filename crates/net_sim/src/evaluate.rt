@@ -4,19 +4,19 @@ ghost use Rattle.hw_bits.specs.Values.{values_of, widths_of};
 ghost use Rattle.hw_prims.specs.Meaning.{output_values};
 ghost use Rattle.hw_prims.specs.Table.{outputs_of, inputs_of, pin_widths};
 ghost use Rattle.net_core.specs.Netlist.{netlist_of};
-ghost use Rattle.net_sim.specs.Evaluated.{IsValueOf, Clashes, cell_inputs, AreMoved, AreCellInputs, IsLeastWith, IsLesser};
+ghost use Rattle.net_sim.specs.Evaluated.{IsValueOf, Clashes, cell_inputs, AreMoved, AreCellInputs, IsLeastConflict};
 ghost use Rattle.net_sim.specs.Layout.{port_names, port_widths, name_of};
 ghost use Rattle.net_sim.specs.Plan.{IsPlan, ArePrims};
-ghost use Rattle.net_sim.specs.Settled.{HasSettledWidth, IsClash, settled_value};
+ghost use Rattle.net_sim.specs.Settled.{FitsWidth, IsClash, settled_value};
 ghost use Rattle.net_sim.specs.Sim.{IsEvaluated, port_row, input_row, states_of};
 
+use crate::by_name::lesser_of;
 use crate::cells::CellPorts;
 use crate::plan::{Giver, Plan};
 use crate::settle::{Settled, settle};
 use hw_bits::Bits;
-use hw_names::{NameId, Names};
+use hw_names::Names;
 use hw_prims::{Cell, CellState};
-use std::cmp::Ordering;
 
 /// Evaluates a row: each port in the order. The answer is the least port by the bytes of its name that has a Conflict.
 pub fn evaluate(
@@ -24,13 +24,11 @@ pub fn evaluate(
     inputs: &[Bits],
     states: &[CellState],
     values: &mut [Bits],
-    truths: &mut [bool],
 ) -> Option<usize>
     requires plan { IsPlan plan.now }
     requires inputs { widths_of inputs.now ≡ map (λ p. p.width) (netlist_of plan.now.net.now).ins }
     requires states { ArePrims plan.now.cells.items states.now }
     requires values { widths_of values.old ≡ port_widths (netlist_of plan.now.net.now) }
-    requires truths { length truths.old ≡ length plan.now.guards.nodes.items }
     ensures widths { widths_of values.new ≡ port_widths (netlist_of plan.now.net.now) }
     ensures row { IsEvaluated
         (netlist_of plan.now.net.now)
@@ -41,7 +39,7 @@ pub fn evaluate(
 {
     let mut conflict = None;
     for port in plan.order.ports() {
-        let settled = settle_port(plan, inputs, states, values, truths, *port);
+        let settled = settle_port(plan, inputs, states, values, *port);
         values[*port] = settled.value(values[*port].width());
         conflict = conflict_with(&plan.table.names, conflict, settled, *port);
     }
@@ -54,16 +52,14 @@ fn settle_port(
     inputs: &[Bits],
     states: &[CellState],
     values: &[Bits],
-    truths: &mut [bool],
     port: usize,
 ) -> Settled
     requires plan { IsPlan plan.now }
     requires inputs { widths_of inputs.now ≡ map (λ p. p.width) (netlist_of plan.now.net.now).ins }
     requires states { ArePrims plan.now.cells.items states.now }
     requires values { widths_of values.now ≡ port_widths (netlist_of plan.now.net.now) }
-    requires truths { length truths.old ≡ length plan.now.guards.nodes.items }
     requires port { port < length (port_names (netlist_of plan.now.net.now)) }
-    ensures width { HasSettledWidth (slice_index (port_widths (netlist_of plan.now.net.now)) port) result }
+    ensures width { FitsWidth (slice_index (port_widths (netlist_of plan.now.net.now)) port) result }
     ensures value { IsValueOf
         (netlist_of plan.now.net.now)
         (input_row (netlist_of plan.now.net.now) (values_of inputs.now))
@@ -75,14 +71,12 @@ fn settle_port(
         ↔ Clashes (netlist_of plan.now.net.now) (port_row (netlist_of plan.now.net.now) (values_of values.now)) port }
 {
     match plan.givers[port] {
-        Giver::Input => Settled::Driven(inputs[port]),
-        Giver::Output { cell, output } => Settled::Driven(output_value(
-            plan.cells[cell],
-            &states[cell],
-            values,
-            output,
-        )),
-        Giver::Driven => settle(plan, port, values, truths),
+        Giver::Input => Settled::Driven(inputs[port].value()),
+        Giver::Output { cell, output } => {
+            let value = output_value(plan.cells[cell], &states[cell], values, output);
+            Settled::Driven(value.value())
+        }
+        Giver::Driven => settle(plan, port, values),
     }
 }
 
@@ -109,36 +103,12 @@ fn conflict_with(
 ) -> Option<usize>
     requires found { IfSome found (λ other. other < length names.now) }
     requires port { port < length names.now }
-    ensures { IsLeastWith names.now settled found port result }
+    ensures { IsLeastConflict names.now settled found port result }
 {
     match settled {
-        Settled::Clash => match found {
-            None => Some(port),
-            Some(other) => Some(lesser(names, other, port)),
-        },
+        Settled::Clash => Some(lesser_of(names, found, port)),
         Settled::Undriven | Settled::Driven(_) => found,
     }
-}
-
-/// The lesser of two ports by the bytes of their names.
-fn lesser(names: &Names, first: usize, second: usize) -> usize
-    requires first { first < length names.now }
-    requires second { second < length names.now }
-    ensures { IsLesser names.now first second result }
-{
-    match text_at(names, first).cmp(text_at(names, second)) {
-        Ordering::Greater => second,
-        _ => first,
-    }
-}
-
-/// The name of a port.
-fn text_at(names: &Names, port: usize) -> &[u8]
-    requires { port < length names.now }
-    ensures { slice_get names.now port ≡ Some result.now }
-{
-    let _count = names.len();
-    names.text(NameId(port as u32))
 }
 
 /// The edge that ends a row: each cell moves on from its inputs.

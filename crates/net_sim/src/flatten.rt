@@ -1,22 +1,40 @@
 //! The guards of a netlist made flat.
-ghost use Rattle.std.specs.Prelude.{◌≡◌, ℕ, ◌<◌, ◌++◌, [], ◌∷◌, List, Bool, length, map, All, IfOk, Some};
-ghost use Rattle.hw_names.specs.Name.{Text, text_of};
+ghost use Rattle.std.specs.Prelude.{◌≡◌, ◌+◌, ◌++◌, [], ◌∷◌, length, map, All, IfOk};
+ghost use Rattle.hw_names.specs.Name.{text_of};
 ghost use Rattle.hw_prims.specs.Row.{Row};
-ghost use Rattle.net_core.specs.Guard.{GuardTree, NoGuards, guards_of, guard_tree, guard_option, holds};
+ghost use Rattle.net_core.specs.Guard.{NoGuards, guards_of, guard_tree, guard_option, holds};
 ghost use Rattle.net_core.specs.Netlist.{netlist_of};
 ghost use Rattle.net_core.specs.Numbers.{HasNumbers, GuardHasNumbers, WhenHasNumbers};
 ghost use Rattle.net_core.specs.Rules.{IsValid};
 ghost use Rattle.net_core.specs.Table.{IsTableOf};
-ghost use Rattle.net_sim.specs.Flattening.{IsKnownSource, EachSource, EachSourceOf, EachOptionSource, AddsTest, AddsGuard, IsListed, signed, of_two, joined};
-ghost use Rattle.net_sim.specs.Nodes.{AreGuards, IsNodeAt, StandsFor, node_truth, truth_at};
-ghost use Rattle.net_sim.specs.declared.guards.Node.{Node};
+ghost use Rattle.net_sim.specs.Flattening.{IsKnownSource, EachSource, EachSourceOf, EachOptionSource, AreExits, AddsTests, AddsGuard, joined, exit_of, exits_before};
+ghost use Rattle.net_sim.specs.Tests.{AreGuards};
 
-use crate::guards::{FlatGuards, GuardNodes, Node};
-use crate::plan::source_of;
-use hw_bits::Memory;
+use crate::guards::{FALSE, FIRST, FlatGuards, TRUE, Test};
+use crate::plan::{Source, source_of};
+use hw_bits::{Bits, Memory};
 use hw_names::{NameId, Names};
-use net_core::{Guard, Net, Table};
+use net_core::{Cmp, Guard, Net, Table};
 use std::alloc::Global;
+
+/// Where to go on where a guard is true, and where it is not: the numbers of tests, or ends.
+#[derive(Clone, Copy, Debug)]
+pub struct Exits {
+    pub yes: u32,
+    pub no: u32,
+}
+
+impl Exits {
+    /// Those of the negated guard.
+    fn negated(self) -> Exits
+        ensures { result ≡ record { yes = self.no; no = self.yes } }
+    {
+        Exits {
+            yes: self.no,
+            no: self.yes,
+        }
+    }
+}
 
 /// How the guards of a list make one.
 #[derive(Clone, Copy, Debug)]
@@ -28,27 +46,29 @@ pub enum Join {
 }
 
 impl Join {
-    /// The node that joins two.
-    fn of(self, left: usize, right: usize) -> Node
-        ensures reads { (ports place : ℕ) → left < place → right < place → IsNodeAt ports place result }
-        ensures truth { (values : List ℕ) (truths : List Bool)
-            → node_truth values truths result ≡ of_two self (truth_at truths left) (truth_at truths right) }
+    /// Where a guard of a list leads, if the guards after it begin at `others`.
+    fn exits_before(self, exits: Exits, others: u32) -> Exits
+        ensures { result ≡ exits_before self exits others }
     {
         match self {
-            Join::All => Node::Both(left, right),
-            Join::Any => Node::Either(left, right),
+            Join::All => Exits {
+                yes: others,
+                no: exits.no,
+            },
+            Join::Any => Exits {
+                yes: exits.yes,
+                no: others,
+            },
         }
     }
 
-    /// The node for an empty list.
-    fn of_none(self) -> Node
-        ensures reads { (ports place : ℕ) → IsNodeAt ports place result }
-        ensures truth { (row : Row) (values : List ℕ) (truths : List Bool)
-            → node_truth values truths result ≡ joined self row NoGuards }
+    /// Where an empty list leads.
+    fn of_none(self, exits: Exits) -> u32
+        ensures { (row : Row) → result ≡ exit_of exits (joined self row NoGuards) }
     {
         match self {
-            Join::All => Node::Always,
-            Join::Any => Node::Never,
+            Join::All => exits.yes,
+            Join::Any => exits.no,
         }
     }
 }
@@ -58,150 +78,127 @@ pub fn flatten(alloc: Global, net: &Net, table: &Table) -> Result<FlatGuards, Me
     requires valid { IsValid (netlist_of net.now) }
     requires numbers { HasNumbers net.now }
     requires table { IsTableOf (netlist_of net.now) table.now }
-    ensures { IfOk result (AreGuards (netlist_of net.now)) }
+    ensures { IfOk result (λ guards. AreGuards (netlist_of net.now) guards.tests.items guards.starts.items) }
 {
-    let mut nodes = Vec::new(alloc);
-    let mut sets = Vec::new(alloc);
+    let mut tests = Vec::new(alloc);
+    let mut starts = Vec::new(alloc);
     for set in &net.sets {
-        let flat = add_option(&mut nodes, &table.names, &net.names, &set.guard)?;
-        sets.push(flat)?;
+        let start = add_option(&mut tests, &table.names, &net.names, &set.guard)?;
+        starts.push(start)?;
     }
-    Ok(FlatGuards { nodes, sets })
+    Ok(FlatGuards { tests, starts })
 }
 
-/// Adds the nodes of an assignment's guard, if it has one.
+/// Adds the tests of an assignment's guard, if it has one; the answer is where it begins.
 fn add_option(
-    nodes: &mut Vec<Node>,
+    tests: &mut Vec<Test>,
     ports: &Names,
     names: &Names,
     guard: &Option<Guard<NameId>>,
-) -> Result<Option<GuardNodes>, Memory>
+) -> Result<u32, Memory>
     requires numbers { WhenHasNumbers names.now guard.now }
     requires sources { EachOptionSource (IsKnownSource ports.now) (guard_option (text_of names.now) guard.now) }
     ensures { IfOk result
-        (AddsGuard ports.now nodes.old.items nodes.new.items (guard_option (text_of names.now) guard.now)) }
+        (AddsGuard ports.now tests.old.items tests.new.items (guard_option (text_of names.now) guard.now)) }
 {
     match guard {
         Some(guard) => {
-            let first = nodes.len();
-            let last = add_guard(nodes, ports, names, guard)?;
-            Ok(Some(GuardNodes { first, last }))
+            let ends = Exits {
+                yes: TRUE,
+                no: FALSE,
+            };
+            add_guard(tests, ports, names, guard, ends)
         }
-        None => Ok(None),
+        None => Ok(TRUE),
     }
 }
 
-/// Adds the nodes of a guard; the answer is the number of the one that stands for it. It goes over a run of `!` by a
-/// loop, so that the stack holds.
+/// Adds the tests of a guard, the last first, since each leads on to what is there; the answer is where it begins.
+/// It goes over a run of `!` by a loop, so that the stack holds.
 #[cycle(add_guard)]
 fn add_guard(
-    nodes: &mut Vec<Node>,
+    tests: &mut Vec<Test>,
     ports: &Names,
     names: &Names,
     guard: &Guard<NameId>,
-) -> Result<usize, Memory>
+    exits: Exits,
+) -> Result<u32, Memory>
     requires numbers { GuardHasNumbers names.now guard.now }
     requires sources { EachSource (IsKnownSource ports.now) (guard_tree (text_of names.now) guard.now) }
+    requires exits { AreExits tests.old.items exits }
     ensures { IfOk result
-        (λ node. AddsTest ports.now nodes.old.items nodes.new.items node
-        (λ row. holds row (guard_tree (text_of names.now) guard.now))) }
+        (AddsTests ports.now tests.old.items tests.new.items exits (λ row. holds row (guard_tree (text_of names.now) guard.now))) }
 {
-    let mut negated = false;
+    let mut ways = exits;
     let mut inner = guard;
     loop {
         match inner {
             Guard::Not(under) => {
-                negated = !negated;
+                ways = ways.negated();
                 inner = under;
             }
-            Guard::All(guards) => {
-                let whole = add_list(nodes, ports, names, Join::All, guards)?;
-                return add_negation(nodes, whole, negated);
-            }
-            Guard::Any(guards) => {
-                let whole = add_list(nodes, ports, names, Join::Any, guards)?;
-                return add_negation(nodes, whole, negated);
-            }
+            Guard::All(guards) => return add_list(tests, ports, names, Join::All, guards, ways),
+            Guard::Any(guards) => return add_list(tests, ports, names, Join::Any, guards, ways),
             Guard::Read(src) => {
-                let node = Node::Read(source_of(ports, names, src));
-                let whole = add_node(nodes, node)?;
-                return add_negation(nodes, whole, negated);
+                let left = source_of(ports, names, src);
+                let right = Source::Fixed(Bits::wrap(1, 1));
+                return add_test(tests, test(Cmp::Eq, left, right, ways));
             }
             Guard::Test(op, left, right) => {
                 let left = source_of(ports, names, left);
                 let right = source_of(ports, names, right);
-                let whole = add_node(nodes, Node::Test(*op, left, right))?;
-                return add_negation(nodes, whole, negated);
+                return add_test(tests, test(*op, left, right, ways));
             }
         }
     }
 }
 
-/// Adds the nodes of the guards of a list; the answer is the number of the one that stands for the list.
+/// Adds the tests of the guards of a list; the answer is where it begins.
 #[cycle(add_guard)]
 fn add_list(
-    nodes: &mut Vec<Node>,
+    tests: &mut Vec<Test>,
     ports: &Names,
     names: &Names,
     join: Join,
     guards: &[Guard<NameId>],
-) -> Result<usize, Memory>
+    exits: Exits,
+) -> Result<u32, Memory>
     requires numbers { All (GuardHasNumbers names.now) guards.now }
     requires sources { EachSourceOf (IsKnownSource ports.now) (guards_of (map (guard_tree (text_of names.now)) guards.now)) }
+    requires exits { AreExits tests.old.items exits }
     ensures { IfOk result
-        (λ node. AddsTest ports.now nodes.old.items nodes.new.items node
-        (λ row. joined join row (guards_of (map (guard_tree (text_of names.now)) guards.now)))) }
+        (AddsTests ports.now tests.old.items tests.new.items exits (λ row. joined join row (guards_of (map (guard_tree (text_of names.now)) guards.now)))) }
 {
-    let mut so_far = None;
-    for guard in guards {
-        let this = add_guard(nodes, ports, names, guard)?;
-        so_far = Some(add_joint(nodes, join, so_far, this)?);
+    let mut start = join.of_none(exits);
+    for place in (0..guards.len()).rev() {
+        let ways = join.exits_before(exits, start);
+        start = add_guard(tests, ports, names, &guards[place], ways)?;
     }
-    match so_far {
-        Some(whole) => Ok(whole),
-        None => add_node(nodes, join.of_none()),
+    Ok(start)
+}
+
+/// A test that leads to these exits.
+fn test(op: Cmp, left: Source, right: Source, exits: Exits) -> Test
+    ensures { result ≡ record { op = op; left = left; right = right; yes = exits.yes; no = exits.no } }
+{
+    Test {
+        op,
+        left,
+        right,
+        yes: exits.yes,
+        no: exits.no,
     }
 }
 
-/// Joins the guards of a list so far, if there is one, with the next; the answer is the number of the node that stands for both.
-fn add_joint(
-    nodes: &mut Vec<Node>,
-    join: Join,
-    so_far: Option<usize>,
-    this: usize,
-) -> Result<usize, Memory>
-    ensures { IfOk result
-        (λ node. (names : List Text) (start : List Node) (guards : List (GuardTree Text)) (guard : GuardTree Text)
-        → IsListed names start nodes.old.items join guards so_far
-        → StandsFor names nodes.old.items (length start) this (λ row. holds row guard)
-        → IsListed names start nodes.new.items join (guards ++ guard ∷ []) (Some node)) }
+/// Adds a test; the answer is its number.
+fn add_test(tests: &mut Vec<Test>, test: Test) -> Result<u32, Memory>
+    ensures items { IfOk result (λ _. tests.new.items ≡ tests.old.items ++ test ∷ []) }
+    ensures number { IfOk result (λ number. number ≡ length tests.old.items + 2) }
 {
-    match so_far {
-        Some(before) => add_node(nodes, join.of(before, this)),
-        None => Ok(this),
+    let place = tests.len();
+    if place >= (u32::MAX - FIRST) as usize {
+        return Err(Memory);
     }
-}
-
-/// Negates what the node stands for, if asked to; the answer is the number of the node that stands for that.
-fn add_negation(nodes: &mut Vec<Node>, whole: usize, negated: bool) -> Result<usize, Memory>
-    ensures { IfOk result
-        (λ node. (names : List Text) (start : List Node) (test : Row → Bool)
-        → AddsTest names start nodes.old.items whole test
-        → AddsTest names start nodes.new.items node (λ row. signed negated (test row))) }
-{
-    if negated {
-        add_node(nodes, Node::Not(whole))
-    } else {
-        Ok(whole)
-    }
-}
-
-/// Adds a node; the answer is its number.
-fn add_node(nodes: &mut Vec<Node>, node: Node) -> Result<usize, Memory>
-    ensures items { IfOk result (λ _. nodes.new.items ≡ nodes.old.items ++ node ∷ []) }
-    ensures number { IfOk result (λ number. number ≡ length nodes.old.items) }
-{
-    let number = nodes.len();
-    nodes.push(node)?;
-    Ok(number)
+    tests.push(test)?;
+    Ok(place as u32 + FIRST)
 }

@@ -1,6 +1,7 @@
 //! The order of a netlist's ports, and its simulation row by row.
 #![tactic(auto)]
 
+mod branches;
 mod by_name;
 mod cells;
 mod components;
@@ -10,6 +11,7 @@ mod groups;
 mod guards;
 mod laws;
 mod least_loop;
+mod lower;
 mod order_end;
 #[cfg(test)]
 mod order_tests;

@@ -12,10 +12,9 @@ ghost use Rattle.net_core.specs.Numbers.{HasNumbers, SourceHasNumbers};
 ghost use Rattle.net_core.specs.Rules.{IsValid, literal_fits};
 ghost use Rattle.net_core.specs.Table.{IsTableOf};
 ghost use Rattle.net_sim.specs.Compiled.{IsSource, AreSources, givers_of, AreOpening};
-ghost use Rattle.net_sim.specs.Evaluated.{IsWithin, IsBitsOf};
 
 use crate::cells::CellPorts;
-use crate::guards::FlatGuards;
+use crate::lower::Lowered;
 use crate::port_order::PortOrder;
 use crate::wires::find_port;
 use hw_bits::{Bits, Memory};
@@ -47,8 +46,7 @@ pub struct Plan<'a> {
     pub table: &'a Table,
     pub order: &'a PortOrder,
     pub cells: Vec<CellPorts>,
-    pub sources: Vec<Source>,
-    pub guards: FlatGuards,
+    pub lowered: Lowered,
     pub givers: Vec<Giver>,
     pub shown: Vec<usize>,
 }
@@ -77,17 +75,6 @@ pub fn source_of(ports: &Names, names: &Names, src: &Src<NameId>) -> Source
     match src {
         Src::Port(id) => Source::Slot(find_port(ports, names, *id)),
         Src::Lit { width, value } => Source::Fixed(literal(*width, *value)),
-    }
-}
-
-/// The value of a source.
-pub fn source_value(source: Source, values: &[Bits]) -> Bits
-    requires { IsWithin (length values.now) source }
-    ensures { IsBitsOf values.now source result }
-{
-    match source {
-        Source::Slot(port) => values[port],
-        Source::Fixed(bits) => bits,
     }
 }
 

@@ -12,8 +12,8 @@ ghost use Rattle.net_sim.specs.Sim.{IsNewSim, IsLoadOfSim, IsWordOfSim, IsWordCo
 
 use crate::cells::cell_ports;
 use crate::evaluate::{evaluate, step_cells};
-use crate::flatten::flatten;
-use crate::plan::{Plan, givers, no_values, opening_states, sources};
+use crate::lower::lower;
+use crate::plan::{Plan, givers, no_values, opening_states};
 use crate::port_order::PortOrder;
 use crate::shown::{load_word, shown_cells};
 use hw_bits::{Bits, Memory};
@@ -47,7 +47,6 @@ pub struct Sim<'a> {
     plan: Plan<'a>,
     states: Vec<CellState>,
     values: Vec<Bits>,
-    truths: Vec<bool>,
     phase: Phase,
 }
 
@@ -71,7 +70,7 @@ impl<'a> Model for Sim<'a> {
       phase = s.phase;
     } };
 
-    ghost invariant = { λ s. IsKept s.plan s.states.items s.values.items s.truths.items };
+    ghost invariant = { λ s. IsKept s.plan s.states.items s.values.items };
 }
 
 impl<'a> Sim<'a> {
@@ -90,27 +89,23 @@ impl<'a> Sim<'a> {
     {
         let count = table.names.len();
         let cells = cell_ports(alloc, net, count)?;
-        let sources = sources(alloc, net, table)?;
-        let guards = flatten(alloc, net, table)?;
+        let lowered = lower(alloc, net, table)?;
         let givers = givers(alloc, net, cells.as_slice())?;
         let shown = shown_cells(alloc, net)?;
         let states = opening_states(alloc, cells.as_slice())?;
         let values = no_values(alloc, table)?;
-        let truths = vec![in alloc; false; guards.nodes.len()]?;
         Ok(Sim {
             plan: Plan {
                 net,
                 table,
                 order,
                 cells,
-                sources,
-                guards,
+                lowered,
                 givers,
                 shown,
             },
             states,
             values,
-            truths,
             phase: Phase::Fresh,
         })
     }
@@ -163,7 +158,6 @@ impl<'a> Sim<'a> {
             inputs,
             self.states.as_slice(),
             self.values.as_mut_slice(),
-            self.truths.as_mut_slice(),
         ) {
             None => {
                 self.phase = Phase::Evaluated;

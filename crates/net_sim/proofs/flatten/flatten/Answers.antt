@@ -17,5 +17,5 @@ loop-set-preserved c =
     let a = set_of net.names c.set-item.result in
     let at = set_item net c.deref-set-items.result.now c.loop-set.set-index c.set-item.result c.deref-set-items.ensures.value c.loop-set-test.true c.set-item.is in
     rw c.in_ok-push.ensures.items
-    (guards_more (netlist_of net) c.loop-set.set-index c.loop-set.nodes.items c.add_option.new.nodes.items c.loop-set.sets.items a c.in_ok-flat.flat c.loop-set.invariant at
-    (subst (λ names. AddsGuard names c.loop-set.nodes.items c.add_option.new.nodes.items a.guard c.in_ok-flat.flat) c.requires.table.names c.in_ok-flat.ensures))
+    (guards_more (netlist_of net) c.loop-set.set-index c.loop-set.tests.items c.add_option.new.tests.items c.loop-set.starts.items a c.in_ok-start.start c.loop-set.invariant at
+    (subst (λ names. AddsGuard names c.loop-set.tests.items c.add_option.new.tests.items a.guard c.in_ok-start.start) c.requires.table.names c.in_ok-start.ensures))

@@ -8,7 +8,7 @@ use Rattle.net_sim.proofs.ConflictLemmas.{numbers_are}
 use Rattle.net_sim.proofs.PlanLemmas.{number_fits, width_of}
 use Rattle.net_sim.proofs.PortLemmas.{set_of_number}
 use Rattle.net_sim.proofs.SettleLemmas.{acting_values, acting_more, acting_is}
-use Rattle.net_sim.specs.Evaluated.{HasWidthAt}
+use Rattle.net_sim.specs.Evaluated.{HasSourceWidth}
 use Rattle.net_sim.specs.Layout.{port_widths, name_of}
 use Rattle.net_sim.specs.Settled.{IsSettled}
 use Rattle.net_sim.specs.Sim.{port_row}
@@ -36,8 +36,8 @@ loop-number-preserved c =
     let width = get_or (port_widths n) c.args.port 0 in
     let same = numbers_are n plan.order.now c.requires.plan.compiled.ordered c.args.port c.requires.port items c.sets-number-items.ensures in
     let at = ap (λ l. slice_get l i) same ∙ slice_get-get_or items i 0 c.loop-number-test.true in
-    let fits = subst (λ w. HasWidthAt (port_widths n) w plan.sources.items (get_or items i 0)) (width_of n plan.order.now plan.cells.items plan.sources.items plan.givers.items c.requires.plan.compiled c.args.port c.requires.port)
-    (number_fits n plan.order.now plan.cells.items plan.sources.items plan.givers.items c.requires.plan.compiled (name_of n c.args.port) i (get_or items i 0) at) in
+    let fits = subst (HasSourceWidth n (get_or items i 0)) (width_of n plan.order.now plan.cells.items c.requires.plan.lowered.sources plan.givers.items c.requires.plan.compiled c.args.port c.requires.port)
+    (number_fits n plan.order.now plan.cells.items c.requires.plan.lowered.sources plan.givers.items c.requires.plan.compiled (name_of n c.args.port) i (get_or items i 0) at) in
     subst (λ l. IsSettled width l c.with_set-settled.result) (sym (acting_more row n.sets items i c.loop-number-test.true))
     (c.with_set-settled.ensures width (acting_values row n.sets (take i items)) fits c.loop-number.invariant)
 

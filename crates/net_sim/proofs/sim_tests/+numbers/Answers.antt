@@ -1,4 +1,4 @@
-use Rattle.std.proofs.Common.{◌≡◌, ◌<◌, ◌≤◌, All, List, length, subst, sym, arith}
+use Rattle.std.proofs.Common.{◌<◌, All, List, length, subst, arith}
 use Rattle.std.proofs.lemmas.List.{take_all}
 use Rattle.std.proofs.lemmas.List.Elements.{All-more}
 use Rattle.hw_names.specs.declared.names.NameId.{NameId}

@@ -1,4 +1,4 @@
-use Rattle.std.proofs.Common.{◌≡◌, ◌<◌, ap, sym, ◌∙◌, arith}
+use Rattle.std.proofs.Common.{ap, sym, ◌∙◌, arith}
 use Rattle.hw_prims.specs.Memory.{word_count, word_width}
 use Rattle.net_sim.proofs.sim_tests.has_word.Goals as goal
 

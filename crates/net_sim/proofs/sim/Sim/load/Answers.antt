@@ -60,7 +60,6 @@ invariant_of-self c =
       plan_is = c.self.invariant.plan_is;
       prims = subst (ArePrims plan.cells.items) (sym (kept c)) prims;
       widths = c.self.invariant.widths;
-      truths_are = c.self.invariant.truths_are;
     }
 
 pub returns : goal.returns

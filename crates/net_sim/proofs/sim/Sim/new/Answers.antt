@@ -1,10 +1,11 @@
-use Rattle.std.proofs.Common.{sym, ◌∙◌, subst, refl}
+use Rattle.std.proofs.Common.{ap, sym, ◌∙◌, subst, refl, rules}
 use Rattle.std.specs.Prelude.{All}
 use Rattle.hw_prims.specs.Table.{IsMade}
 use Rattle.net_core.specs.Netlist.{netlist_of}
 use Rattle.net_sim.proofs.PlanLemmas.{count_numbers}
 use Rattle.net_sim.proofs.SimLemmas.{all_made, all_wide, opening_by_name}
-use Rattle.net_sim.specs.Compiled.{AreOpening}
+use Rattle.hw_names.specs.Name.{AreDistinct}
+use Rattle.net_sim.specs.Compiled.{AreOpening, givers_of}
 use Rattle.net_sim.specs.declared.cells.CellPorts.{CellPorts}
 use Rattle.net_sim.proofs.sim.Sim.new.Goals as goal
 
@@ -25,4 +26,26 @@ returns c =
       values = count_numbers n c.in_ok-values.values.items (c.in_ok-values.ensures ∙ c.requires.table.widths);
       states = opening_by_name n c.requires.valid c.in_ok-cells.cells.items c.in_ok-cells.ensures c.in_ok-states.states.items opening;
       hidden = λ cell none. refl;
+    }
+
+pub invariant_of-result : goal.invariant_of-result
+invariant_of-result c =
+    let n = netlist_of c.args.net.now in
+    let opening = subst (λ cells. AreOpening cells c.in_ok-states.states.items) c.as_slice-2.ensures.value c.in_ok-states.ensures in
+    record {
+      plan_is = record {
+        table = c.requires.table;
+        lowered = c.in_ok-lowered.ensures;
+        compiled = record {
+          valid = c.requires.valid;
+          distinct = subst AreDistinct c.requires.table.names c.len-count.ensures.distinct;
+          ordered = c.requires.order;
+          listed = c.in_ok-cells.ensures;
+          sourced = c.in_ok-lowered.ensures.sourced;
+          given = c.in_ok-givers.ensures ∙ ap (givers_of n) c.as_slice.ensures.value;
+        };
+        shown = search rules;
+      };
+      prims = opening.prims_are;
+      widths = c.in_ok-values.ensures ∙ c.requires.table.widths;
     }
