@@ -8,3 +8,4 @@ pub mod OffsetLists
 pub mod Parsed
 pub mod PrintLemmas
 pub mod Shown
+pub mod SmallOffsets

@@ -4,6 +4,7 @@ ghost use Rattle.hw_names.specs.Name.{Text};
 ghost use Rattle.hw_lex.specs.declared.token.Dialect.TheVariants.{Fil};
 ghost use Rattle.hw_lex.specs.Cut.{AreTokens};
 ghost use Rattle.hw_grammar.specs.Reading.{Gives, whole};
+ghost use Rattle.fil_ast.specs.Limits.{HasSmallOffsets};
 ghost use Rattle.fil_ast.specs.Numbers.{HasNumbers};
 ghost use Rattle.fil_ast.specs.Tree.{Design, design_of};
 ghost use Rattle.fil_parse.specs.Reading.{file_at};
@@ -83,6 +84,7 @@ pub fn parse_fil(alloc: Global, text: &[u8]) -> Result<FilDesign, FilTextEnd>
     ensures spelled { IfOk result (λ design. SpellsDesign text.now (design_of design)) }
     ensures nested { IfOk result (λ design. KeepsNesting text.now) }
     ensures offsets { IfOk result (λ design. first_large (design_of design) ≡ None) }
+    ensures small { IfOk result HasSmallOffsets }
     ensures written { IfOk result (λ design. DesignIsWritten (design_of design)) }
     ensures numbers { IfOk result HasNumbers }
 

@@ -4,6 +4,7 @@ use Rattle.fil_ast.specs.Tree.{design_of}
 use Rattle.fil_parse.specs.Spelling.{SpellsDesign}
 use Rattle.fil_parse.proofs.Parsed.{keeps_nesting, grammar_ends}
 use Rattle.fil_parse.proofs.Designs.{tree_written, design_numbers}
+use Rattle.fil_parse.proofs.SmallOffsets.{small_offsets}
 use Rattle.fil_parse.proofs.parse.parse_fil.Goals as goal
 
 pub returns-in_err-design-clause-refused : goal.returns-in_err-design-clause-refused
@@ -23,3 +24,6 @@ returns-clause-written c = tree_written c.in-Ok.tokens.source (design_of c.in_ok
 
 pub returns-clause-numbers : goal.returns-clause-numbers
 returns-clause-numbers c = design_numbers c.in_ok-design.design (tree_written c.in-Ok.tokens.source (design_of c.in_ok-design.design) c.in_ok-design.ensures.spelled)
+
+pub returns-clause-small : goal.returns-clause-small
+returns-clause-small c = small_offsets c.in_ok-design.design (sym c.in-None.ensures)
