@@ -1,0 +1,12 @@
+pub mod DesignLemmas
+pub mod GivenLemmas
+pub mod GrowLemmas
+pub mod ItemLemmas
+pub mod LeastLemmas
+pub mod Lookup
+pub mod MadeLemmas
+pub mod MeaningLemmas
+pub mod NameLemmas
+pub mod OutputLemmas
+pub mod SignatureLemmas
+pub mod StatementLemmas

@@ -1,0 +1,121 @@
+//! What a name means at a place: a data input, an output, an invocation, an instance or a value.
+ghost use Rattle.std.specs.Prelude.{◌≡◌, List, Some, slice_get, option_map};
+ghost use Rattle.hw_names.specs.Name.{Text};
+ghost use Rattle.fil_ast.specs.Numbers.{ValueHasNumbers};
+ghost use Rattle.fil_ast.specs.Scope.{Scope, Result, input_of, instance_signature, invocation_named, output_of, result_of};
+ghost use Rattle.fil_ast.specs.Signature.{sig_port};
+ghost use Rattle.fil_ast.specs.Tree.{port_tree, value_tree};
+ghost use Rattle.fil_ast.specs.Typing.{value_width};
+ghost use Rattle.fil_ast.specs.declared.tree.FilComp.{FilComp};
+ghost use Rattle.fil_sig.specs.Seen.{seen_port};
+ghost use Rattle.fil_check.specs.Tables.{IsPlace, instance_of, made_signature};
+ghost use Rattle.fil_check.specs.declared.tables.Earlier.{Earlier};
+
+use crate::callee::Callee;
+use crate::tables::{Earlier, Made, Tables};
+use fil_ast::{FilComp, FilPort, Value};
+use fil_sig::SigPort;
+use hw_names::Names;
+
+/// The data input of this name.
+pub fn input<'a>(comp: &'a FilComp, tables: &Tables, name: &[u8]) -> Option<&'a FilPort>
+    ensures { (names : List Text) (earlier : Earlier) (scope : Scope) → IsPlace names earlier comp.now tables.now scope
+        → option_map (λ port. sig_port scope.comp.events (port_tree names port.now)) result ≡ input_of scope name.now }
+{
+    let number = tables.ports.find(name)?.0 as usize;
+    let place = number.checked_sub(comp.gos.len())?;
+    comp.ins.get(place)
+}
+
+/// The output of this name.
+pub fn output<'a>(comp: &'a FilComp, tables: &Tables, name: &[u8]) -> Option<&'a FilPort>
+    ensures { (names : List Text) (earlier : Earlier) (scope : Scope) → IsPlace names earlier comp.now tables.now scope
+        → option_map (λ port. sig_port scope.comp.events (port_tree names port.now)) result ≡ output_of scope name.now }
+{
+    let number = tables.ports.find(name)?.0 as usize;
+    let data = number.checked_sub(comp.gos.len())?;
+    let place = data.checked_sub(comp.ins.len())?;
+    comp.outs.get(place)
+}
+
+/// The number of the instance that the invocation of this name invokes.
+pub fn invoked_by(comp: &FilComp, tables: &Tables, name: &[u8]) -> Option<usize>
+    ensures { (names : List Text) (earlier : Earlier) (scope : Scope) → IsPlace names earlier comp.now tables.now scope
+        → option_map (slice_get tables.now.instances) result ≡ option_map instance_of (invocation_named scope.invocations name.now) }
+{
+    let number = tables.ports.find(name)?.0 as usize;
+    let data = number.checked_sub(comp.gos.len())?;
+    let outs = data.checked_sub(comp.ins.len())?;
+    let place = outs.checked_sub(comp.outs.len())?;
+    tables.invoked.get(place).copied()
+}
+
+/// The signature of what an instance is made of.
+pub fn callee_made<'a>(earlier: &'a Earlier, made: &'a Made) -> Option<&'a Callee>
+    ensures { option_map (λ callee. callee.now) result ≡ made_signature earlier.now made.now }
+{
+    match made {
+        Made::Component(number) => earlier.callees.get(*number),
+        Made::Primitive(callee) => Some(callee),
+    }
+}
+
+/// The signature of the instance with this number.
+fn callee_at<'a>(earlier: &'a Earlier, tables: &'a Tables, instance: usize) -> Option<&'a Callee>
+    ensures { (names : List Text) (comp : FilComp) (scope : Scope) (name : Text) → IsPlace names earlier.now comp tables.now scope
+        → slice_get tables.now.instances instance ≡ Some name
+        → option_map (λ callee. callee.now) result ≡ instance_signature scope name }
+{
+    callee_made(earlier, tables.made.get(instance)?)
+}
+
+/// The signature of the instance of this name.
+pub fn callee_named<'a>(earlier: &'a Earlier, tables: &'a Tables, name: &[u8]) -> Option<&'a Callee>
+    ensures { (names : List Text) (comp : FilComp) (scope : Scope) → IsPlace names earlier.now comp tables.now scope
+        → option_map (λ callee. callee.now) result ≡ instance_signature scope name.now }
+{
+    let instance = tables.instances.find(name)?;
+    callee_at(earlier, tables, instance.0 as usize)
+}
+
+/// The output of this name of an invocation.
+fn result_port<'a>(
+    earlier: &'a Earlier,
+    comp: &FilComp,
+    tables: &'a Tables,
+    invocation: &[u8],
+    port: &[u8],
+) -> Option<&'a SigPort>
+    ensures { (names : List Text) (scope : Scope) → IsPlace names earlier.now comp.now tables.now scope
+        → option_map (λ port. seen_port port.now) result ≡ option_map (λ (r : Result). r.port) (result_of scope invocation.now port.now) }
+{
+    let instance = invoked_by(comp, tables, invocation)?;
+    callee_at(earlier, tables, instance)?.output(port)
+}
+
+/// The width of a value in bits; `None` for a value that isn't known.
+pub fn value_width(
+    names: &Names,
+    earlier: &Earlier,
+    comp: &FilComp,
+    tables: &Tables,
+    value: Value,
+) -> Option<u128>
+    requires { ValueHasNumbers names.now value }
+    ensures { (scope : Scope) → IsPlace names.now earlier.now comp.now tables.now scope → result ≡ value_width scope (value_tree names.now value) }
+{
+    match value {
+        Value::Port(name) => Some(input(comp, tables, names.text(name))?.width),
+        Value::Out(invocation, port) => {
+            let found = result_port(
+                earlier,
+                comp,
+                tables,
+                names.text(invocation),
+                names.text(port),
+            )?;
+            Some(found.width as u128)
+        }
+        Value::Lit { width, .. } => Some(width),
+    }
+}

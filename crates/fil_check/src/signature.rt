@@ -1,0 +1,100 @@
+//! The rules F1, F2, F3 and F5 at a component's signature.
+ghost use Rattle.std.specs.Prelude.{◌≡◌, ◌↔◌, [], true, false, Ok, All, IsTrue, IfErr, OnOk, IfOk};
+ghost use Rattle.fil_ast.specs.Naming.{HasNewNames, NamesEvents, component_names, event_names, port_names};
+ghost use Rattle.fil_ast.specs.Numbers.{ComponentHasNumbers};
+ghost use Rattle.fil_ast.specs.Rules.{AtSignature, first_five};
+ghost use Rattle.fil_ast.specs.Tree.{Design, component_tree};
+ghost use Rattle.fil_check.specs.Least.{TellsLeast};
+
+use crate::names::{are_among, event_ids, is_any_primitive, port_ids, take_names, used_event_ids};
+use crate::rules::ItemEnd;
+use fil_ast::FilComp;
+use fil_sig::{has_shape, has_widths};
+use hw_bits::Memory;
+use hw_names::Names;
+use std::alloc::Global;
+
+/// Whether the signature keeps F1, after components of the names `known`. Puts the names of its events and
+/// of its ports into the two lists, where it does.
+fn has_new_names(
+    alloc: Global,
+    names: &Names,
+    known: &Names,
+    comp: &FilComp,
+    events: &mut Names,
+    ports: &mut Names,
+) -> Result<bool, Memory>
+    requires numbered { ComponentHasNumbers names.now comp.now }
+    requires no_events { events.old ≡ [] }
+    requires no_ports { ports.old ≡ [] }
+    ensures kept { result ≡ Ok true → (earlier : Design) → known.now ≡ component_names earlier
+        → HasNewNames earlier (component_tree names.now comp.now) }
+    ensures broken { result ≡ Ok false → (earlier : Design) → known.now ≡ component_names earlier
+        → ¬ HasNewNames earlier (component_tree names.now comp.now) }
+    ensures events { result ≡ Ok true → events.new ≡ event_names (component_tree names.now comp.now) }
+    ensures ports { result ≡ Ok true → ports.new ≡ port_names (component_tree names.now comp.now) }
+{
+    let name = names.text(comp.name);
+    if is_any_primitive(name) {
+        return Ok(false);
+    }
+    if known.find(name).is_some() {
+        return Ok(false);
+    }
+    let event_names = event_ids(alloc, comp)?;
+    if !take_names(names, &event_names, events)? {
+        return Ok(false);
+    }
+    let port_names = port_ids(alloc, comp)?;
+    take_names(names, &port_names, ports)
+}
+
+/// Whether the signature keeps F2, where `events` are the names of its events.
+fn names_events(
+    alloc: Global,
+    names: &Names,
+    comp: &FilComp,
+    events: &Names,
+) -> Result<bool, Memory>
+    requires numbered { ComponentHasNumbers names.now comp.now }
+    requires events { events.now ≡ event_names (component_tree names.now comp.now) }
+    ensures { IfOk result (λ kept. IsTrue kept ↔ NamesEvents (component_tree names.now comp.now)) }
+{
+    let used = used_event_ids(alloc, comp)?;
+    Ok(are_among(names, &used, events))
+}
+
+/// Judges a component's signature by F1, F2, F3 and F5, after components of the names `known`, and puts the
+/// names of its events and of its ports into the two lists where it keeps them.
+pub fn judge_signature(
+    alloc: Global,
+    names: &Names,
+    known: &Names,
+    comp: &FilComp,
+    events: &mut Names,
+    ports: &mut Names,
+) -> Result<(), ItemEnd>
+    requires numbered { ComponentHasNumbers names.now comp.now }
+    requires no_events { events.old ≡ [] }
+    requires no_ports { ports.old ≡ [] }
+    ensures kept { (earlier : Design) → known.now ≡ component_names earlier
+        → OnOk result (All (λ rule. AtSignature rule earlier (component_tree names.now comp.now)) first_five) }
+    ensures broken { (earlier : Design) → known.now ≡ component_names earlier
+        → IfErr result (TellsLeast (λ rule. AtSignature rule earlier (component_tree names.now comp.now))) }
+    ensures events { OnOk result (events.new ≡ event_names (component_tree names.now comp.now)) }
+    ensures ports { OnOk result (ports.new ≡ port_names (component_tree names.now comp.now)) }
+{
+    if !has_new_names(alloc, names, known, comp, events, ports)? {
+        return Err(ItemEnd::Broken { rule: 1 });
+    }
+    if !names_events(alloc, names, comp, events)? {
+        return Err(ItemEnd::Broken { rule: 2 });
+    }
+    if !has_widths(comp) {
+        return Err(ItemEnd::Broken { rule: 3 });
+    }
+    if !has_shape(alloc, names, comp)? {
+        return Err(ItemEnd::Broken { rule: 5 });
+    }
+    Ok(())
+}

@@ -1,0 +1,36 @@
+//! What names mean at a place of a component's body, in tables that are looked up by name.
+use crate::callee::Callee;
+use hw_names::Names;
+
+/// The components before one, by name and by number.
+#[derive(Drop)]
+pub struct Earlier {
+    /// The names of the components, in text order.
+    pub names: Names,
+    /// Their signatures.
+    pub callees: Vec<Callee>,
+}
+
+/// What an instance is made of.
+#[derive(Drop)]
+pub enum Made {
+    /// The earlier component of this number.
+    Component(usize),
+    /// A primitive with its parameters.
+    Primitive(Callee),
+}
+
+/// What names mean before a statement.
+#[derive(Drop)]
+pub struct Tables {
+    /// The names of the component's events.
+    pub events: Names,
+    /// The names of its interface ports, its inputs and its outputs, and then those of the invocations so far.
+    pub ports: Names,
+    /// The names of the instances so far.
+    pub instances: Names,
+    /// What each instance is made of.
+    pub made: Vec<Made>,
+    /// The number of each invocation's instance.
+    pub invoked: Vec<usize>,
+}
