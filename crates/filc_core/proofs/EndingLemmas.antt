@@ -42,10 +42,12 @@ module _ (words : List Text) (contents : Text → Option Text) (ended : Ended) (
 
 -- each refusal is a verdict, and has a line
 is_verdict : (why : Refusal) → IsVerdictEnd (answer_of why)
-is_verdict refusal.SourceTooLong = tt
-is_verdict (refusal.NestsTooDeep depth) = tt
+is_verdict (refusal.SourceTooLong language) = tt
+is_verdict (refusal.HasNoTokens at) = tt
+is_verdict (refusal.NestsTooDeep language depth) = tt
 is_verdict (refusal.HasNoGrammar at) = tt
-is_verdict (refusal.BreaksRule rule name item) = tt
+is_verdict (refusal.HasLargeOffset offset) = tt
+is_verdict (refusal.BreaksRule language rule name item) = tt
 is_verdict (refusal.HasLoop name ports) = tt
 is_verdict (refusal.IsTooHeavy weight) = tt
 is_verdict (refusal.HasTooManyWords words) = tt
@@ -53,10 +55,12 @@ is_verdict (refusal.TooManyCycles cycles) = tt
 is_verdict (refusal.Conflict cycle port) = tt
 
 has_line : (why : Refusal) → refusal_line why ≢ []
-has_line refusal.SourceTooLong e = cc e
-has_line (refusal.NestsTooDeep depth) e = cc e
+has_line (refusal.SourceTooLong language) e = cc e
+has_line (refusal.HasNoTokens at) e = cc e
+has_line (refusal.NestsTooDeep language depth) e = cc e
 has_line (refusal.HasNoGrammar at) e = cc e
-has_line (refusal.BreaksRule rule name item) e = cc e
+has_line (refusal.HasLargeOffset offset) e = cc e
+has_line (refusal.BreaksRule language rule name item) e = cc e
 has_line (refusal.HasLoop name ports) e = cc e
 has_line (refusal.IsTooHeavy weight) e = cc e
 has_line (refusal.HasTooManyWords words) e = cc e
@@ -64,7 +68,7 @@ has_line (refusal.TooManyCycles cycles) e = cc e
 has_line (refusal.Conflict cycle port) e = cc e
 
 ends_in_memory : (r : Request) → IsEndOf r Memory
-ends_in_memory (CheckOf file) = tt
+ends_in_memory (CheckOf language file) = tt
 ends_in_memory (RowsOf file cycles) = tt
 
 -- a command that stopped, and the line that tells it
@@ -119,10 +123,12 @@ module _ (words : List Text) (contents : Text → Option Text) (request : Reques
   stop_memory stop.Memory leaves told is content = leaves (told_content content)
 
   called_refused : (why : Refusal) → IsCalledFor words (answer_of why)
-  called_refused refusal.SourceTooLong = (request, asks)
-  called_refused (refusal.NestsTooDeep depth) = (request, asks)
+  called_refused (refusal.SourceTooLong language) = (request, asks)
+  called_refused (refusal.HasNoTokens at) = (request, asks)
+  called_refused (refusal.NestsTooDeep language depth) = (request, asks)
   called_refused (refusal.HasNoGrammar at) = (request, asks)
-  called_refused (refusal.BreaksRule rule name item) = (request, asks)
+  called_refused (refusal.HasLargeOffset offset) = (request, asks)
+  called_refused (refusal.BreaksRule language rule name item) = (request, asks)
   called_refused (refusal.HasLoop name ports) = (request, asks)
   called_refused (refusal.IsTooHeavy weight) = (request, asks)
   called_refused (refusal.HasTooManyWords words') = (request, asks)

@@ -5,6 +5,7 @@ pub mod RowLemmas
 pub mod PortLemmas
 pub mod NetLaws
 pub mod MemoryLemmas
+mod FilLemmas
 pub mod VerdictLemmas
 pub mod EndingLemmas
 pub mod InputLemmas

@@ -2,12 +2,16 @@
 use Rattle.std.proofs.Common.{◌≡◌, ℕ, List, [], ◌∷◌, ◌++◌, codes, decimal, refl, sym, ap, ap₂, ◌∙◌, append_assoc, arith}
 use Rattle.std.proofs.lemmas.Fmt.{decimal_digit}
 use Rattle.hw_names.specs.Name.{Text}
-use Rattle.filc_core.specs.Lines.{as_line, grammar_line, net_rule, spaced, loop_line, conflict_line}
+use Rattle.filc_core.specs.Lines.{as_line, token_line, grammar_line, rule_name, spaced, loop_line, conflict_line}
+use Rattle.filc_core.specs.declared.language.Language.TheVariants.{Netlists}
 
 pub conflict_texts : (cycle : ℕ) (port : Text) → codes "conflict cycle " ++ (decimal cycle ++ (codes " port " ++ (port ++ 10 ∷ []))) ≡ as_line (conflict_line cycle port)
 conflict_texts cycle port =
     ap (λ rest. codes "conflict cycle " ++ rest)
     (sym (append_assoc (decimal cycle ++ codes " port ") port (10 ∷ []) ∙ append_assoc (decimal cycle) (codes " port ") (port ++ 10 ∷ [])))
+
+pub token_texts : (place : ℕ) → codes "refused token at byte " ++ (decimal place ++ 10 ∷ []) ≡ as_line (token_line place)
+token_texts place = refl
 
 pub grammar_texts : (place : ℕ) → codes "refused grammar at byte " ++ (decimal place ++ 10 ∷ []) ≡ as_line (grammar_line place)
 grammar_texts place = refl
@@ -20,7 +24,7 @@ rule_with number name item = codes "refused " ++ (codes "N" ++ number) ++ codes 
 abbrev pub loop_front : Text → Text
 loop_front name = codes "refused N6 " ++ (name ++ codes " item 0 loop")
 
-pub loop_texts : (name : Text) (ports : List Text) → loop_front name ++ (spaced ports ++ 10 ∷ []) ≡ as_line (loop_line (net_rule 6) name ports)
+pub loop_texts : (name : Text) (ports : List Text) → loop_front name ++ (spaced ports ++ 10 ∷ []) ≡ as_line (loop_line (rule_name Netlists 6) name ports)
 loop_texts name ports =
     let item : Text = codes " item " in
     let front : ((name ++ item) ++ 48 ∷ []) ++ codes " loop" ≡ name ++ codes " item 0 loop" =

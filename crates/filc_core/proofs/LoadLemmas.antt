@@ -1,26 +1,32 @@
 -- From what the text of a file gives to the verdict on it.
-use Rattle.std.proofs.Common.{◌≡◌, ℕ, ◌+◌, ◌<◌, ◌≤◌, List, [], ◌∷◌, ◌++◌, length, map, take, get_or, Option, None, Some, refl, sym, ap, ap₂, ◌∙◌, subst, arith}
+use Rattle.std.proofs.Common.{◌≡◌, ℕ, ◌+◌, ◌<◌, ◌≤◌, List, [], ◌∷◌, ◌++◌, codes, length, map, take, get_or, Option, None, Some, refl, sym, ap, ap₂, ◌∙◌, subst, arith}
 use Rattle.std.proofs.lemmas.List.{take_more, take_all, map-append, length-map}
 use Rattle.std.proofs.lemmas.Option.{get_or_from_slice_get}
 use Rattle.std.specs.Prelude.{Result, Ok, Err, IsSome, IfSome, IfOk, IfErr, All, slice_get}
 use Rattle.std.specs.Result.{IsErrAnd}
 use Rattle.hw_io.proofs.WritingLemmas.{appends_none}
 use Rattle.hw_names.specs.Name.{Text}
+use Rattle.fil_ast.specs.Tree.{design_of}
+use Rattle.fil_ast.specs.declared.tree.FilDesign.{FilDesign}
 use Rattle.net_core.specs.Netlist.{Netlist, netlist_of}
 use Rattle.net_core.specs.Rules.{PortLine, ports_of, port_names, IsValid}
 use Rattle.net_sim.specs.Layout.{name_of}
 use Rattle.net_sim.specs.Order.{IsLeastLoopOf}
 use Rattle.filc_core.proofs.SinkLemmas.{keeps_all}
-use Rattle.filc_core.specs.Built.{IsBuiltFrom, IsUnbuilt, IsUnread, AreNamesOf}
+use Rattle.filc_core.specs.Built.{AsksFor, IsBuiltFrom, IsRefusedIn, IsUnbuilt, IsUnread, AreNamesOf}
 use Rattle.filc_core.specs.Ending.{HasPartOfReport}
-use Rattle.filc_core.specs.Lines.{net_rule, loop_line}
-use Rattle.filc_core.specs.NetFile.{GivesNet, IsTextOf, IsRefused, HasLoop}
+use Rattle.filc_core.specs.Lines.{limit_line, rule_name, loop_line}
+use Rattle.filc_core.specs.FilFile.{GivesFil}
+use Rattle.filc_core.specs.Language.{most_bytes}
+use Rattle.filc_core.specs.NetFile.{IsTextOf, IsRefused, HasLoop}
 use Rattle.filc_core.specs.Report.{Leaves, LeavesAt}
-use Rattle.filc_core.specs.Request.{Request, file_of, Asks}
+use Rattle.filc_core.specs.Request.{Request, file_of, language_of, Asks}
 use Rattle.filc_core.specs.Stops.{answer_of, refusal_line}
-use Rattle.filc_core.specs.Verdict.{Verdict, SourceTooLong, NetRefused, Reads, ReadsNet}
+use Rattle.filc_core.specs.Verdict.{Verdict, SourceTooLong, NetRefused, FilRefused, Reads, ReadsNet, ReadsFil}
+use Rattle.filc_core.specs.declared.ended.Ended.{Ended}
 use Rattle.filc_core.specs.declared.ended.Ended.TheVariants.{Refused}
-use Rattle.filc_core.specs.declared.limits.TheConstants.{MOST_NET_BYTES}
+use Rattle.filc_core.specs.declared.language.Language.{Language}
+use Rattle.filc_core.specs.declared.language.Language.TheVariants.{Netlists, Filament}
 use Rattle.filc_core.specs.declared.net_file.Built.{Built}
 use Rattle.filc_core.specs.declared.refusal.Refusal.TheVariants as refusal
 use Rattle.filc_core.specs.declared.stop.Stop.{Stop}
@@ -35,38 +41,51 @@ told_is : (told : Option Text) (bytes : Text) → IsSome told → IfSome told (�
 told_is None bytes is same = cc
 told_is (Some content) bytes is same = ap Some (sym same)
 
-module _ (words : List Text) (contents : Text → Option Text) (file : Text) (r : Request) (asks : Asks words r) (named : file_of r ≡ file) (told : IsSome (contents file)) where
+-- what the words ask for is of its file, in its language
+pub asks_for : (words : List Text) (r : Request) → Asks words r → AsksFor words r (language_of r) (file_of r)
+asks_for words r asks = record { asks = asks; named = refl; spoken = refl }
+
+-- the file that the words ask for, in its language
+module _ (words : List Text) (contents : Text → Option Text) (language : Language) (file : Text) (r : Request) (asks : AsksFor words r language file) (told : IsSome (contents file)) where
   content_is : (bytes : Text) → contents file ≡ Some bytes → contents (file_of r) ≡ Some bytes
-  content_is bytes is = subst (λ f. contents f ≡ Some bytes) (sym named) is
+  content_is bytes is = subst (λ f. contents f ≡ Some bytes) (sym asks.named) is
 
-  pub reads : (bytes : Text) → IfSome (contents file) (λ content. bytes ≡ content) → length bytes ≤ MOST_NET_BYTES → Reads words contents r bytes
-  reads bytes same within = record { asks = asks; told = content_is bytes (told_is (contents file) bytes told same); within = within }
-
-  pub reads_net : (bytes : Text) (n : Netlist) → IfSome (contents file) (λ content. bytes ≡ content) → length bytes ≤ MOST_NET_BYTES → GivesNet bytes n → ReadsNet words contents r n
-  reads_net bytes n same within gives = record { bytes = bytes; reads = reads bytes same within; gives = gives }
+  pub reads_source : (bytes : Text) → IfSome (contents file) (λ content. bytes ≡ content) → length bytes ≤ most_bytes language → Reads words contents r language bytes
+  reads_source bytes same within = record { asks = asks.asks; spoken = asks.spoken; told = content_is bytes (told_is (contents file) bytes told same); within = within }
 
   -- a file that is too long
-  pub too_long : IfSome (contents file) (λ content. MOST_NET_BYTES < length content) → Verdict words contents (answer_of refusal.SourceTooLong) [] (refusal_line refusal.SourceTooLong)
+  pub too_long : IfSome (contents file) (λ content. most_bytes language < length content) → Verdict words contents (answer_of (refusal.SourceTooLong language)) [] (refusal_line (refusal.SourceTooLong language))
   too_long long =
       let bytes = some_text (contents file) told in
-      let over : MOST_NET_BYTES < length bytes.0 = subst (λ (o : Option Text). IfSome o (λ content. MOST_NET_BYTES < length content)) bytes.1 long in
-      SourceTooLong r bytes.0 asks (content_is bytes.0 bytes.1) over refl refl refl
+      let over : most_bytes language < length bytes.0 = subst (λ (o : Option Text). IfSome o (λ content. most_bytes language < length content)) bytes.1 long in
+      SourceTooLong r bytes.0 asks.asks (content_is bytes.0 bytes.1) (subst (λ (l : Language). most_bytes l < length bytes.0) (sym asks.spoken) over) refl refl
+      (ap (λ (l : Language). limit_line (codes "source") (most_bytes l + 1) (most_bytes l)) (sym asks.spoken))
 
-  unread : (bytes : Text) (why : Stop) → IfSome (contents file) (λ content. bytes ≡ content) → length bytes ≤ MOST_NET_BYTES → IsUnbuilt bytes why → IsUnread words contents why
-  unread bytes stop.ReadFault same within unbuilt = absurd unbuilt
-  unread bytes (stop.Refused why) same within unbuilt = NetRefused r bytes (reads bytes same within) unbuilt refl
-  unread bytes stop.WriteFault same within unbuilt = unbuilt
-  unread bytes stop.Memory same within unbuilt = tt
+-- a text that is refused
+refused_text : (words : List Text) (contents : Text → Option Text) (language : Language) (r : Request) (bytes : Text) (ended : Ended) (line : Text) → Reads words contents r language bytes → IsRefusedIn language bytes ended line → Verdict words contents ended [] line
+refused_text words contents Netlists r bytes ended line reads refused = NetRefused r bytes reads refused refl
+refused_text words contents Filament r bytes ended line reads refused = FilRefused r bytes reads refused refl
 
-  -- a text that gives no netlist to run
-  pub unread_text : {T : Type 0} (bytes : Text) (answer : Result T Stop) → IfSome (contents file) (λ content. bytes ≡ content) → length bytes ≤ MOST_NET_BYTES → IfErr answer (IsUnbuilt bytes) → IfErr answer (IsUnread words contents)
-  unread_text bytes (Ok value) same within unbuilt = tt
-  unread_text bytes (Err why) same within unbuilt = unread bytes why same within unbuilt
+unread : (words : List Text) (contents : Text → Option Text) (language : Language) (r : Request) (bytes : Text) (why : Stop) → Reads words contents r language bytes → IsUnbuilt language bytes why → IsUnread words contents why
+unread words contents language r bytes stop.ReadFault reads unbuilt = absurd unbuilt
+unread words contents language r bytes (stop.Refused why) reads unbuilt = refused_text words contents language r bytes (answer_of why) (refusal_line why) reads unbuilt
+unread words contents language r bytes stop.WriteFault reads unbuilt = unbuilt
+unread words contents language r bytes stop.Memory reads unbuilt = tt
 
-  -- a text that gives a netlist
-  pub read_text : (bytes : Text) (answer : Result Built Stop) → IfSome (contents file) (λ content. bytes ≡ content) → length bytes ≤ MOST_NET_BYTES → IfOk answer (IsBuiltFrom bytes) → IfOk answer (λ (b : Built). ReadsNet words contents r (netlist_of b.net))
-  read_text bytes (Ok b) same within built = reads_net bytes (netlist_of b.net) same within built.gives
-  read_text bytes (Err why) same within built = tt
+-- a text that gives nothing
+pub unread_text : {T : Type 0} (words : List Text) (contents : Text → Option Text) (language : Language) (r : Request) (bytes : Text) (answer : Result T Stop) → Reads words contents r language bytes → IfErr answer (IsUnbuilt language bytes) → IfErr answer (IsUnread words contents)
+unread_text words contents language r bytes (Ok value) reads unbuilt = tt
+unread_text words contents language r bytes (Err why) reads unbuilt = unread words contents language r bytes why reads unbuilt
+
+-- a text that gives a netlist
+pub read_net : (words : List Text) (contents : Text → Option Text) (r : Request) (bytes : Text) (answer : Result Built Stop) → Reads words contents r Netlists bytes → IfOk answer (IsBuiltFrom bytes) → IfOk answer (λ (b : Built). ReadsNet words contents r (netlist_of b.net))
+read_net words contents r bytes (Ok b) reads built = record { bytes = bytes; reads = reads; gives = built.gives }
+read_net words contents r bytes (Err why) reads built = tt
+
+-- a text that gives a Filament design
+pub read_fil : (words : List Text) (contents : Text → Option Text) (r : Request) (bytes : Text) (answer : Result FilDesign Stop) → Reads words contents r Filament bytes → IfOk answer (λ (d : FilDesign). GivesFil bytes (design_of d)) → IfOk answer (λ (d : FilDesign). ReadsFil words contents r (design_of d))
+read_fil words contents r bytes (Ok d) reads gives = record { bytes = bytes; reads = reads; gives = gives }
+read_fil words contents r bytes (Err why) reads gives = tt
 
 -- an error that is passed on
 pub passed_on : {T : Type 0} (claim : Stop → Type 0) (answer : Result T Stop) (why : Stop) → IsErrAnd answer (λ other. other ≡ why) → claim why → IfErr answer claim
@@ -105,8 +124,8 @@ loop_within n names (port ∷ ports) all least = λ k d inside.
     let within = least.0 k d inside in omega (arith, within, ap length all, length-map (ports_of n) (λ (p : PortLine). p.name))
 
 -- a netlist with a loop is refused by its least
-pub loop_refused : (n : Netlist) (names : List Text) (ports : List ℕ) (name : Text) (texts : List Text) → IsValid n → names ≡ port_names (ports_of n) → IsLeastLoopOf n ports → name ≡ n.name → AreNamesOf names ports texts → (text : Text) → IsTextOf n text → IsRefused text Refused (loop_line (net_rule 6) name texts)
+pub loop_refused : (n : Netlist) (names : List Text) (ports : List ℕ) (name : Text) (texts : List Text) → IsValid n → names ≡ port_names (ports_of n) → IsLeastLoopOf n ports → name ≡ n.name → AreNamesOf names ports texts → (text : Text) → IsTextOf n text → IsRefused text Refused (loop_line (rule_name Netlists 6) name texts)
 loop_refused n names [] name texts valid all least named are text of = absurd least
 loop_refused n names (port ∷ ports) name texts valid all least named are text of =
     HasLoop n (name_of n port) (map (name_of n) ports) of valid least.1 refl
-    (ap₂ (λ (t : Text) (ts : List Text). loop_line (net_rule 6) t ts) named (are ∙ ap (λ (ns : List Text). map (λ (p : ℕ). get_or ns p []) (port ∷ ports)) all))
+    (ap₂ (λ (t : Text) (ts : List Text). loop_line (rule_name Netlists 6) t ts) named (are ∙ ap (λ (ns : List Text). map (λ (p : ℕ). get_or ns p []) (port ∷ ports)) all))

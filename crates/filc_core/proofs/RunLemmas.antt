@@ -21,7 +21,7 @@ use Rattle.net_core.specs.Rules.{PortLine, ports_of, port_names}
 use Rattle.net_core.specs.Table.{IsTableOf}
 use Rattle.net_core.specs.declared.table.PortInfo.{PortInfo}
 use Rattle.net_core.specs.declared.table.Table.{Table}
-use Rattle.filc_core.specs.Slots.{HasNumbers}
+use Rattle.filc_core.specs.Slots.{NumbersPortsAsNames}
 use Rattle.std.proofs.lemmas.List.{length-map}
 use Rattle.net_sim.proofs.PlaceLemmas.{named_at}
 use Rattle.net_sim.specs.Order.{IsNamed, IsOrderOf}
@@ -73,7 +73,7 @@ pub new_stands : (net : Net) (sim : SimValue) (sets : List InputSet) → IsNewSi
 new_stands net sim sets is = (no_inputs, stands_at_start net no_loads sim (driven (netlist_of net) sets) no_inputs is)
 
 -- the table of a netlist numbers its names
-pub table_numbers : (n : Netlist) (table : Table) → IsTableOf n table → HasNumbers table
+pub table_numbers : (n : Netlist) (table : Table) → IsTableOf n table → NumbersPortsAsNames table
 table_numbers n table is = record {
   all = sym (length-map table.ports.items (λ (p : PortInfo). p.width)) ∙ ap length is.widths ∙ length-map (ports_of n) (λ (p : PortLine). p.width) ∙ sym (ap length is.names ∙ length-map (ports_of n) (λ (p : PortLine). p.name));
   numbers = is.numbers;

@@ -1,15 +1,26 @@
--- What reading a netlist file makes of its text.
+-- What reading a file makes of its text.
 use Rattle.std.specs.Prelude.{◌≡◌, ℕ, List, [], map, slice_index_or, Option}
 use Rattle.hw_names.specs.Name.{Text}
+use Rattle.fil_ast.specs.Limits.{HasSmallOffsets}
+use Rattle.fil_ast.specs.Numbers.{HasNumbers as HasNumbersOfNames}
+use Rattle.fil_ast.specs.Tree.{design_of}
+use Rattle.fil_ast.specs.declared.tree.FilDesign.{FilDesign}
 use Rattle.net_core.specs.Netlist.{Netlist, netlist_of}
 use Rattle.net_core.specs.Numbers.{HasNumbers}
 use Rattle.net_core.specs.Rules.{IsValid}
 use Rattle.net_core.specs.Table.{IsTableOf}
 use Rattle.net_core.specs.declared.net.Net.{Net}
 use Rattle.net_sim.specs.PortOrder.{IsPortOrderOf}
-use Rattle.filc_core.specs.NetFile.{GivesNet, IsTextOf, IsAcceptedTextOf, IsRefused}
+use Rattle.filc_core.specs.FilFile.{IsFilTextOf}
+use Rattle.filc_core.specs.FilFile
+use Rattle.filc_core.specs.NetFile.{GivesNet, IsTextOf, IsAcceptedTextOf}
+use Rattle.filc_core.specs.NetFile
+use Rattle.filc_core.specs.Request.{Request, Asks, file_of, language_of}
 use Rattle.filc_core.specs.Stops.{answer_of, refusal_line}
 use Rattle.filc_core.specs.Verdict.{Verdict}
+use Rattle.filc_core.specs.declared.ended.Ended.{Ended}
+use Rattle.filc_core.specs.declared.language.Language.{Language}
+use Rattle.filc_core.specs.declared.language.Language.TheVariants.{Netlists, Filament}
 use Rattle.filc_core.specs.declared.net_file.Built.{Built}
 use Rattle.filc_core.specs.declared.stop.Stop.{Stop}
 use Rattle.filc_core.specs.declared.stop.Stop.TheVariants as stop
@@ -31,21 +42,42 @@ pub record IsBuiltFrom (text : Text) (b : Built) : Type 0 where
   pub gives : GivesNet text (netlist_of b.net)
   pub ready : IsReady b
 
--- the text is refused so, or there was no memory
-abbrev pub IsUnbuilt : Text → Stop → Type 0
-IsUnbuilt text (stop.Refused why) = IsRefused text (answer_of why) (refusal_line why)
-IsUnbuilt text stop.Memory = Unit {0}
-IsUnbuilt text why = ⊥
+-- the words ask for this of the file of this name, in this language
+pub record AsksFor (words : List Text) (r : Request) (language : Language) (file : Text) : Type 0 where
+  pub asks : Asks words r
+  pub named : file_of r ≡ file
+  pub spoken : language_of r ≡ language
+
+-- a text in this language is refused so
+abbrev pub IsRefusedIn : Language → Text → Ended → Text → Type 0
+IsRefusedIn Netlists text ended line = NetFile.IsRefused text ended line
+IsRefusedIn Filament text ended line = FilFile.IsRefused text ended line
+
+-- a text in this language is refused so, or there was no memory
+abbrev pub IsUnbuilt : Language → Text → Stop → Type 0
+IsUnbuilt language text (stop.Refused why) = IsRefusedIn language text (answer_of why) (refusal_line why)
+IsUnbuilt language text stop.Memory = Unit {0}
+IsUnbuilt language text why = ⊥
 
 -- whichever text spells the netlist is refused so, or there was no memory
 abbrev pub IsUnfit : Netlist → Stop → Type 0
-IsUnfit n why = (text : Text) → IsTextOf n text → IsUnbuilt text why
+IsUnfit n why = (text : Text) → IsTextOf n text → IsUnbuilt Netlists text why
 
 -- the same for a netlist that keeps the rules
 abbrev pub IsOverweight : Netlist → Stop → Type 0
-IsOverweight n why = (text : Text) → IsAcceptedTextOf n text → IsUnbuilt text why
+IsOverweight n why = (text : Text) → IsAcceptedTextOf n text → IsUnbuilt Netlists text why
 
--- why the file that the words name gives no netlist to run: it couldn't be read, or that is the verdict, or there was no memory
+-- the design is the text's
+pub record IsDesignOf (text : Text) (d : FilDesign) : Type 0 where
+  pub text_of : IsFilTextOf (design_of d) text
+  pub numbers : HasNumbersOfNames d
+  pub small : HasSmallOffsets d
+
+-- whichever text spells the design is refused so, or there was no memory
+abbrev pub IsUnfitDesign : FilDesign → Stop → Type 0
+IsUnfitDesign d why = (text : Text) → IsFilTextOf (design_of d) text → IsUnbuilt Filament text why
+
+-- why the file that the words name gives nothing: it couldn't be read, or that is the verdict, or there was no memory
 abbrev pub IsUnread : List Text → (Text → Option Text) → Stop → Type 0
 IsUnread words contents stop.ReadFault = Unit {0}
 IsUnread words contents (stop.Refused why) = Verdict words contents (answer_of why) [] (refusal_line why)

@@ -7,10 +7,12 @@ use Rattle.hw_io.specs.Writing.{AppendsPrefix}
 use Rattle.hw_names.specs.Name.{Text}
 use Rattle.filc_core.specs.Lines.{as_line, read_fault_line}
 use Rattle.filc_core.specs.Request.{Request, CheckOf, RowsOf, file_of, Asks, AskNothing}
+use Rattle.fil_ast.specs.Tree.{Design}
 use Rattle.net_core.specs.Netlist.{Netlist}
-use Rattle.filc_core.specs.Verdict.{Verdict, ReadsNet}
+use Rattle.filc_core.specs.Verdict.{Verdict, ReadsNet, ReadsFil}
 use Rattle.filc_core.specs.declared.ended.Ended.{Ended}
 use Rattle.filc_core.specs.declared.ended.Ended.TheVariants.{Done, Usage, ReadFault, WriteFault, Memory, Stimulus, Conflict}
+use Rattle.filc_core.specs.declared.language.Language.TheVariants.{Netlists, Filament}
 use Rattle.filc_core.specs.declared.limits.TheConstants.{MOST_CYCLES}
 
 -- the answer is a verdict's, and not one for a fault or for want of memory
@@ -81,7 +83,8 @@ pub record MeetsNoFault (words : List Text) (names : List Text) (before after : 
 
 -- the file gives what is asked for, and no limit stands against it
 abbrev pub IsGranted : List Text → (Text → Option Text) → Request → Type 0
-IsGranted words contents (CheckOf file) = (n : Netlist) × ReadsNet words contents (CheckOf file) n
+IsGranted words contents (CheckOf Netlists file) = (n : Netlist) × ReadsNet words contents (CheckOf Netlists file) n
+IsGranted words contents (CheckOf Filament file) = (design : Design) × ReadsFil words contents (CheckOf Filament file) design
 IsGranted words contents (RowsOf file cycles) = (n : Netlist) × ReadsNet words contents (RowsOf file cycles) n × (cycles ≤ MOST_CYCLES)
 
 -- the answers to what is granted: a run may end in a Conflict, and memory may be wanting

@@ -4,6 +4,9 @@ pub use Rattle.hw_io.specs.Writing
 pub use Rattle.net_core.specs.NetRun
 pub use Rattle.net_text.specs.Reading as NetReading
 pub use Rattle.hw_lex.specs.Nesting
+pub use Rattle.fil_ast.specs.Rules as FilRules
+pub use Rattle.fil_parse.specs.Spelling as FilSpelling
+pub mod Language
 pub mod Request
 pub mod Words
 pub mod Lines
@@ -11,6 +14,7 @@ pub mod Rows
 pub mod Status
 pub mod Stops
 pub mod NetFile
+pub mod FilFile
 pub mod Verdict
 pub mod Ending
 pub mod Report

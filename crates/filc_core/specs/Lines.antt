@@ -1,6 +1,8 @@
 -- The line of each refusal, without its line feed. This project's.
 use Rattle.std.specs.Prelude.{ℕ, List, [], ◌∷◌, ◌++◌, codes, decimal, flat_map}
 use Rattle.hw_names.specs.Name.{Text}
+use Rattle.filc_core.specs.Language.{letter_of}
+use Rattle.filc_core.specs.declared.language.Language.{Language}
 
 abbrev pub usage_line : Text
 usage_line = codes "usage: filc COMMAND FILE [STIMULUS or NUMBER]"
@@ -15,13 +17,17 @@ memory_line = codes "out of memory"
 abbrev pub limit_line : Text → ℕ → ℕ → Text
 limit_line name count limit = codes "limit " ++ name ++ codes " " ++ decimal count ++ codes " over " ++ decimal limit
 
+-- a text without tokens, and the byte at which none starts
+abbrev pub token_line : ℕ → Text
+token_line place = codes "refused token at byte " ++ decimal place
+
 -- a text without the grammar, and the byte at which it is refused
 abbrev pub grammar_line : ℕ → Text
 grammar_line place = codes "refused grammar at byte " ++ decimal place
 
--- a rule of netlists: N and its number
-abbrev pub net_rule : ℕ → Text
-net_rule number = codes "N" ++ decimal number
+-- a rule of a language: its letter and its number
+abbrev pub rule_name : Language → ℕ → Text
+rule_name language number = letter_of language ++ decimal number
 
 -- the first broken rule, in the design with this name and at this item
 abbrev pub rule_line : Text → Text → ℕ → Text

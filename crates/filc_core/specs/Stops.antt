@@ -4,10 +4,13 @@ use Rattle.std.specs.Borrow.{Bor}
 use Rattle.std.specs.Io.KnownBytes.{Appends}
 use Rattle.hw_io.specs.Writing.{AppendsPrefix}
 use Rattle.hw_names.specs.Name.{Text}
-use Rattle.filc_core.specs.Lines.{as_line, read_fault_line, limit_line, grammar_line, net_rule, rule_line, loop_line, conflict_line, memory_line}
+use Rattle.fil_ast.specs.declared.tree.TheConstants.{MOST_OFFSET}
+use Rattle.filc_core.specs.Language.{most_bytes, most_nesting}
+use Rattle.filc_core.specs.Lines.{as_line, read_fault_line, limit_line, token_line, grammar_line, rule_name, rule_line, loop_line, conflict_line, memory_line}
 use Rattle.filc_core.specs.declared.ended.Ended.{Ended}
 use Rattle.filc_core.specs.declared.ended.Ended.TheVariants.{Refused, ReadFault, WriteFault, Memory, Conflict, Limit}
-use Rattle.filc_core.specs.declared.limits.TheConstants.{MOST_NET_BYTES, MOST_NET_NESTING, MOST_WEIGHT, MOST_WORDS, MOST_CYCLES}
+use Rattle.filc_core.specs.declared.language.Language.TheVariants.{Netlists}
+use Rattle.filc_core.specs.declared.limits.TheConstants.{MOST_WEIGHT, MOST_WORDS, MOST_CYCLES}
 use Rattle.filc_core.specs.declared.refusal.Refusal.{Refusal}
 use Rattle.filc_core.specs.declared.refusal.Refusal.TheVariants as refusal
 use Rattle.filc_core.specs.declared.stop.Stop.{Stop}
@@ -18,10 +21,12 @@ abbrev pub joined : List (Bor Text) → Text
 joined texts = flat_map (λ (text : Bor Text). text.now) texts
 
 abbrev pub answer_of : Refusal → Ended
-answer_of refusal.SourceTooLong = Limit
-answer_of (refusal.NestsTooDeep depth) = Limit
+answer_of (refusal.SourceTooLong language) = Limit
+answer_of (refusal.HasNoTokens at) = Refused
+answer_of (refusal.NestsTooDeep language depth) = Limit
 answer_of (refusal.HasNoGrammar at) = Refused
-answer_of (refusal.BreaksRule rule name item) = Refused
+answer_of (refusal.HasLargeOffset offset) = Limit
+answer_of (refusal.BreaksRule language rule name item) = Refused
 answer_of (refusal.HasLoop name ports) = Refused
 answer_of (refusal.IsTooHeavy weight) = Limit
 answer_of (refusal.HasTooManyWords words) = Limit
@@ -29,11 +34,13 @@ answer_of (refusal.TooManyCycles cycles) = Limit
 answer_of (refusal.Conflict cycle port) = Conflict
 
 abbrev pub refusal_line : Refusal → Text
-refusal_line refusal.SourceTooLong = limit_line (codes "source") (MOST_NET_BYTES + 1) MOST_NET_BYTES
-refusal_line (refusal.NestsTooDeep depth) = limit_line (codes "nesting") depth MOST_NET_NESTING
+refusal_line (refusal.SourceTooLong language) = limit_line (codes "source") (most_bytes language + 1) (most_bytes language)
+refusal_line (refusal.HasNoTokens at) = token_line at
+refusal_line (refusal.NestsTooDeep language depth) = limit_line (codes "nesting") depth (most_nesting language)
 refusal_line (refusal.HasNoGrammar at) = grammar_line at
-refusal_line (refusal.BreaksRule rule name item) = rule_line (net_rule rule) name item
-refusal_line (refusal.HasLoop name ports) = loop_line (net_rule 6) name ports.items
+refusal_line (refusal.HasLargeOffset offset) = limit_line (codes "offset") offset MOST_OFFSET
+refusal_line (refusal.BreaksRule language rule name item) = rule_line (rule_name language rule) name item
+refusal_line (refusal.HasLoop name ports) = loop_line (rule_name Netlists 6) name ports.items
 refusal_line (refusal.IsTooHeavy weight) = limit_line (codes "weight") weight MOST_WEIGHT
 refusal_line (refusal.HasTooManyWords words) = limit_line (codes "words") words MOST_WORDS
 refusal_line (refusal.TooManyCycles cycles) = limit_line (codes "cycles") cycles MOST_CYCLES

@@ -5,5 +5,5 @@ use Rattle.filc_core.specs.declared.request.Request.TheVariants.{Check, Rows}
 
 -- what a command asks for
 abbrev pub request_of : RequestValue → Request
-request_of (Check file) = CheckOf file.now
+request_of (Check language file) = CheckOf language file.now
 request_of (Rows file cycles) = RowsOf file.now cycles

@@ -11,8 +11,9 @@ ghost use Rattle.filc_core.specs.Ending.{IsVerdictEnd, IsCalledFor, AreTold, IsA
 ghost use Rattle.filc_core.specs.Lines.{as_line, usage_line, memory_line};
 ghost use Rattle.filc_core.specs.Stops.{IsLineTold};
 
-use crate::check::check;
+use crate::check::{check_filament, check_netlist};
 use crate::ended::Ended;
+use crate::language::Language;
 use crate::request::{Request, asked};
 use crate::rows::rows;
 use crate::stop::Stop;
@@ -81,7 +82,14 @@ fn perform<F: Files, O: Sink>(
     ensures never_falls { O.faults out.old ≤ O.faults out.new }
 {
     match request {
-        Request::Check { file } => check(alloc, file, files, out),
+        Request::Check {
+            language: Language::Netlists,
+            file,
+        } => check_netlist(alloc, file, files, out),
+        Request::Check {
+            language: Language::Filament,
+            file,
+        } => check_filament(alloc, file, files, out),
         Request::Rows { file, cycles } => rows(alloc, file, cycles, files, out),
     }
 }

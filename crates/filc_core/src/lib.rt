@@ -4,7 +4,9 @@
 mod check;
 mod command;
 mod ended;
+mod fil_file;
 mod inputs;
+mod language;
 mod limits;
 mod line;
 mod memories;
@@ -13,12 +15,15 @@ mod refusal;
 mod report;
 mod request;
 mod rows;
+mod source;
 mod stop;
 mod stream;
 
 pub use command::filc;
 pub use ended::Ended;
-pub use limits::{MOST_CYCLES, MOST_NET_BYTES, MOST_NET_NESTING, MOST_WEIGHT, MOST_WORDS};
+pub use limits::{
+    MOST_CYCLES, MOST_FIL_BYTES, MOST_NET_BYTES, MOST_NET_NESTING, MOST_WEIGHT, MOST_WORDS,
+};
 pub use stream::{Drive, RowEnd, stream_rows};
 
 #[cfg(test)]

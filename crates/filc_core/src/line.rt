@@ -3,9 +3,10 @@ ghost use Rattle.std.specs.Prelude.{◌≤◌, OnOk, OnErr, map};
 ghost use Rattle.std.specs.Io.KnownBytes.{Appends};
 ghost use Rattle.hw_io.specs.Faults.{Rose};
 ghost use Rattle.hw_io.specs.Writing.{AppendsPrefix};
-ghost use Rattle.filc_core.specs.Lines.{as_line, read_fault_line, limit_line, grammar_line, net_rule, rule_line, spaced, loop_line, conflict_line};
+ghost use Rattle.filc_core.specs.Lines.{as_line, read_fault_line, limit_line, token_line, grammar_line, rule_name, rule_line, spaced, loop_line, conflict_line};
 ghost use Rattle.filc_core.specs.Stops.{joined};
 
+use crate::language::Language;
 use hw_io::{Failed, Sink, write_whole};
 use hw_names::Word;
 use itoa::Buffer;
@@ -38,8 +39,8 @@ pub(crate) fn write_read_fault<S: Sink>(sink: &mut S, file: &str) -> Result<(), 
 pub(crate) fn write_limit<S: Sink>(
     sink: &mut S,
     name: &str,
-    count: u64,
-    limit: u64,
+    count: u128,
+    limit: u128,
 ) -> Result<(), Failed>
     ensures appended { OnOk result (Appends (S.written sink.old) (S.written sink.new) (as_line (limit_line name.now count limit))) }
     ensures prefix { OnErr result (AppendsPrefix (S.written sink.old) (S.written sink.new) (as_line (limit_line name.now count limit))) }
@@ -55,6 +56,22 @@ pub(crate) fn write_limit<S: Sink>(
         counted.format(count).as_bytes(),
         " over ".as_bytes(),
         most.format(limit).as_bytes(),
+        "\n".as_bytes(),
+    ];
+    write_texts(sink, &texts)
+}
+
+/// Writes the line of a text without tokens.
+pub(crate) fn write_token<S: Sink>(sink: &mut S, place: u64) -> Result<(), Failed>
+    ensures appended { OnOk result (Appends (S.written sink.old) (S.written sink.new) (as_line (token_line place))) }
+    ensures prefix { OnErr result (AppendsPrefix (S.written sink.old) (S.written sink.new) (as_line (token_line place))) }
+    ensures failed { OnErr result (Rose (S.faults sink.old) (S.faults sink.new)) }
+    ensures never_falls { S.faults sink.old ≤ S.faults sink.new }
+{
+    let mut counted = Buffer::new();
+    let texts = [
+        "refused token at byte ".as_bytes(),
+        counted.format(place).as_bytes(),
         "\n".as_bytes(),
     ];
     write_texts(sink, &texts)
@@ -76,22 +93,24 @@ pub(crate) fn write_grammar<S: Sink>(sink: &mut S, place: u64) -> Result<(), Fai
     write_texts(sink, &texts)
 }
 
-/// Writes the line of a netlist's broken rule.
+/// Writes the line of a broken rule.
 pub(crate) fn write_rule<S: Sink>(
     sink: &mut S,
+    language: Language,
     rule: u8,
     name: &[u8],
     item: u64,
 ) -> Result<(), Failed>
-    ensures appended { OnOk result (Appends (S.written sink.old) (S.written sink.new) (as_line (rule_line (net_rule rule) name.now item))) }
-    ensures prefix { OnErr result (AppendsPrefix (S.written sink.old) (S.written sink.new) (as_line (rule_line (net_rule rule) name.now item))) }
+    ensures appended { OnOk result (Appends (S.written sink.old) (S.written sink.new) (as_line (rule_line (rule_name language rule) name.now item))) }
+    ensures prefix { OnErr result (AppendsPrefix (S.written sink.old) (S.written sink.new) (as_line (rule_line (rule_name language rule) name.now item))) }
     ensures failed { OnErr result (Rose (S.faults sink.old) (S.faults sink.new)) }
     ensures never_falls { S.faults sink.old ≤ S.faults sink.new }
 {
     let mut number = Buffer::new();
     let mut place = Buffer::new();
     let texts = [
-        "refused N".as_bytes(),
+        "refused ".as_bytes(),
+        language.letter().as_bytes(),
         number.format(rule).as_bytes(),
         " ".as_bytes(),
         name,
@@ -117,8 +136,8 @@ fn write_ports<S: Sink>(sink: &mut S, ports: &[Word]) -> Result<(), Failed>
 
 /// Writes the line of a netlist with a loop.
 pub(crate) fn write_loop<S: Sink>(sink: &mut S, name: &[u8], ports: &[Word]) -> Result<(), Failed>
-    ensures appended { OnOk result (Appends (S.written sink.old) (S.written sink.new) (as_line (loop_line (net_rule 6) name.now ports.now))) }
-    ensures prefix { OnErr result (AppendsPrefix (S.written sink.old) (S.written sink.new) (as_line (loop_line (net_rule 6) name.now ports.now))) }
+    ensures appended { OnOk result (Appends (S.written sink.old) (S.written sink.new) (as_line (loop_line (rule_name Language.Netlists 6) name.now ports.now))) }
+    ensures prefix { OnErr result (AppendsPrefix (S.written sink.old) (S.written sink.new) (as_line (loop_line (rule_name Language.Netlists 6) name.now ports.now))) }
     ensures failed { OnErr result (Rose (S.faults sink.old) (S.faults sink.new)) }
     ensures never_falls { S.faults sink.old ≤ S.faults sink.new }
 {

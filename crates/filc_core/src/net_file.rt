@@ -10,17 +10,19 @@ ghost use Rattle.net_core.specs.Weight.{weight_of};
 ghost use Rattle.net_core.specs.Words.{words_of};
 ghost use Rattle.net_sim.specs.Order.{IsLeastLoopOf};
 ghost use Rattle.net_sim.specs.PortOrder.{IsPortOrderOf};
-ghost use Rattle.filc_core.specs.Built.{IsNetOf, IsReady, IsBuiltFrom, IsUnbuilt, IsUnfit, IsOverweight, IsUnread, AreNamesOf};
-ghost use Rattle.filc_core.specs.Request.{Request, Asks, file_of};
+ghost use Rattle.filc_core.specs.Built.{AsksFor, IsNetOf, IsReady, IsBuiltFrom, IsUnbuilt, IsUnfit, IsOverweight, IsUnread, AreNamesOf};
+ghost use Rattle.filc_core.specs.Request.{Request};
 ghost use Rattle.filc_core.specs.Verdict.{ReadsNet};
 ghost use Rattle.filc_core.specs.declared.limits.TheConstants.{MOST_NET_BYTES, MOST_WEIGHT, MOST_WORDS};
 
+use crate::language::Language;
 use crate::limits::{MOST_NET_BYTES, MOST_NET_NESTING, MOST_WEIGHT, MOST_WORDS};
 use crate::refusal::Refusal;
 use crate::report::name_of;
+use crate::source::read_source;
 use crate::stop::Stop;
 use hw_bits::Memory;
-use hw_io::{Files, ReadEnd, read_whole};
+use hw_io::Files;
 use hw_lex::nesting_of_bytes;
 use hw_names::Word;
 use net_core::{Net, NetEnd, Table, net_weight, net_words, valid};
@@ -39,21 +41,16 @@ pub(crate) struct Built {
 /// The netlist of this file, ready to run.
 pub(crate) fn load<F: Files>(alloc: Global, file: &str, files: &mut F) -> Result<Built, Stop>
     ensures files { KeepsFiles F.names F.content F.faults file.now files.old files.new }
-    ensures read { (words : List (List ℕ)) (r : Request) → Asks words r → file_of r ≡ file.now → IsSome (F.content files.old file.now)
+    ensures read { (words : List (List ℕ)) (r : Request) → AsksFor words r Language.Netlists file.now → IsSome (F.content files.old file.now)
         → IfOk result (λ b. ReadsNet words (F.content files.old) r (netlist_of b.net)) }
     ensures ready { IfOk result IsReady }
-    ensures unread { (words : List (List ℕ)) (r : Request) → Asks words r → file_of r ≡ file.now → IsSome (F.content files.old file.now)
+    ensures unread { (words : List (List ℕ)) (r : Request) → AsksFor words r Language.Netlists file.now → IsSome (F.content files.old file.now)
         → IfErr result (IsUnread words (F.content files.old)) }
     ensures read_fault { IsErrOf result Stop.ReadFault
         → IsReadFault (F.names files.old) file.now (F.faults files.old file.now) (F.faults files.new file.now) }
     ensures no_write_fault { IsErrOf result Stop.WriteFault → ⊥ }
 {
-    let text = match read_whole(alloc, files, file, MOST_NET_BYTES) {
-        Ok(text) => text,
-        Err(ReadEnd::Fault) => return Err(Stop::ReadFault),
-        Err(ReadEnd::TooLong) => return Err(Stop::Refused(Refusal::SourceTooLong)),
-        Err(ReadEnd::Memory) => return Err(Stop::Memory),
-    };
+    let text = read_source(alloc, Language::Netlists, file, files)?;
     build(alloc, &text)
 }
 
@@ -61,7 +58,7 @@ pub(crate) fn load<F: Files>(alloc: Global, file: &str, files: &mut F) -> Result
 fn build(alloc: Global, text: &[u8]) -> Result<Built, Stop>
     requires { length text.now ≤ MOST_NET_BYTES }
     ensures built { IfOk result (IsBuiltFrom text.now) }
-    ensures refused { IfErr result (IsUnbuilt text.now) }
+    ensures refused { IfErr result (IsUnbuilt Language.Netlists text.now) }
 {
     let net = read(alloc, text)?;
     let table = judge(alloc, &net)?;
@@ -74,11 +71,14 @@ fn build(alloc: Global, text: &[u8]) -> Result<Built, Stop>
 fn read(alloc: Global, text: &[u8]) -> Result<Net, Stop>
     requires { length text.now ≤ MOST_NET_BYTES }
     ensures read { IfOk result (IsNetOf text.now) }
-    ensures refused { IfErr result (IsUnbuilt text.now) }
+    ensures refused { IfErr result (IsUnbuilt Language.Netlists text.now) }
 {
     let depth = nesting_of_bytes(text) as u64;
     if depth > MOST_NET_NESTING {
-        return Err(Stop::Refused(Refusal::NestsTooDeep { depth }));
+        return Err(Stop::Refused(Refusal::NestsTooDeep {
+            language: Language::Netlists,
+            depth,
+        }));
     }
     match read_net(alloc, text) {
         Ok(net) => Ok(net),
@@ -110,7 +110,12 @@ fn broken(alloc: Global, net: &Net, rule: u8, item: u64) -> Stop
     ensures { IsUnfit (netlist_of net.now) result }
 {
     match Word::make(alloc, net.names.text(net.name)) {
-        Ok(name) => Stop::Refused(Refusal::BreaksRule { rule, name, item }),
+        Ok(name) => Stop::Refused(Refusal::BreaksRule {
+            language: Language::Netlists,
+            rule,
+            name,
+            item,
+        }),
         Err(Memory) => Stop::Memory,
     }
 }

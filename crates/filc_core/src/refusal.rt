@@ -7,32 +7,68 @@ ghost use Rattle.filc_core.specs.Lines.{as_line};
 ghost use Rattle.filc_core.specs.Stops.{answer_of, refusal_line};
 
 use crate::ended::Ended;
-use crate::limits::{MOST_CYCLES, MOST_NET_BYTES, MOST_NET_NESTING, MOST_WEIGHT, MOST_WORDS};
-use crate::line::{write_conflict, write_grammar, write_limit, write_loop, write_rule};
+use crate::language::Language;
+use crate::limits::{MOST_CYCLES, MOST_WEIGHT, MOST_WORDS};
+use crate::line::{
+    write_conflict, write_grammar, write_limit, write_loop, write_rule, write_token,
+};
+use fil_ast::MOST_OFFSET;
 use hw_io::{Failed, Sink};
 use hw_names::Word;
 
 /// Why what is asked for is refused, or its run ends early.
 #[derive(Debug, Drop)]
 pub(crate) enum Refusal {
-    /// The file has more bytes than its limit.
-    SourceTooLong,
-    /// Brackets and negations nest so deep, which is over the limit.
-    NestsTooDeep { depth: u64 },
+    /// The file has more bytes than the limit of its language.
+    SourceTooLong {
+        language: Language,
+    },
+    /// No token of the language starts at this byte.
+    HasNoTokens {
+        at: u64,
+    },
+    /// Brackets and negations nest so deep, which is over the limit of the language.
+    NestsTooDeep {
+        language: Language,
+        depth: u64,
+    },
     /// The text has not the grammar of its language; the place is a byte.
-    HasNoGrammar { at: u64 },
-    /// The netlist of this name breaks this one of N1 to N5 at this item, and none before.
-    BreaksRule { rule: u8, name: Word, item: u64 },
+    HasNoGrammar {
+        at: u64,
+    },
+    /// This is the first offset or delay that is over the limit.
+    HasLargeOffset {
+        offset: u128,
+    },
+    /// The netlist or component of this name breaks this rule of its language at this item, and none is broken before.
+    BreaksRule {
+        language: Language,
+        rule: u8,
+        name: Word,
+        item: u64,
+    },
     /// The netlist of this name has this loop of ports, which starts with the least port on one.
-    HasLoop { name: Word, ports: Vec<Word> },
+    HasLoop {
+        name: Word,
+        ports: Vec<Word>,
+    },
     /// The weight is over the limit.
-    IsTooHeavy { weight: u64 },
+    IsTooHeavy {
+        weight: u64,
+    },
     /// All memories together have more words than the limit.
-    HasTooManyWords { words: u64 },
+    HasTooManyWords {
+        words: u64,
+    },
     /// More cycles are asked for than the limit.
-    TooManyCycles { cycles: u64 },
+    TooManyCycles {
+        cycles: u64,
+    },
     /// Two assignments or more drive the port in this cycle.
-    Conflict { cycle: u64, port: Word },
+    Conflict {
+        cycle: u64,
+        port: Word,
+    },
 }
 
 impl Refusal {
@@ -41,8 +77,10 @@ impl Refusal {
         ensures { result ≡ answer_of self.now }
     {
         match self {
-            Refusal::HasNoGrammar { .. } | Refusal::BreaksRule { .. } | Refusal::HasLoop { .. } =>
-                Ended::Refused,
+            Refusal::HasNoTokens { .. }
+            | Refusal::HasNoGrammar { .. }
+            | Refusal::BreaksRule { .. }
+            | Refusal::HasLoop { .. } => Ended::Refused,
             Refusal::Conflict { .. } => Ended::Conflict,
             _ => Ended::Limit,
         }
@@ -56,21 +94,35 @@ impl Refusal {
         ensures never_falls { E.faults err.old ≤ E.faults err.new }
     {
         match self {
-            Refusal::SourceTooLong => {
-                write_limit(err, "source", MOST_NET_BYTES + 1, MOST_NET_BYTES)
+            Refusal::SourceTooLong { language } => {
+                let most = language.most_bytes() as u128;
+                write_limit(err, "source", most + 1, most)
             }
-            Refusal::NestsTooDeep { depth } => write_limit(
-                err,
-                "nesting",
-                *depth,
-                MOST_NET_NESTING,
-            ),
+            Refusal::HasNoTokens { at } => write_token(err, *at),
+            Refusal::NestsTooDeep { language, depth } => {
+                let most = language.most_nesting() as u128;
+                write_limit(err, "nesting", *depth as u128, most)
+            }
             Refusal::HasNoGrammar { at } => write_grammar(err, *at),
-            Refusal::BreaksRule { rule, name, item } => write_rule(err, *rule, name.bytes(), *item),
+            Refusal::HasLargeOffset { offset } => {
+                write_limit(err, "offset", *offset, MOST_OFFSET)
+            }
+            Refusal::BreaksRule {
+                language,
+                rule,
+                name,
+                item,
+            } => write_rule(err, *language, *rule, name.bytes(), *item),
             Refusal::HasLoop { name, ports } => write_loop(err, name.bytes(), ports),
-            Refusal::IsTooHeavy { weight } => write_limit(err, "weight", *weight, MOST_WEIGHT),
-            Refusal::HasTooManyWords { words } => write_limit(err, "words", *words, MOST_WORDS),
-            Refusal::TooManyCycles { cycles } => write_limit(err, "cycles", *cycles, MOST_CYCLES),
+            Refusal::IsTooHeavy { weight } => {
+                write_limit(err, "weight", *weight as u128, MOST_WEIGHT as u128)
+            }
+            Refusal::HasTooManyWords { words } => {
+                write_limit(err, "words", *words as u128, MOST_WORDS as u128)
+            }
+            Refusal::TooManyCycles { cycles } => {
+                write_limit(err, "cycles", *cycles as u128, MOST_CYCLES as u128)
+            }
             Refusal::Conflict { cycle, port } => write_conflict(err, *cycle, port.bytes()),
         }
     }

@@ -3,7 +3,7 @@ ghost use Rattle.std.specs.Prelude.{◌≡◌, ℕ, ◌<◌, ◌≤◌, [], ◌+
 ghost use Rattle.hw_io.specs.Faults.{Rose};
 ghost use Rattle.hw_io.specs.Writing.{AppendsPrefix, Passes};
 ghost use Rattle.filc_core.specs.Rows.{port_text, line_text};
-ghost use Rattle.filc_core.specs.Slots.{HasNumbers};
+ghost use Rattle.filc_core.specs.Slots.{NumbersPortsAsNames};
 ghost use Rattle.filc_core.specs.Stops.{joined};
 
 use hw_io::{Failed, Gather, Sink};
@@ -56,7 +56,7 @@ fn push_port<O: Sink>(
 /// The name of a port.
 pub(crate) fn name_of(table: &Table, port: usize) -> &[u8]
     requires named { port < length table.now.names }
-    requires numbers { HasNumbers table.now }
+    requires numbers { NumbersPortsAsNames table.now }
     ensures { slice_get table.now.names port ≡ Some result.now }
 {
     table.names.text(table.ports[port].name)
@@ -73,7 +73,7 @@ pub(crate) fn push_row<O: Sink>(
 ) -> Result<(), Failed>
     requires in_order { ports.now.start ≤ ports.now.end }
     requires named { ports.now.end ≤ length table.now.names }
-    requires numbers { HasNumbers table.now }
+    requires numbers { NumbersPortsAsNames table.now }
     requires evaluated { ports.now.end ≤ length sim.now.values }
     ensures passed { OnOk result (Passes (O.written out.old) held.old (O.written out.new) held.new
         (line_text cycle (slice_range table.now.names ports.now.start ports.now.end) (slice_range sim.now.values ports.now.start ports.now.end))) }

@@ -1,13 +1,16 @@
 //! What the words of the command line ask for.
 ghost use Rattle.std.specs.Prelude.{◌≡◌, map, IsTrue, ◌↔◌, MatchOption};
-ghost use Rattle.filc_core.specs.Request.{file_of, Asks, AskNothing, IsFileName, IsCount, IsNoCount, HasSignOrZero};
+ghost use Rattle.filc_core.specs.Language.{ending_of};
+ghost use Rattle.filc_core.specs.Request.{file_of, Asks, AskNothing, IsFileName, IsNoFileName, IsCount, IsNoCount, HasSignOrZero};
 ghost use Rattle.filc_core.specs.Words.{request_of};
+
+use crate::language::Language;
 
 /// A command with its arguments.
 #[derive(Clone, Copy, Debug, PartialEq, Eq)]
 pub(crate) enum Request<'a> {
-    /// Whether a netlist keeps the rules.
-    Check { file: &'a str },
+    /// Whether what a file has in this language keeps the rules.
+    Check { language: Language, file: &'a str },
     /// The rows of a netlist's outputs, for so many cycles.
     Rows { file: &'a str, cycles: u64 },
 }
@@ -18,7 +21,7 @@ impl<'a> Request<'a> {
         ensures { result.now ≡ file_of (request_of self.entry) }
     {
         match self {
-            Request::Check { file } | Request::Rows { file, .. } => file,
+            Request::Check { file, .. } | Request::Rows { file, .. } => file,
         }
     }
 }
@@ -29,12 +32,28 @@ pub(crate) fn asked<'a>(words: &[&'a str]) -> Option<Request<'a>>
         (λ request. Asks (map (λ w. w.now) words.now) (request_of request)) }
 {
     match words {
-        ["check", file] if is_file_name(file, ".net") => Some(Request::Check { file }),
-        ["rows", file, count] if is_file_name(file, ".net") => {
+        ["check", file] => {
+            let language = language_of(file)?;
+            Some(Request::Check { language, file })
+        }
+        ["rows", file, count] if is_file_name(file, Language::Netlists.ending()) => {
             let cycles = count_of(count)?;
             Some(Request::Rows { file, cycles })
         }
         _ => None,
+    }
+}
+
+/// The language whose files have names like this word.
+fn language_of(word: &str) -> Option<Language>
+    ensures { MatchOption result (IsNoFileName word.now) (λ language. IsFileName (ending_of language) word.now) }
+{
+    if is_file_name(word, Language::Netlists.ending()) {
+        Some(Language::Netlists)
+    } else if is_file_name(word, Language::Filament.ending()) {
+        Some(Language::Filament)
+    } else {
+        None
     }
 }
 

@@ -12,7 +12,7 @@ ghost use Rattle.net_core.specs.Table.{IsTableOf};
 ghost use Rattle.filc_core.specs.Built.{IsReady};
 ghost use Rattle.filc_core.specs.Report.{Leaves};
 ghost use Rattle.filc_core.specs.Request.{RowsOf, Asks};
-ghost use Rattle.filc_core.specs.Slots.{HasNumbers};
+ghost use Rattle.filc_core.specs.Slots.{NumbersPortsAsNames};
 ghost use Rattle.filc_core.specs.Verdict.{AsksForRun};
 
 use crate::limits::MOST_CYCLES;
@@ -109,7 +109,7 @@ fn zeros(alloc: Global, ports: &[PortInfo]) -> Result<Vec<Bits>, Memory>
 /// A Conflict in this row at the port with this number.
 fn conflict(alloc: Global, table: &Table, cycle: u64, port: usize) -> Stop
     requires named { port < length table.now.names }
-    requires numbers { HasNumbers table.now }
+    requires numbers { NumbersPortsAsNames table.now }
     ensures { (result ≡ Stop.Memory)
         ⊎ ((name : Text) × (slice_get table.now.names port ≡ Some name) × (result ≡ Stop.Refused (Refusal.Conflict cycle name))) }
 {

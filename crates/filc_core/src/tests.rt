@@ -35,7 +35,7 @@ struct Case {
     line: &'static str,
 }
 
-const CASES: [Case; 15] = [
+const CASES: [Case; 16] = [
     Case {
         words: &["check", "counter.net"],
         ended: Ended::Done,
@@ -47,6 +47,12 @@ const CASES: [Case; 15] = [
         ended: Ended::Refused,
         report: "",
         line: "refused grammar at byte 8\n",
+    },
+    Case {
+        words: &["check", "bad.fil"],
+        ended: Ended::Refused,
+        report: "",
+        line: "refused token at byte 5\n",
     },
     Case {
         words: &["check", "counter.net", "5"],
@@ -143,6 +149,7 @@ fn files(alloc: Global, fails: &[u64]) -> Result<MemFiles, AllocError> {
     held.push(file(alloc, "counter.net", COUNTER)?)?;
     held.push(file(alloc, "clash.net", CLASH)?)?;
     held.push(file(alloc, "bad.net", "net bad\n")?)?;
+    held.push(file(alloc, "bad.fil", "comp #")?)?;
     Ok(MemFiles {
         held,
         fails: fails.to_vec(alloc)?,

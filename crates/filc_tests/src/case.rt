@@ -10,7 +10,7 @@ pub(crate) const CHECK: &[&str] = &["check", "f.net"];
 
 pub(crate) const ROWS: &[&str] = &["rows", "f.net", "3"];
 
-/// Words, the text of the file `f.net`, and what the program answers, reports and says.
+/// Words, the text of the files, and what the program answers, reports and says.
 #[derive(Clone, Copy)]
 pub(crate) struct Case {
     pub(crate) name: &'static str,
@@ -29,14 +29,16 @@ pub(crate) struct Said {
     pub(crate) line: String,
 }
 
-/// The files, one of this text, of which these calls fail.
+/// The files, a netlist's and a Filament design's, both of this text, of which these calls fail.
 pub(crate) fn files(alloc: Global, text: &str, fails: &[u64]) -> Result<MemFiles, AllocError> {
     let mut held = Vec::new(alloc);
-    held.push(MemFile {
-        name: "f.net".as_bytes().to_vec(alloc)?,
-        bytes: text.as_bytes().to_vec(alloc)?,
-        faults: 0,
-    })?;
+    for name in ["f.net", "f.fil"] {
+        held.push(MemFile {
+            name: name.as_bytes().to_vec(alloc)?,
+            bytes: text.as_bytes().to_vec(alloc)?,
+            faults: 0,
+        })?;
+    }
     Ok(MemFiles {
         held,
         fails: fails.to_vec(alloc)?,

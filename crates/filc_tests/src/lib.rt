@@ -8,6 +8,8 @@ mod counter;
 #[cfg(test)]
 mod faults;
 #[cfg(test)]
+mod filament;
+#[cfg(test)]
 mod grammar;
 #[cfg(test)]
 mod guards;

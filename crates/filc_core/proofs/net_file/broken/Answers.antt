@@ -1,8 +1,9 @@
 use Rattle.std.proofs.Common.{refl, sym, ap, ◌∙◌}
 use Rattle.hw_names.proofs.NameLemmas.{text_of-slice_get}
 use Rattle.net_core.specs.Netlist.{netlist_of}
-use Rattle.filc_core.specs.Lines.{net_rule, rule_line}
+use Rattle.filc_core.specs.Lines.{rule_name, rule_line}
 use Rattle.filc_core.specs.NetFile.{BreaksRule}
+use Rattle.filc_core.specs.declared.language.Language.TheVariants.{Netlists}
 use Rattle.filc_core.proofs.net_file.broken.Goals as goal
 
 pub returns-in-Ok : goal.returns-in-Ok
@@ -10,4 +11,4 @@ returns-in-Ok c text of =
     let net = c.args.net.now in
     let named = text_of-slice_get net.names net.name c.text.result.now c.text.ensures in
     BreaksRule (netlist_of net) c.args.rule c.args.item of c.requires.first refl
-    (ap (λ name. rule_line (net_rule c.args.rule) name c.args.item) (c.in-Ok.ensures ∙ sym named))
+    (ap (λ name. rule_line (rule_name Netlists c.args.rule) name c.args.item) (c.in-Ok.ensures ∙ sym named))

@@ -1,0 +1,111 @@
+//! The Filament design of a file.
+ghost use Rattle.std.specs.Prelude.{List, ℕ, IfOk, IfErr, OnOk, IsErrOf, IsSome};
+ghost use Rattle.hw_io.specs.Reading.{KeepsFiles, IsReadFault};
+ghost use Rattle.fil_ast.specs.Limits.{HasSmallOffsets};
+ghost use Rattle.fil_ast.specs.Numbers.{HasNumbers, IsNumberOf};
+ghost use Rattle.fil_ast.specs.Rules.{KeepsRules, first_five};
+ghost use Rattle.fil_ast.specs.Tree.{design_of};
+ghost use Rattle.fil_check.specs.First.{IsRefusal};
+ghost use Rattle.fil_parse.specs.Spelling.{EndsBy};
+ghost use Rattle.fil_parse.specs.Written.{DesignIsWritten};
+ghost use Rattle.filc_core.specs.Built.{AsksFor, IsDesignOf, IsUnbuilt, IsUnfitDesign, IsUnread};
+ghost use Rattle.filc_core.specs.FilFile.{GivesFil};
+ghost use Rattle.filc_core.specs.Request.{Request};
+ghost use Rattle.filc_core.specs.Verdict.{ReadsFil};
+
+use crate::language::Language;
+use crate::refusal::Refusal;
+use crate::source::read_source;
+use crate::stop::Stop;
+use fil_ast::FilDesign;
+use fil_check::{FilEnd, check_fil};
+use fil_parse::{FilTextEnd, parse_fil};
+use hw_bits::Memory;
+use hw_io::Files;
+use hw_names::{NameId, Word};
+use std::alloc::Global;
+
+/// The design of this file, which keeps the rules that are judged so far.
+pub(crate) fn load<F: Files>(alloc: Global, file: &str, files: &mut F) -> Result<FilDesign, Stop>
+    ensures files { KeepsFiles F.names F.content F.faults file.now files.old files.new }
+    ensures read { (words : List (List ℕ)) (r : Request) → AsksFor words r Language.Filament file.now → IsSome (F.content files.old file.now)
+        → IfOk result (λ d. ReadsFil words (F.content files.old) r (design_of d)) }
+    ensures unread { (words : List (List ℕ)) (r : Request) → AsksFor words r Language.Filament file.now → IsSome (F.content files.old file.now)
+        → IfErr result (IsUnread words (F.content files.old)) }
+    ensures read_fault { IsErrOf result Stop.ReadFault
+        → IsReadFault (F.names files.old) file.now (F.faults files.old file.now) (F.faults files.new file.now) }
+    ensures no_write_fault { IsErrOf result Stop.WriteFault → ⊥ }
+{
+    let text = read_source(alloc, Language::Filament, file, files)?;
+    build(alloc, &text)
+}
+
+/// The design that a text gives.
+fn build(alloc: Global, text: &[u8]) -> Result<FilDesign, Stop>
+    ensures built { IfOk result (λ d. GivesFil text.now (design_of d)) }
+    ensures refused { IfErr result (IsUnbuilt Language.Filament text.now) }
+{
+    let design = read(alloc, text)?;
+    judge(alloc, &design)?;
+    Ok(design)
+}
+
+/// The design that a text spells, within the limits.
+fn read(alloc: Global, text: &[u8]) -> Result<FilDesign, Stop>
+    ensures read { IfOk result (IsDesignOf text.now) }
+    ensures written { IfOk result (λ d. DesignIsWritten (design_of d)) }
+    ensures refused { IfErr result (IsUnbuilt Language.Filament text.now) }
+{
+    match parse_fil(alloc, text) {
+        Ok(design) => Ok(design),
+        Err(end) => Err(stop_of(end)),
+    }
+}
+
+/// Why a text of which reading ends so gives no design.
+fn stop_of(end: FilTextEnd) -> Stop
+    ensures { (text : List ℕ) → EndsBy text end → IsUnbuilt Language.Filament text result }
+{
+    match end {
+        FilTextEnd::Token { at } => Stop::Refused(Refusal::HasNoTokens { at: at as u64 }),
+        FilTextEnd::Nesting { count } => Stop::Refused(Refusal::NestsTooDeep {
+            language: Language::Filament,
+            depth: count as u64,
+        }),
+        FilTextEnd::Grammar { at } => Stop::Refused(Refusal::HasNoGrammar { at: at as u64 }),
+        FilTextEnd::Offset { count } => Stop::Refused(Refusal::HasLargeOffset { offset: count }),
+        FilTextEnd::Memory => Stop::Memory,
+    }
+}
+
+/// Judges a design by the rules.
+fn judge(alloc: Global, design: &FilDesign) -> Result<(), Stop>
+    requires numbers { HasNumbers design.now }
+    requires small { HasSmallOffsets design.now }
+    requires written { DesignIsWritten (design_of design.now) }
+    ensures kept { OnOk result (KeepsRules first_five (design_of design.now)) }
+    ensures refused { IfErr result (IsUnfitDesign design.now) }
+{
+    match check_fil(alloc, design) {
+        Ok(()) => Ok(()),
+        Err(FilEnd::Refused { rule, comp, item }) => Err(broken(alloc, design, rule, comp, item)),
+        Err(FilEnd::Memory) => Err(Stop::Memory),
+    }
+}
+
+/// The refusal of a design that breaks this rule first, at this item of this component.
+fn broken(alloc: Global, design: &FilDesign, rule: u8, comp: NameId, item: u64) -> Stop
+    requires numbered { IsNumberOf design.now.names comp }
+    requires first { IsRefusal design.now rule comp item }
+    ensures { IsUnfitDesign design.now result }
+{
+    match Word::make(alloc, design.names.text(comp)) {
+        Ok(name) => Stop::Refused(Refusal::BreaksRule {
+            language: Language::Filament,
+            rule,
+            name,
+            item,
+        }),
+        Err(Memory) => Stop::Memory,
+    }
+}
