@@ -1,0 +1,4 @@
+pub mod ListLemmas
+pub mod SharingLemmas
+pub mod LawLemmas
+pub mod MeetLemmas
