@@ -176,6 +176,23 @@ check() {
     awk "BEGIN { printf \"ratio: %.2f\\n\", $whole / $half }"
 }
 
+# The netlist $1 with a name so long that its text has $2 bytes.
+padded() {
+    awk -v more="$(($2 - $(wc -c <"$1")))" '
+        NR == 1 { while (length(pad) < more) pad = pad "x"; $0 = $0 pad }
+        { print }' "$1"
+}
+
+# The largest source is read, and one byte more is refused.
+largest() {
+    text 149000 >"$work/text.net" || exit
+    for bytes in 16777216 16777217; do
+        padded "$work/text.net" "$bytes" >"$work/padded.net" || exit
+        echo "check of $(wc -c <"$work/padded.net") bytes: $("$program" check "$work/padded.net" 2>&1)"
+    done
+}
+
+largest
 check text 149000
 check groups 3333 0
 check chain 100000 0

@@ -1,0 +1,65 @@
+#!/bin/sh
+# The times of `check` over large Filament designs, which this script makes, the best of five each: at full size and
+# at half of it, with their ratio. Each is to take under 2 s, and twice the size at most 2.3 times as long.
+top=$(cd "$(dirname "$0")/.." && pwd) || exit
+"$top/filc" check "$top/examples/mac.fil" || exit
+program=$top/crates/filc/out/filc
+work=$(mktemp -d) || exit
+trap 'rm -rf "$work"' EXIT
+
+# $1 components of ten statements, each of which uses the one before.
+components() {
+    awk -v comps="$1" '
+        function signature(i) {
+            return "comp Stage" i "<G: 1>(@interface[G] go: 1, @[G, G+1] a: 8, @[G, G+1] b: 8, @[G, G+1] c: 8) -> (@[G+2, G+3] out: 8) {"
+        }
+        BEGIN {
+            for (i = 0; i < comps; i++) {
+                print signature(i)
+                print "  M := new FastMult[8];\n  D1 := new Delay[8];\n  D2 := new Delay[8];\n  A := new Add[8];"
+                print "  product := M<G>(a, b);\n  c1 := D1<G>(c);\n  c2 := D2<G+1>(c1.out);\n  sum := A<G+2>(product.out, c2.out);"
+                if (i) print "  before := new Stage" i - 1 "<G+2>(sum.out, c2.out, 8\047d3);"
+                print "  out = sum.out;\n}"
+            }
+        }'
+}
+
+# One component of $1 statements: instances with invocations, each of which reads the two before.
+statements() {
+    awk -v count="$1" '
+        BEGIN {
+            print "comp Long<G: 1>(@interface[G] go: 1, @[G, G+1] v0: 16, @[G, G+1] v1: 16) -> (@[G, G+1] out: 16) {"
+            one = "v0"; two = "v1"
+            for (i = 2; i < count + 1; i++) {
+                print "  v" i " := new Add[16]<G>(" one ", " two ");"
+                one = two; two = "v" i ".out"
+            }
+            print "  out = " two ";\n}"
+        }'
+}
+
+# milliseconds that the program takes for the words, the best of five
+best() {
+    least=
+    for turn in 1 2 3 4 5; do
+        begin=$(date +%s%N)
+        "$program" "$@" >/dev/null || exit
+        took=$((($(date +%s%N) - begin) / 1000000))
+        if [ -z "$least" ] || [ "$took" -lt "$least" ]; then least=$took; fi
+    done
+    echo "$least"
+}
+
+# Prints the times of `check` of the shape $1 at half of the size $2 and at all of it.
+check() {
+    "$1" $(($2 / 2)) >"$work/half.fil" || exit
+    "$1" "$2" >"$work/whole.fil" || exit
+    half=$(best check "$work/half.fil") || exit
+    whole=$(best check "$work/whole.fil") || exit
+    bytes=$(wc -c <"$work/whole.fil")
+    echo "check $1 $2: half $half ms, whole $whole ms, $bytes bytes"
+    awk "BEGIN { printf \"ratio: %.2f\\n\", $whole / $half }"
+}
+
+check components 2700
+check statements 20000
