@@ -6,6 +6,7 @@ top=$(cd "$(dirname "$0")/.." && pwd) || exit
 program=$top/crates/filc/out/filc
 work=$(mktemp -d) || exit
 trap 'rm -rf "$work"' EXIT
+. "$top/bench/best.sh"
 
 # $1 components of ten statements, each of which uses the one before.
 components() {
@@ -36,18 +37,6 @@ statements() {
             }
             print "  out = " two ";\n}"
         }'
-}
-
-# milliseconds that the program takes for the words, the best of five
-best() {
-    least=
-    for turn in 1 2 3 4 5; do
-        begin=$(date +%s%N)
-        "$program" "$@" >/dev/null || exit
-        took=$((($(date +%s%N) - begin) / 1000000))
-        if [ -z "$least" ] || [ "$took" -lt "$least" ]; then least=$took; fi
-    done
-    echo "$least"
 }
 
 # Prints the times of `check` of the shape $1 at half of the size $2 and at all of it.
