@@ -1,0 +1,10 @@
+pub mod EachLemmas
+pub mod AmountLemmas
+pub mod GivenLemmas
+pub mod WalkLemmas
+pub mod FaultLemmas
+pub mod FitLemmas
+pub mod MeaningLemmas
+pub mod PlaceLemmas
+pub mod SeenLemmas
+pub mod TextLemmas

@@ -1,0 +1,7 @@
+use Rattle.std.proofs.Common.{◌≡◌, drop}
+use Rattle.std.specs.List.{list_all}
+use Rattle.stim_read.specs.CycleRules.{has_known_name}
+use Rattle.stim_read.proofs.cycle_inputs.are_known.Given as goal
+
+abbrev pub invariant-loop-g : goal.invariant-loop-g
+invariant-loop-g l = list_all (has_known_name l.names) (drop l.g-index l.given) ≡ list_all (has_known_name l.names) l.given
