@@ -12,7 +12,7 @@ use Rattle.net_core.specs.Netlist.{Netlist, SetLine}
 use Rattle.net_core.specs.Rules.{PortLine, ports_of, IsValid, each_read, each_reads, each_in_guard, each_source, source_exists, port_named}
 use Rattle.net_core.specs.declared.net.Src.{Src}
 use Rattle.net_core.specs.declared.net.Src.TheVariants.{Port, Lit}
-use Rattle.net_sim.proofs.MemberLemmas.{In, in_left, in_right, in_append}
+use Rattle.hw_graph.proofs.MemberLemmas.{In, in_left, in_right, in_append}
 use Rattle.net_sim.proofs.ValidLemmas.{named_contains, set_keeps}
 use Rattle.net_sim.specs.Layout.{port_names}
 

@@ -21,12 +21,12 @@ use Rattle.net_core.specs.Netlist.{Netlist}
 use Rattle.net_core.specs.Rules.{ports_of}
 use Rattle.net_sim.proofs.CoverLemmas.{cover}
 use Rattle.net_sim.proofs.GiverLemmas.{at_some}
-use Rattle.net_sim.proofs.NameOrderLemmas.{at_most_itself, at_most_trans}
+use Rattle.hw_graph.proofs.NameOrderLemmas.{at_most_itself, at_most_trans}
 use Rattle.net_sim.proofs.PlaceLemmas.{in_place, writable_place, output_place, named_at}
 use Rattle.net_sim.proofs.PortLemmas.{port_with}
 use Rattle.net_sim.proofs.RowLemmas.{Once, once_from_distinct, row_at, row_set, AgreeBut, drivers_kept, value_kept}
 use Rattle.net_sim.proofs.SettleLemmas.{driven_writable}
-use Rattle.net_sim.specs.ByName.{IsAtMost, IsLesser}
+use Rattle.hw_graph.specs.ByName.{IsAtMost, IsLesser}
 use Rattle.net_sim.specs.Evaluated.{IsValueOf, Clashes, IsLeastConflict}
 use Rattle.net_sim.specs.Layout.{port_names, name_of}
 use Rattle.net_sim.specs.Order.{IsNamed}

@@ -15,7 +15,7 @@ use Rattle.net_core.specs.Rules.{IsValid}
 use Rattle.net_core.specs.declared.net.Guard.{Guard}
 use Rattle.net_core.specs.declared.net.Guard.TheVariants as variants
 use Rattle.net_sim.proofs.AgreeLemmas.{set_reads}
-use Rattle.net_sim.proofs.MemberLemmas.{In, in_of, contains_of, in_left, in_right}
+use Rattle.hw_graph.proofs.MemberLemmas.{In, in_of, contains_of, in_left, in_right}
 use Rattle.net_sim.specs.Layout.{port_names}
 use Rattle.net_sim.specs.Wires.{Reading, reading}
 

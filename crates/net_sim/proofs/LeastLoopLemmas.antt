@@ -10,12 +10,12 @@ use Rattle.net_core.specs.Netlist.{Netlist}
 use Rattle.net_core.specs.Rules.{IsValid}
 use Rattle.net_sim.proofs.NoLoopLemmas.{read_number}
 use Rattle.net_sim.proofs.OrderLemmas.{graph_has, named_is, named_within, same_port, loop_is}
-use Rattle.net_sim.specs.Groups.{IsGathered}
+use Rattle.hw_graph.specs.Groups.{IsGathered}
 use Rattle.net_sim.specs.Layout.{port_names, name_of}
 use Rattle.net_sim.specs.Order.{IsNamed, IsLeastLoopOf}
-use Rattle.net_sim.specs.Reads.{HasRead, Reaches, Directly, Through, IsLeastCycle}
+use Rattle.hw_graph.specs.Graph.{HasRead, Reaches, Directly, Through, IsLeastCycle}
 use Rattle.net_sim.specs.Wires.{net_readings, AreEntriesOf}
-use Rattle.net_sim.specs.declared.groups.Entry.{Entry}
+use Rattle.hw_graph.specs.declared.groups.Entry.{Entry}
 
 module _ (n : Netlist) (valid : IsValid n) (entries : List Entry) (reads : List (List ℕ)) (distinct : AreDistinct (port_names n)) (are : AreEntriesOf (port_names n) (net_readings n) entries) (gathered : IsGathered entries (length (port_names n)) reads) where
   has_name : (port : ℕ) (name : Text) → IsNamed n port name → name_of n port ≡ name

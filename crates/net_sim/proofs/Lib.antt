@@ -1,13 +1,9 @@
-pub mod CutLemmas
-pub mod GroupLemmas
 pub mod LayoutLemmas
 pub mod ValidLemmas
 pub mod GrowthLemmas
 pub mod CellLemmas
-pub mod MemberLemmas
 pub mod RowLemmas
 pub mod CellInputLemmas
-pub mod NameOrderLemmas
 pub mod SourceLemmas
 pub mod GiverLemmas
 pub mod PlaceLemmas
@@ -28,13 +24,7 @@ pub mod ConflictLemmas
 pub mod PlanLemmas
 pub mod SimLemmas
 pub mod LoopLemmas
-pub mod SearchLemmas
-pub mod WalkLemmas
-pub mod ByNameLemmas
-pub mod ComponentLemmas
-pub mod CycleLemmas
 pub mod WireLemmas
-pub mod PigeonholeLemmas
 pub mod OrderLemmas
 pub mod AgreeLemmas
 pub mod GuardReadLemmas

@@ -8,7 +8,7 @@ use Rattle.net_core.specs.Rules.{IsValid}
 use Rattle.net_sim.proofs.OneRunLemmas.{number_of, input_number}
 use Rattle.net_sim.proofs.CoverLemmas.{cover}
 use Rattle.net_sim.proofs.AgreeLemmas.{set_reads}
-use Rattle.net_sim.proofs.MemberLemmas.{in_of}
+use Rattle.hw_graph.proofs.MemberLemmas.{in_of}
 use Rattle.net_sim.specs.OneRun.{OrderRulesLoopsOut}
 use Rattle.net_sim.specs.Order.{IsNamed, IsOrderOf}
 use Rattle.std.proofs.lemmas.Option.{slice_get_within}

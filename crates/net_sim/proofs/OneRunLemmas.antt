@@ -20,7 +20,7 @@ use Rattle.net_sim.proofs.AgreeLemmas.{AgreeAt, drivers_agree, set_reads}
 use Rattle.net_sim.proofs.CoverLemmas.{cover}
 use Rattle.net_sim.proofs.GiverLemmas.{at_some}
 use Rattle.net_sim.proofs.LayoutLemmas.{ports_of-parts, ports_of_prim, input_at}
-use Rattle.net_sim.proofs.MemberLemmas.{In, in_at, at_of, in_of, contains_of, in_append, in_map, from_map, from_flat_map}
+use Rattle.hw_graph.proofs.MemberLemmas.{In, in_at, at_of, in_of, contains_of, in_append, in_map, from_map, from_flat_map}
 use Rattle.net_sim.proofs.PlaceLemmas.{named_at, pin_at}
 use Rattle.net_sim.proofs.ValidLemmas.{cell_has_prim}
 use Rattle.net_sim.specs.Layout.{port_names, ports_of_cell, first_port}

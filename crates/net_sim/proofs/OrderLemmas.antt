@@ -16,18 +16,18 @@ use Rattle.hw_prims.specs.declared.prim.Primitive.{Primitive}
 use Rattle.net_core.specs.Graph.{ReadsPort, ByAssignment, ByCell, ReadsAlong, IsLoop, set_ports}
 use Rattle.net_core.specs.Netlist.{Netlist, CellLine, SetLine}
 use Rattle.net_core.specs.Rules.{PortLine, ports_of}
-use Rattle.net_sim.proofs.MemberLemmas.{In, in_at, at_of, in_of, contains_of, in_left, in_right, in_append, in_map, from_map, in_flat_map, from_flat_map, in_filter, from_filter}
-use Rattle.net_sim.proofs.PigeonholeLemmas.{at_most, at_least}
-use Rattle.net_sim.proofs.SearchLemmas.{contained_at}
+use Rattle.hw_graph.proofs.MemberLemmas.{In, in_at, at_of, in_of, contains_of, in_left, in_right, in_append, in_map, from_map, in_flat_map, from_flat_map, in_filter, from_filter}
+use Rattle.hw_graph.proofs.PigeonholeLemmas.{at_most, at_least}
+use Rattle.hw_graph.proofs.SearchLemmas.{contained_at}
 use Rattle.net_sim.proofs.WireLemmas.{cell_readings-prim}
 use Rattle.net_sim.specs.Destinations.{AreDestinations}
-use Rattle.net_sim.specs.Groups.{IsGathered, with_key, has_key}
+use Rattle.hw_graph.specs.Groups.{IsGathered, with_key, has_key}
 use Rattle.net_sim.specs.Layout.{port_names, name_of}
 use Rattle.net_sim.specs.Order.{IsNamed, IsOrderOf}
 use Rattle.net_sim.specs.PortOrder.{numbers_of}
-use Rattle.net_sim.specs.Reads.{HasRead, AreInRange, IsReadOrder, IsCycle}
+use Rattle.hw_graph.specs.Graph.{HasRead, AreInRange, IsReadOrder, IsCycle}
 use Rattle.net_sim.specs.Wires.{Reading, reading, set_readings, input_readings, output_readings, prim_readings, cell_readings, some_readings, net_readings, named_entry, AreEntriesOf}
-use Rattle.net_sim.specs.declared.groups.Entry.{Entry}
+use Rattle.hw_graph.specs.declared.groups.Entry.{Entry}
 
 -- ---- the pairs of a netlist are its reads
 

@@ -15,7 +15,7 @@ use Rattle.net_core.specs.Netlist.{Netlist, CellLine, SetLine, Line, InLine, Out
 use Rattle.net_core.specs.Rules.{PortLine, ports_of, own_port, cell_input, cell_output, port_named, has_name, port_width, width_or_none, source_width, is_writable, has_good_widths, has_known_names, has_good_sides, has_good_parameters, each_source, literal_fits, source_is_readable, option_widths_agree, KeepsRules, IsValid, cell_names_at, is_among, has_new_names, ports_at, are_new, port_names as names_in}
 use Rattle.net_sim.proofs.GiverLemmas.{at_some}
 use Rattle.net_sim.proofs.LayoutLemmas.{ports_of-parts, ports_of_prim, input_at, output_at, first_port-more, first_port-le, length-ports_of_cell}
-use Rattle.net_sim.proofs.MemberLemmas.{In, in_at, at_of, contains_of, in_append, in_map, from_map, in_flat_map, from_flat_map}
+use Rattle.hw_graph.proofs.MemberLemmas.{In, in_at, at_of, contains_of, in_append, in_map, from_map, in_flat_map, from_flat_map}
 use Rattle.net_sim.proofs.PlaceLemmas.{named_at}
 use Rattle.net_sim.proofs.RowLemmas.{Once}
 use Rattle.net_sim.proofs.ValidLemmas.{found, set_keeps, cell_line, cell_has_prim}

@@ -15,7 +15,7 @@ use Rattle.net_core.specs.Graph.{ReadsPort, ByAssignment, ByCell, set_ports}
 use Rattle.net_core.specs.NetRun.{values_for}
 use Rattle.net_core.specs.Netlist.{Netlist}
 use Rattle.net_sim.proofs.AgreeLemmas.{drivers_agree}
-use Rattle.net_sim.proofs.MemberLemmas.{In, contains_of}
+use Rattle.hw_graph.proofs.MemberLemmas.{In, contains_of}
 use Rattle.net_sim.specs.Evaluated.{IsValueOf}
 use Rattle.net_sim.specs.Sim.{state_along}
 use Rattle.net_sim.specs.Slots.{row_of}

@@ -17,7 +17,7 @@ use Rattle.net_core.specs.Netlist.{Netlist}
 use Rattle.net_core.specs.Rules.{PortLine, ports_of, IsValid}
 use Rattle.net_core.specs.declared.table.PortInfo.{PortInfo}
 use Rattle.net_sim.proofs.GiverLemmas.{at_some}
-use Rattle.net_sim.proofs.MemberLemmas.{in_at}
+use Rattle.hw_graph.proofs.MemberLemmas.{in_at}
 use Rattle.net_sim.proofs.PlaceLemmas.{listed_cell}
 use Rattle.net_sim.proofs.PortLemmas.{input_widths}
 use Rattle.net_sim.proofs.PortValueLemmas.{inputs_of_cell, state_of_cell}

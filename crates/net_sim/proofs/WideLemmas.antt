@@ -10,7 +10,7 @@ use Rattle.net_core.specs.Netlist.{Netlist, CellLine, Line, InLine, OutLine, Wir
 use Rattle.net_core.specs.Rules.{PortLine, ports_of, own_port, cell_input, cell_output, has_new_names, has_known_names, has_good_widths, has_good_sides, has_good_parameters, ports_at, cell_names_at, IsValid}
 use Rattle.net_sim.proofs.GiverLemmas.{at_some}
 use Rattle.net_sim.proofs.LayoutLemmas.{ports_of-parts, ports_of_prim}
-use Rattle.net_sim.proofs.MemberLemmas.{In, at_of, contains_of, in_append, in_left, in_right, from_map, from_flat_map}
+use Rattle.hw_graph.proofs.MemberLemmas.{In, at_of, contains_of, in_append, in_left, in_right, from_map, from_flat_map}
 use Rattle.net_sim.specs.Layout.{ports_of_cell, AreCellPorts, IsCellPorts}
 use Rattle.net_sim.specs.declared.cells.CellPorts.{CellPorts}
 use Rattle.std.proofs.Common.{take}

@@ -2,7 +2,7 @@
 use Rattle.std.specs.Prelude.{◌≡◌, ℕ, ◌+◌, ◌<◌, List, [], ◌∷◌, length, slice_index_or}
 use Rattle.hw_names.specs.Name.{Text}
 use Rattle.net_core.specs.Netlist.{SetLine}
-use Rattle.net_sim.specs.declared.groups.Entry.{Entry}
+use Rattle.hw_graph.specs.declared.groups.Entry.{Entry}
 
 -- an entry for each assignment: its destination and its number, the first of which is k
 abbrev pub AreDestinations : List Text → ℕ → List Entry → List SetLine → Type 0

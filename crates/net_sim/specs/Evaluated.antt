@@ -12,7 +12,7 @@ use Rattle.net_core.specs.Circuit.{settled}
 use Rattle.net_core.specs.NetRun.{HasPin, IsWritable, IsNetCell, values_for}
 use Rattle.net_core.specs.Netlist.{Netlist, SetLine}
 use Rattle.net_core.specs.Rules.{ports_of, source_width}
-use Rattle.net_sim.specs.ByName.{IsLeastWith}
+use Rattle.hw_graph.specs.ByName.{IsLeastWith}
 use Rattle.net_sim.specs.declared.cells.CellPorts.{CellPorts}
 use Rattle.net_sim.specs.Layout.{name_of}
 use Rattle.net_sim.specs.declared.plan.Source.{Source}

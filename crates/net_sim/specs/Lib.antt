@@ -1,7 +1,3 @@
-pub mod Cuts
-pub mod Groups
-pub mod ByName
-pub mod Reads
 pub mod Layout
 pub mod NoGuards
 pub mod Wires
@@ -21,10 +17,5 @@ pub mod Shown
 pub mod Sim
 pub mod Kept
 pub mod Standing
-pub mod Loop
-pub mod Unread
-pub mod Search
-pub mod Walk
-pub mod Components
 pub mod Destinations
 pub mod OneRun

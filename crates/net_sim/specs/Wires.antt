@@ -7,7 +7,7 @@ use Rattle.hw_prims.specs.Table.{prim_of, inputs_of, outputs_of, pin_names, name
 use Rattle.hw_prims.specs.declared.prim.Primitive.{Primitive}
 use Rattle.net_core.specs.Graph.{set_ports}
 use Rattle.net_core.specs.Netlist.{Netlist, CellLine, SetLine}
-use Rattle.net_sim.specs.declared.groups.Entry.{Entry}
+use Rattle.hw_graph.specs.declared.groups.Entry.{Entry}
 
 -- a port, and another that it reads
 pub record Reading : Type 0 where

@@ -10,11 +10,11 @@ ghost use Rattle.net_sim.specs.Plan.{IsPlan, ArePrims};
 ghost use Rattle.net_sim.specs.Settled.{FitsWidth, IsClash, settled_value};
 ghost use Rattle.net_sim.specs.Sim.{IsEvaluated, port_row, input_row, states_of};
 
-use crate::by_name::lesser_of;
 use crate::cells::CellPorts;
 use crate::plan::{Giver, Plan};
 use crate::settle::{Settled, settle};
 use hw_bits::Bits;
+use hw_graph::lesser_of;
 use hw_names::Names;
 use hw_prims::{Cell, CellState};
 

@@ -6,16 +6,14 @@ ghost use Rattle.net_core.specs.Rules.{IsValid};
 ghost use Rattle.net_core.specs.Table.{IsTableOf};
 ghost use Rattle.net_sim.specs.Destinations.{AreDestinations};
 ghost use Rattle.net_sim.specs.Layout.{port_names};
-ghost use Rattle.net_sim.specs.Loop.{IfLoop};
+ghost use Rattle.hw_graph.specs.Loop.{IfLoop};
 ghost use Rattle.net_sim.specs.Order.{IsLeastLoopOf};
 ghost use Rattle.net_sim.specs.PortOrder.{IsPortOrderOf};
 
 use crate::cells::cell_ports;
-use crate::groups::{Entry, Groups, gather};
-use crate::least_loop::order_or_least_loop;
-use crate::order_end::OrderEnd;
 use crate::wires::{find_port, net_reads};
 use hw_bits::Memory;
+use hw_graph::{Entry, Groups, OrderEnd, gather, order_or_least_loop};
 use net_core::{Net, Table};
 use std::alloc::Global;
 use std::marker::Model;

@@ -13,8 +13,8 @@ ghost use Rattle.net_sim.specs.Layout.{port_names, AreCellPorts};
 ghost use Rattle.net_sim.specs.Wires.{reading, set_readings, cell_readings, output_readings, prim_readings, net_readings, AreEntriesOf, AddReadings, HasCellAt};
 
 use crate::cells::CellPorts;
-use crate::groups::Entry;
 use hw_bits::Memory;
+use hw_graph::Entry;
 use hw_names::{NameId, Names};
 use net_core::{Guard, Net, Src, Table};
 use std::alloc::Global;

@@ -8,7 +8,7 @@ use Rattle.net_sim.proofs.ValidLemmas.{dst_exists}
 use Rattle.net_sim.proofs.OrderLemmas.{destinations_more}
 use Rattle.net_sim.specs.Destinations.{AreDestinations}
 use Rattle.net_sim.specs.Layout.{port_names}
-use Rattle.net_sim.specs.declared.groups.Entry.{Entry}
+use Rattle.hw_graph.specs.declared.groups.Entry.{Entry}
 use Rattle.net_sim.proofs.port_order.destinations.Goals as goal
 
 pub find_port-key-requires-clause-there : goal.find_port-key-requires-clause-there

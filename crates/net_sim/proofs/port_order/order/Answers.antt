@@ -7,14 +7,14 @@ use Rattle.net_core.specs.Netlist.{netlist_of}
 use Rattle.net_core.specs.Rules.{PortLine, ports_of}
 use Rattle.net_sim.proofs.OrderLemmas.{graph_in_range, order_is, destinations_in_range, sets_of_port}
 use Rattle.net_sim.proofs.LeastLoopLemmas.{least_loop_is}
-use Rattle.net_sim.specs.Groups.{IsGathered}
+use Rattle.hw_graph.specs.Groups.{IsGathered}
 use Rattle.net_sim.specs.Layout.{port_names}
-use Rattle.net_sim.specs.Loop.{AtLoop}
+use Rattle.hw_graph.specs.Loop.{AtLoop}
 use Rattle.net_sim.specs.Order.{IsLeastLoopOf}
-use Rattle.net_sim.specs.Reads.{IsLeastCycle}
-use Rattle.net_sim.specs.declared.order_end.OrderEnd.{OrderEnd}
-use Rattle.net_sim.specs.declared.order_end.OrderEnd.TheVariants.{Loop, Memory}
-use Rattle.net_sim.specs.declared.groups.Entry.{Entry}
+use Rattle.hw_graph.specs.Graph.{IsLeastCycle}
+use Rattle.hw_graph.specs.declared.order_end.OrderEnd.{OrderEnd}
+use Rattle.hw_graph.specs.declared.order_end.OrderEnd.TheVariants.{Loop, Memory}
+use Rattle.hw_graph.specs.declared.groups.Entry.{Entry}
 use Rattle.net_sim.proofs.port_order.order.Goals.{In_ok-reads}
 use Rattle.net_sim.proofs.port_order.order.Goals as goal
 

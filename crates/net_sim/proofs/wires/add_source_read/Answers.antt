@@ -3,7 +3,7 @@ use Rattle.std.proofs.lemmas.Option.{slice_get_within, get_or_from_slice_get}
 use Rattle.hw_names.specs.Name.{text_of}
 use Rattle.net_sim.proofs.WireLemmas.{add_one}
 use Rattle.net_sim.specs.Wires.{reading}
-use Rattle.net_sim.specs.declared.groups.Entry.{Entry}
+use Rattle.hw_graph.specs.declared.groups.Entry.{Entry}
 use Rattle.net_sim.proofs.wires.add_source_read.Goals as goal
 
 pub returns-in_ok-push : goal.returns-in_ok-push

@@ -1,0 +1,11 @@
+pub mod MemberLemmas
+pub mod CutLemmas
+pub mod GroupLemmas
+pub mod NameOrderLemmas
+pub mod ByNameLemmas
+pub mod SearchLemmas
+pub mod WalkLemmas
+pub mod ComponentLemmas
+pub mod CycleLemmas
+pub mod PigeonholeLemmas
+pub mod ReachLemmas

@@ -1,0 +1,10 @@
+pub mod Cuts
+pub mod Groups
+pub mod ByName
+pub mod Graph
+pub mod Loop
+pub mod Unread
+pub mod Search
+pub mod Walk
+pub mod Components
+pub mod Reach

@@ -1,0 +1,165 @@
+//! Orders, least loops and what is reached in small graphs, told by hand.
+ghost use Rattle.std.specs.Prelude.{◌≡◌, length, IsTrue, IfOk};
+ghost use Rattle.hw_graph.specs.Components.{AreBelow};
+ghost use Rattle.hw_graph.specs.Graph.{AreInRange};
+
+use super::*;
+use hw_bits::Memory;
+use hw_names::Names;
+use std::alloc::Global;
+use std::test::Fail;
+
+/// A graph by its ports' names and what reads what, and the ports of its order or of its least loop.
+#[derive(Clone, Copy)]
+struct Case {
+    names: &'static [&'static str],
+    reads: &'static [(usize, usize)],
+    ordered: bool,
+    ports: &'static [usize],
+}
+
+const CASES: [Case; 5] = [
+    // A chain of three.
+    Case {
+        names: &["a", "b", "c"],
+        reads: &[(0, 1), (1, 2)],
+        ordered: true,
+        ports: &[2, 1, 0],
+    },
+    // Two reads of one port.
+    Case {
+        names: &["a", "b"],
+        reads: &[(1, 0), (1, 0)],
+        ordered: true,
+        ports: &[0, 1],
+    },
+    // A loop of two, and a port that reads it.
+    Case {
+        names: &["a", "c", "b"],
+        reads: &[(0, 1), (1, 2), (2, 1)],
+        ordered: false,
+        ports: &[2, 1],
+    },
+    // The least of two loops.
+    Case {
+        names: &["z", "y", "b", "a"],
+        reads: &[(0, 1), (1, 0), (2, 3), (3, 2)],
+        ordered: false,
+        ports: &[3, 2],
+    },
+    // A port that reads itself.
+    Case {
+        names: &["a", "b"],
+        reads: &[(1, 0), (1, 1)],
+        ordered: false,
+        ports: &[1],
+    },
+];
+
+/// The names of ports.
+fn names_of(alloc: Global, texts: &[&str]) -> Result<Names, Memory> {
+    let mut names = Names::new(alloc);
+    for text in texts {
+        if names.len() < 100 {
+            let _id = names.intern(text.as_bytes())?;
+        }
+    }
+    Ok(names)
+}
+
+/// An entry for each read.
+fn entries_of(alloc: Global, reads: &[(usize, usize)]) -> Result<Vec<Entry>, Memory> {
+    let mut entries = Vec::new(alloc);
+    for (key, value) in reads {
+        entries.push(Entry {
+            key: *key,
+            value: *value,
+        })?;
+    }
+    Ok(entries)
+}
+
+/// Whether all entries are of ports below a count.
+fn are_below(entries: &[Entry], count: usize) -> bool
+    ensures { IsTrue result → AreBelow count entries.now }
+{
+    for entry in entries {
+        if entry.key >= count || entry.value >= count {
+            return false;
+        }
+    }
+    true
+}
+
+/// A graph of so many ports.
+fn graph(alloc: Global, reads: &[(usize, usize)], count: usize) -> Result<Groups, Memory>
+    ensures all { IfOk result (λ graph. length graph ≡ count) }
+    ensures in_range { IfOk result (λ graph. AreInRange graph) }
+{
+    let entries = entries_of(alloc, reads)?;
+    if count > 100 || !are_below(&entries, count) {
+        return Err(Memory);
+    }
+    gather(alloc, &entries, count)
+}
+
+/// The ports of a graph's order or of its least loop, and whether it has an order.
+fn end_of(
+    alloc: Global,
+    names: &Names,
+    reads: &[(usize, usize)],
+) -> Result<(Vec<usize>, bool), Memory> {
+    let graph = graph(alloc, reads, names.len())?;
+    match order_or_least_loop(alloc, &graph, names) {
+        Ok(order) => Ok((order, true)),
+        Err(OrderEnd::Loop { ports }) => Ok((ports, false)),
+        Err(OrderEnd::Memory) => Err(Memory),
+    }
+}
+
+/// What is reached from each port, by one search.
+fn all_reached(alloc: Global, graph: &Groups) -> Result<Vec<Vec<usize>>, Memory>
+    requires { AreInRange graph.now }
+{
+    let mut reach = Reach::new(alloc, graph)?;
+    let mut all = Vec::new(alloc);
+    for start in 0..graph.len() {
+        all.push(reach.from(alloc, graph, start)?)?;
+    }
+    Ok(all)
+}
+
+#[test]
+fn the_order_or_the_least_loop_is_told(rt: HostRuntime) -> Result<(), Fail> {
+    for (i, case) in CASES.iter().enumerate() {
+        let names = names_of(rt.alloc(), case.names)?;
+        let (ports, ordered) = end_of(rt.alloc(), &names, case.reads)?;
+        assert_eq!(rt; ordered, case.ordered, "case {i}");
+        assert_eq!(rt; ports.as_slice(), case.ports, "case {i}");
+    }
+    Ok(())
+}
+
+#[test]
+fn the_lesser_name_is_found(rt: HostRuntime) -> Result<(), Fail> {
+    let names = names_of(rt.alloc(), &["b", "a"])?;
+    assert_eq!(rt; names.len(), 2);
+    assert_eq!(rt; lesser_of(&names, None, 0), 0);
+    assert_eq!(rt; lesser_of(&names, Some(0), 1), 1);
+    assert_eq!(rt; lesser_of(&names, Some(1), 0), 1);
+    Ok(())
+}
+
+#[test]
+fn what_is_reached_is_told(rt: HostRuntime) -> Result<(), Fail> {
+    // Port 0 reads a loop of 1 and 2, port 3 reads itself twice, and port 4 reads nothing.
+    let reads: [(usize, usize); 5] = [(0, 1), (1, 2), (2, 1), (3, 3), (3, 3)];
+    let expected: [&[usize]; 5] = [&[1, 2], &[2, 1], &[1, 2], &[3], &[]];
+    let graph = graph(rt.alloc(), &reads, 5)?;
+    let all = all_reached(rt.alloc(), &graph)?;
+    assert_eq!(rt; all.len(), expected.len());
+    for (start, (ports, wanted)) in all.iter().zip(expected).enumerate() {
+        assert_eq!(rt; ports.as_slice(), wanted, "from port {start}");
+    }
+    Ok(())
+}

@@ -1,5 +1,0 @@
-use Rattle.net_sim.proofs.ByNameLemmas.{IsLeastSoFar}
-use Rattle.net_sim.proofs.by_name.least_marked.Given as goal
-
-abbrev pub invariant-loop-port : goal.invariant-loop-port
-invariant-loop-port l = IsLeastSoFar l.names l.marks l.port l.least

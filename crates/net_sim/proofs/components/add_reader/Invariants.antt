@@ -1,8 +1,0 @@
-use Rattle.std.proofs.Common.{ℕ, ◌<◌}
-use Rattle.std.specs.Prelude.{All}
-use Rattle.net_sim.specs.Components.{AreBelow}
-use Rattle.net_sim.proofs.components.add_reader.Given as goal
-
-abbrev pub invariant-loop-port : goal.invariant-loop-port
-invariant-loop-port l =
-    (count : ℕ) → l.reader < count → All (λ (port : ℕ). port < count) l.ports → AreBelow count l.fn.entries.items → AreBelow count l.entries.items

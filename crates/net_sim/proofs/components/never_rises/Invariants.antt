@@ -1,6 +1,0 @@
-use Rattle.std.proofs.Common.{ℕ, ◌<◌, ◌≤◌, get_or}
-use Rattle.net_sim.specs.Reads.{HasRead}
-use Rattle.net_sim.proofs.components.never_rises.Given as goal
-
-abbrev pub invariant-loop-port : goal.invariant-loop-port
-invariant-loop-port l = (port other : ℕ) → port < l.port → HasRead l.reads port other → get_or l.numbers other 0 ≤ get_or l.numbers port 0

@@ -1,9 +1,0 @@
-use Rattle.net_sim.proofs.CycleLemmas.{IsSeeking}
-use Rattle.net_sim.specs.Walk.{work_left}
-use Rattle.net_sim.proofs.least_loop.cycle_from.Given as goal
-
-abbrev pub invariant-loop-top : goal.invariant-loop-top
-invariant-loop-top l = IsSeeking l.reads l.start l.walk
-
-abbrev pub decreases-loop-top : goal.decreases-loop-top
-decreases-loop-top l = work_left l.walk

@@ -1,9 +1,0 @@
-use Rattle.net_sim.proofs.CycleLemmas.{mark_count}
-use Rattle.net_sim.specs.Components.{LeavesNoCycle}
-use Rattle.net_sim.proofs.least_loop.least_cycle.Given as goal
-
-abbrev pub invariant-loop-port : goal.invariant-loop-port
-invariant-loop-port l = LeavesNoCycle l.reads l.marks.items
-
-abbrev pub decreases-loop-port : goal.decreases-loop-port
-decreases-loop-port l = mark_count l.marks.items
