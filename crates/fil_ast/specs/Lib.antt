@@ -11,5 +11,10 @@ pub mod Typing
 pub mod Timeline
 pub mod Connections
 pub mod Sharing
+pub mod Evidence
 pub mod Wires
 pub mod Rules
+pub mod Refusal
+pub mod Holds
+pub mod Top
+pub mod Weight

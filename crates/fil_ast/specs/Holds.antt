@@ -1,0 +1,80 @@
+-- Transactions, legal lists of them, and what they hold. Filament, PLDI 2023.
+use Rattle.std.specs.Prelude.{◌≡◌, ◌⊎◌, ℕ, suc, ◌+◌, ◌<◌, ◌≤◌, List, [], ◌∷◌, ◌++◌, map, filter, flat_map, slice_get, bytes_eq, Option, Some, None, option_map, option_and_then, AllPairs, Contains}
+use Rattle.hw_names.specs.Name.{Text}
+use Rattle.fil_ast.specs.Scope.{Scope, Invocation, instance_signature}
+use Rattle.fil_ast.specs.Signature.{SigEvent, Signature}
+use Rattle.fil_ast.specs.Timeline.{Use, hold_of}
+use Rattle.fil_ast.specs.Tree.{TimeAt, Event, Component}
+use Rattle.fil_ast.specs.declared.tx.Tx.{Tx}
+
+-- when a transaction starts: the component's event of this name, in this row
+pub record Start : Type 0 where
+  pub event : Text
+  pub row : ℕ
+
+-- of one event the second starts after the first, and at least the event's delay after it
+abbrev pub Follows : Component → Start → Start → Type 0
+Follows c first second =
+    first.event ≡ second.event → (first.row < second.row) × ((e : Event) → Contains c.events e → e.name ≡ first.event → first.row + e.delay ≤ second.row)
+
+-- a legal list: the starts of each event rise, and are at least its delay apart
+abbrev pub IsLegal : Component → List Start → Type 0
+IsLegal c starts = AllPairs (Follows c) starts
+
+-- an event of an instance is held by an invocation, in the transaction with this number, in the rows [from, to)
+pub record Hold : Type 0 where
+  pub inst : Text
+  pub event : ℕ
+  pub from : ℕ
+  pub to : ℕ
+  pub call : Text
+  pub tx : ℕ
+
+-- the use of event k of a callee: none where it triggers nothing
+abbrev pub use_of : ℕ → SigEvent → Text → List TimeAt → Option Use
+use_of k e inst times =
+    option_and_then (λ t. option_map (λ rows. record { inst = inst; event = k; go = e.go; at = t; hold = rows }) (hold_of e.delay t (slice_get times (k + 1)))) (slice_get times k)
+
+abbrev pub listed : Option Use → List Use
+listed None = []
+listed (Some u) = u ∷ []
+
+-- the uses of a callee's events from number k on, in their order
+abbrev pub uses_from : ℕ → List SigEvent → Text → List TimeAt → List Use
+uses_from k [] inst times = []
+uses_from k (e ∷ events) inst times = listed (use_of k e inst times) ++ uses_from (suc k) events inst times
+
+abbrev pub uses_by : Invocation → Option Signature → List Use
+uses_by v None = []
+uses_by v (Some sig) = uses_from 0 sig.events v.inst v.gives.times
+
+-- the events that an invocation triggers, in the order of its callee
+abbrev pub uses_of : Scope → Invocation → List Use
+uses_of scope v = uses_by v (instance_signature scope v.inst)
+
+-- the use as transaction n, which starts in this row, makes it
+abbrev pub hold_from : ℕ → ℕ → Text → Use → Hold
+hold_from n row call u = record { inst = u.inst; event = u.event; from = row + u.at.plus; to = row + u.at.plus + u.hold; call = call; tx = n }
+
+abbrev pub holds_by : Scope → ℕ → Start → Invocation → List Hold
+holds_by scope n s v = map (hold_from n s.row v.name) (filter (λ (u : Use). bytes_eq u.at.event s.event) (uses_of scope v))
+
+-- what transactions hold, numbered from n on: transaction by transaction, in each the invocations, in each the callee's events
+abbrev pub holds_from : Scope → ℕ → List Start → List Hold
+holds_from scope n [] = []
+holds_from scope n (s ∷ starts) = flat_map (holds_by scope n s) scope.invocations ++ holds_from scope (suc n) starts
+
+abbrev pub holds_of : Scope → List Start → List Hold
+holds_of scope starts = holds_from scope 0 starts
+
+-- of one event of an instance, one ends before or where the other starts
+abbrev pub AreApart : Hold → Hold → Type 0
+AreApart h k = h.inst ≡ k.inst → h.event ≡ k.event → (h.to ≤ k.from) ⊎ (k.to ≤ h.from)
+
+-- the instance's event is held in the row
+abbrev pub IsHeldIn : ℕ → Hold → Type 0
+IsHeldIn row h = (h.from ≤ row) × (row < h.to)
+
+-- the event of a transaction of the component, by its number
+abbrev pub start_of : Component → Tx → Option Start
+start_of c tx = option_map (λ (e : Event). record { event = e.name; row = tx.start }) (slice_get c.events tx.event)
