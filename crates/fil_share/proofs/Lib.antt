@@ -2,3 +2,10 @@ pub mod ListLemmas
 pub mod SharingLemmas
 pub mod LawLemmas
 pub mod MeetLemmas
+pub mod Lookup
+pub mod CalleeLemmas
+pub mod MakesLemmas
+pub mod OwnLemmas
+pub mod TransactionLemmas
+pub mod UseLemmas
+pub mod InnerLemmas

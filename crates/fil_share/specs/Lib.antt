@@ -1,2 +1,6 @@
 pub mod Sharing
 pub mod Laws
+pub mod Instances
+pub mod Uses
+pub mod Own
+pub mod Inner

@@ -1,0 +1,9 @@
+use Rattle.std.proofs.Common.{◌≡◌, ◌++◌, take, map, filter}
+use Rattle.fil_share.specs.Uses.{is_on, moved, shown_hold, shown_use}
+use Rattle.fil_share.proofs.transactions.push_holds.Given as goal
+
+-- the holds of the uses so far
+abbrev pub invariant-loop-used : goal.invariant-loop-used
+invariant-loop-used l =
+    map (shown_hold l.names) l.holds.items
+    ≡ map (shown_hold l.names) l.fn.holds.items ++ map (moved l.tx l.row) (filter (is_on l.event) (map (shown_use l.names) (take l.used-index l.uses)))
