@@ -1,25 +1,37 @@
 -- The components of a design, judged one after another.
-use Rattle.std.proofs.Common.{◌≡◌, ◌≢◌, ℕ, suc, ◌+◌, ◌<◌, ◌≤◌, Bool, true, false, List, [], ◌∷◌, ◌++◌, length, map, take, get_or, slice_get, Contains, Result, Some, Ok, option_map, inl, inr, refl, sym, ap, ap₂, subst, ◌∙◌, arith}
+use Rattle.std.proofs.Common.{◌≡◌, ◌≢◌, ℕ, zero, suc, ◌+◌, ◌<◌, ◌≤◌, Bool, true, false, List, [], ◌∷◌, ◌++◌, length, map, take, get_or, slice_get, Contains, Result, Some, Ok, option_map, inl, inr, refl, sym, ap, ap₂, subst, ◌∙◌, arith}
 use Rattle.std.specs.Prelude.{AllPairs}
 use Rattle.std.proofs.lemmas.Bool.{cases_lt}
-use Rattle.std.proofs.lemmas.List.{length-map, map-append, take_more}
-use Rattle.std.proofs.lemmas.Option.{same_Some, slice_get-map, slice_get_read, slice_get_within, get_or_from_slice_get}
+use Rattle.std.proofs.lemmas.List.{length-map, length-take, map-append}
+use Rattle.std.proofs.lemmas.List.Elements.{All-map}
+use Rattle.std.proofs.lemmas.Option.{same_Some, slice_get-map, slice_get_read, slice_get_within}
 use Rattle.std.proofs.lemmas.Simd.{map-map}
 use Rattle.hw_bits.specs.declared.memory.Memory.{Memory}
-use Rattle.hw_names.specs.Name.{Text, AreDistinct}
+use Rattle.hw_names.specs.Name.{Text, AreDistinct, text_of}
+use Rattle.fil_ast.specs.Evidence as shown
 use Rattle.fil_ast.specs.Items.{TheSignature}
+use Rattle.fil_ast.specs.Limits.{KeepsLimits}
 use Rattle.fil_ast.specs.Naming.{HasNewNames, component_names}
-use Rattle.fil_ast.specs.Rules.{F1, KeepsComponent, KeepsRules, first_five}
-use Rattle.fil_ast.specs.Signature.{SigPort, Signature, component_signature, sig_port}
-use Rattle.fil_ast.specs.Tree.{Interface, DataPort, Component, Design, component_tree, design_of, event_tree}
+use Rattle.fil_ast.specs.Refusal.{IsRefusal, BreaksRule, HasLoop}
+use Rattle.fil_ast.specs.Rules.{F1, KeepsComponent, KeepsRules, IsFirstBroken, HasFirstLoop, all_rules}
+use Rattle.fil_ast.specs.Signature.{SigPort, Signature, component_signature, sig_event, sig_port}
+use Rattle.fil_ast.specs.Tree.{Event, Interface, DataPort, Component, Design, component_tree, design_of, event_tree, port_tree}
 use Rattle.fil_ast.specs.Typing.{HasWidths, HasShape}
 use Rattle.fil_ast.specs.declared.tree.FilComp.{FilComp}
 use Rattle.fil_ast.specs.declared.tree.FilDesign.{FilDesign}
-use Rattle.fil_check.specs.First.{IsFirstItem, IsRefusal}
+use Rattle.fil_check.specs.Callees.{HasGoodDelay, HasSmallInterval, HasGoodTimes}
+use Rattle.fil_check.specs.First.{ComponentIs, IsFirstItem, TellsFirst, TellsItem}
+use Rattle.fil_check.specs.Least.{evidence_of, loop_of}
 use Rattle.fil_check.specs.Outputs.{output_names}
+use Rattle.fil_check.specs.Wired.{IsFirstLoop}
+use Rattle.fil_check.specs.declared.rules.CompEnd.{CompEnd}
+use Rattle.fil_check.specs.declared.rules.CompEnd.TheVariants as component
+use Rattle.fil_check.specs.declared.rules.FilEnd.{FilEnd}
+use Rattle.fil_share.proofs.ListLemmas.{slice_get-take}
+use Rattle.fil_sig.proofs.ListLemmas.{All-unmap}
 
 -- what a component that keeps the rules keeps at its signature
-module _ (comps : Design) (c : Component) (keeps : KeepsComponent first_five comps c) where
+module _ (comps : Design) (c : Component) (keeps : KeepsComponent all_rules comps c) where
   pub new_names : HasNewNames comps c
   new_names = keeps 0 TheSignature refl 0 F1 (omega arith)
 
@@ -37,7 +49,7 @@ pairs_back R [] ys pairs = pairs
 pairs_back R (x ∷ xs) ys pairs = pairs_back R xs ys (pairs_tail R x (xs ++ ys) pairs)
 
 -- its outputs have different names
-pub outputs_differ : (comps : Design) (c : Component) → KeepsComponent first_five comps c → AreDistinct (output_names (component_signature c))
+pub outputs_differ : (comps : Design) (c : Component) → KeepsComponent all_rules comps c → AreDistinct (output_names (component_signature c))
 outputs_differ comps c keeps =
     let D : List Text → Type 0 = AreDistinct in
     let before = map (λ (g : Interface). g.name) c.interfaces ++ map (λ (p : DataPort). p.name) c.ins in
@@ -62,11 +74,6 @@ pub callees_more : (comps : Design) (c : Component) (old new : List Signature) (
 callees_more comps c old new sig was is added =
     added ∙ ap₂ (λ sigs s. sigs ++ s ∷ []) was is ∙ sym (map-append component_signature comps (c ∷ []))
 
--- so many elements, and the next
-pub take_next : {X : Type 0} (xs : List X) (i : ℕ) (x : X) → slice_get xs i ≡ Some x → take (i + 1) xs ≡ take i xs ++ x ∷ []
-take_next xs i x at =
-    take_more xs i x (slice_get_within xs i x at) ∙ ap (λ y. take i xs ++ y ∷ []) (get_or_from_slice_get xs i x x at)
-
 -- the tree of what a list has at a place
 pub at_mapped : {X Y : Type 0} (f : X → Y) (xs ys : List X) (i : ℕ) (x : X) → ys ≡ xs → i < length ys → x ≡ get_or ys i x → slice_get (map f xs) i ≡ Some (f x)
 at_mapped f xs ys i x same within is =
@@ -74,39 +81,81 @@ at_mapped f xs ys i x same within is =
 
 -- the components before one keep the rules
 abbrev pub KeepBefore : Design → ℕ → Type 0
-KeepBefore comps n = (m : ℕ) (c : Component) → m < n → slice_get comps m ≡ Some c → KeepsComponent first_five (take m comps) c
+KeepBefore comps n = (m : ℕ) (c : Component) → m < n → slice_get comps m ≡ Some c → KeepsComponent all_rules (take m comps) c
 
-pub keep_more : (comps : Design) (n : ℕ) (c : Component) → slice_get comps n ≡ Some c → KeepBefore comps n → KeepsComponent first_five (take n comps) c → KeepBefore comps (n + 1)
+pub keep_more : (comps : Design) (n : ℕ) (c : Component) → slice_get comps n ≡ Some c → KeepBefore comps n → KeepsComponent all_rules (take n comps) c → KeepBefore comps (n + 1)
 keep_more comps n c at before keeps m d below there =
     elim (cases_lt m n) [
       | inl less ↦ before m d less there
       | inr past ↦
           (let same : n ≡ m = omega arith in
           let one : c ≡ d = same_Some c d (sym at ∙ ap (slice_get comps) same ∙ there) in
-          subst (λ (k : ℕ). KeepsComponent first_five (take k comps) d) same (subst (λ (e : Component). KeepsComponent first_five (take n comps) e) one keeps))
+          subst (λ (k : ℕ). KeepsComponent all_rules (take k comps) d) same (subst (λ (e : Component). KeepsComponent all_rules (take n comps) e) one keeps))
     ]
 
-pub all_keep : (comps : Design) (n : ℕ) → length comps ≤ n → KeepBefore comps n → KeepsRules first_five comps
+take_fewer : {X : Type 0} (m n : ℕ) (xs : List X) → m ≤ n → take m (take n xs) ≡ take m xs
+take_fewer zero n xs below = refl
+take_fewer (suc m) zero xs below = absurd (omega arith)
+take_fewer (suc m) (suc n) [] below = refl
+take_fewer (suc m) (suc n) (x ∷ xs) below = ap (λ (ys : List _). x ∷ ys) (take_fewer m n xs (omega arith))
+
+-- these components are a design that keeps the rules
+pub kept_so_far : (comps : Design) (n : ℕ) → KeepBefore comps n → KeepsRules all_rules (take n comps)
+kept_so_far comps n before m c there =
+    let within : m < n = omega (arith, slice_get_within (take n comps) m c there, length-take n comps) in
+    let P : Design → Type 0 = λ earlier. KeepsComponent all_rules earlier c in
+    subst P (sym (take_fewer m n comps (omega arith))) (before m c within (slice_get-take n comps m c there))
+
+pub all_keep : (comps : Design) (n : ℕ) → length comps ≤ n → KeepBefore comps n → KeepsRules all_rules comps
 all_keep comps n end before m c there = let within = slice_get_within comps m c there in before m c (omega arith) there
 
-pub refused : (d : FilDesign) (n : ℕ) (comp : FilComp) (rule item : ℕ) → slice_get (design_of d) n ≡ Some (component_tree d.names comp) → KeepBefore (design_of d) n
-    → IsFirstItem (take n (design_of d)) (component_tree d.names comp) item rule → IsRefusal d rule comp.name item
-refused d n comp rule item at before first =
+refused : (d : FilDesign) (n : ℕ) (comp : FilComp) (number item : ℕ) (evidence : shown.Evidence) → slice_get (design_of d) n ≡ Some (component_tree d.names comp) → KeepBefore (design_of d) n
+    → IsFirstItem (take n (design_of d)) (component_tree d.names comp) item number evidence → IsRefusal (design_of d) (text_of d.names comp.name) item evidence number
+refused d n comp number item evidence at before first =
+    let R : ℕ → Type 0 = IsRefusal (design_of d) (text_of d.names comp.name) item evidence in
+    let broken : IsFirstBroken all_rules (design_of d) n item first.least.place = record {
+      c = component_tree d.names comp;
+      at = at;
+      components = before;
+      items = first.items;
+      item = first.item;
+      here = first.here;
+      lesser = first.least.lesser;
+      rule = first.least.rule;
+      numbered = first.least.numbered;
+      broken = first.least.broken;
+    } in
+    subst R first.least.counted (BreaksRule n first.least.place broken refl first.least.is_shown)
+
+-- what the end of a component tells
+pub component_ends : (d : FilDesign) (n : ℕ) (comp : FilComp) (end : CompEnd) (r : FilEnd) → slice_get (design_of d) n ≡ Some (component_tree d.names comp) → KeepBefore (design_of d) n
+    → TellsItem (take n (design_of d)) (component_tree d.names comp) end → ComponentIs comp.name end r → TellsFirst d r
+component_ends d n comp (component.Broken item broken) r at before first is =
+    subst (TellsFirst d) (sym is) (refused d n comp broken.rule item (evidence_of broken.evidence) at before first)
+component_ends d n comp component.Memory r at before first is = subst (TellsFirst d) (sym is) tt
+
+-- where all components keep the rules, the first loop is what is refused
+pub looped : (comps : Design) (name : Text) (ports : List Text) → KeepsRules all_rules comps → IsFirstLoop comps name ports → IsRefusal comps name 0 (loop_of ports) 14
+looped comps name ports keeps is =
+    let first : HasFirstLoop comps is.number is.first is.others = record {
+      others_keep = keeps;
+      c = is.c;
+      at = is.at;
+      components = is.components;
+      loop = is.loop;
+    } in
+    HasLoop is.number is.first is.others first is.named refl (ap loop_of is.are)
+
+-- the delays and offsets of a component that keeps F5 and the limits are those of a callee
+pub good_times : (names : List Text) (comp : FilComp) → KeepsLimits comp → HasShape (component_tree names comp) → HasGoodTimes (component_signature (component_tree names comp))
+good_times names comp small shape =
+    let tree = component_tree names comp in
+    let held = All-unmap (λ (e : Event). 1 ≤ e.delay) (event_tree names) comp.events.items shape.delays in
     record {
-      n = n;
-      place = first.least.place;
-      counted = first.least.counted;
-      first = record {
-        c = component_tree d.names comp;
-        at = at;
-        components = before;
-        items = first.items;
-        item = first.item;
-        here = first.here;
-        lesser = first.least.lesser;
-        rule = first.least.rule;
-        numbered = first.least.numbered;
-        broken = first.least.broken;
-      };
-      named = refl;
+      delays = All-map HasGoodDelay (sig_event tree.interfaces) tree.events
+          (All-map (λ (e : Event). HasGoodDelay (sig_event tree.interfaces e)) (event_tree names) comp.events.items (λ k d within. (held k d within, small.events k d within)));
+      ins = All-map HasSmallInterval (sig_port tree.events) tree.ins
+          (All-map (λ (p : DataPort). HasSmallInterval (sig_port tree.events p)) (port_tree names) comp.ins.items (λ k d within. small.ins k d within));
+      outs = All-map HasSmallInterval (sig_port tree.events) tree.outs
+          (All-map (λ (p : DataPort). HasSmallInterval (sig_port tree.events p)) (port_tree names) comp.outs.items (λ k d within. small.outs k d within));
     }

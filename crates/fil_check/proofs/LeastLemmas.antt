@@ -1,50 +1,58 @@
--- The least broken rule at an item.
-use Rattle.std.proofs.Common.{◌≡◌, ℕ, zero, suc, ◌<◌, [], ◌∷◌, slice_get, All, Some, refl, subst, arith}
-use Rattle.std.proofs.lemmas.List.Elements.{All-cons, All-nil}
-use Rattle.std.proofs.lemmas.Option.{same_Some}
-use Rattle.fil_ast.specs.Rules.{Rule, F1, F2, F3, F4, F5, first_five}
-use Rattle.fil_check.specs.Least.{IsLeastBroken}
+-- The least broken rule at an item, from a proof that all rules before it hold.
+use Rattle.std.proofs.Common.{◌≡◌, ℕ, zero, suc, ◌+◌, ◌<◌, List, [], ◌∷◌, take, slice_get, All, Some, refl, sym, subst, arith}
+use Rattle.std.proofs.lemmas.List.Elements.{All-append, All-cons, All-nil}
+use Rattle.std.proofs.lemmas.Option.{same_Some, slice_get_within}
+use Rattle.fil_ast.specs.Evidence as shown
+use Rattle.fil_ast.specs.Rules.{Rule, F1, F2, F3, F4, F5, F6, F7, F8, F9, F10, F11, F12, F13, all_rules}
+use Rattle.fil_check.specs.Least.{IsLeastBroken, TellsLeast}
+use Rattle.fil_check.specs.declared.rules.Evidence.TheVariants.{Nothing}
+use Rattle.fil_check.specs.declared.rules.ItemEnd.{ItemEnd}
+use Rattle.fil_check.specs.declared.rules.ItemEnd.TheVariants.{Broken}
+use Rattle.fil_share.proofs.ListLemmas.{take_next}
+
+-- what holds of the first elements holds of each of them
+kept_at : {X : Type 0} (P : X → Type 0) (n : ℕ) (xs : List X) → All P (take n xs) → (k : ℕ) (x : X) → k < n → slice_get xs k ≡ Some x → P x
+kept_at P zero xs all k x below at = absurd (omega arith)
+kept_at P (suc n) [] all k x below at = let within = slice_get_within [] k x at in absurd (omega arith)
+kept_at P (suc n) (y ∷ ys) all zero x below at = subst P (same_Some y x at) (all 0 y (omega arith))
+kept_at P (suc n) (y ∷ ys) all (suc k) x below at = kept_at P n ys (λ i d within. all (suc i) d (omega arith)) k x (omega arith) at
 
 module _ (keeps : Rule → Type 0) where
-  pub all_five : keeps F1 → keeps F2 → keeps F3 → keeps F4 → keeps F5 → All keeps first_five
-  all_five f1 f2 f3 f4 f5 =
-      All-cons keeps F1 (F2 ∷ F3 ∷ F4 ∷ F5 ∷ []) f1
-      (All-cons keeps F2 (F3 ∷ F4 ∷ F5 ∷ []) f2
-      (All-cons keeps F3 (F4 ∷ F5 ∷ []) f3 (All-cons keeps F4 (F5 ∷ []) f4 (All-cons keeps F5 [] f5 (All-nil keeps)))))
+  -- no rule is before the first
+  pub none_yet : All keeps (take 0 all_rules)
+  none_yet = All-nil keeps
 
-  before_2 : keeps F1 → (q : ℕ) (rule : Rule) → q < 1 → slice_get first_five q ≡ Some rule → keeps rule
-  before_2 f1 zero rule below at = subst keeps (same_Some F1 rule at) f1
-  before_2 f1 (suc q) rule below at = absurd (omega arith)
+  -- the rules before a place hold, and so does the one that stands there
+  pub one_more_rule : (place : ℕ) (rule : Rule) → slice_get all_rules place ≡ Some rule → All keeps (take place all_rules) → keeps rule → All keeps (take (place + 1) all_rules)
+  one_more_rule place rule numbered before kept =
+      subst (All keeps) (sym (take_next all_rules place rule numbered))
+      (All-append keeps (take place all_rules) (rule ∷ []) before (All-cons keeps rule [] kept (All-nil keeps)))
 
-  before_3 : keeps F1 → keeps F2 → (q : ℕ) (rule : Rule) → q < 2 → slice_get first_five q ≡ Some rule → keeps rule
-  before_3 f1 f2 zero rule below at = subst keeps (same_Some F1 rule at) f1
-  before_3 f1 f2 (suc zero) rule below at = subst keeps (same_Some F2 rule at) f2
-  before_3 f1 f2 (suc (suc q)) rule below at = absurd (omega arith)
+  pub first_four : keeps F1 → keeps F2 → keeps F3 → keeps F4 → All keeps (take 4 all_rules)
+  first_four f1 f2 f3 f4 =
+      one_more_rule 3 F4 refl (one_more_rule 2 F3 refl (one_more_rule 1 F2 refl (one_more_rule 0 F1 refl none_yet f1) f2) f3) f4
 
-  before_4 : keeps F1 → keeps F2 → keeps F3 → (q : ℕ) (rule : Rule) → q < 3 → slice_get first_five q ≡ Some rule → keeps rule
-  before_4 f1 f2 f3 zero rule below at = subst keeps (same_Some F1 rule at) f1
-  before_4 f1 f2 f3 (suc zero) rule below at = subst keeps (same_Some F2 rule at) f2
-  before_4 f1 f2 f3 (suc (suc zero)) rule below at = subst keeps (same_Some F3 rule at) f3
-  before_4 f1 f2 f3 (suc (suc (suc q))) rule below at = absurd (omega arith)
+  pub all_thirteen : keeps F1 → keeps F2 → keeps F3 → keeps F4 → keeps F5 → keeps F6 → keeps F7 → keeps F8 → keeps F9 → keeps F10 → keeps F11 → keeps F12 → keeps F13 → All keeps all_rules
+  all_thirteen f1 f2 f3 f4 f5 f6 f7 f8 f9 f10 f11 f12 f13 =
+      one_more_rule 12 F13 refl (one_more_rule 11 F12 refl (one_more_rule 10 F11 refl (one_more_rule 9 F10 refl (one_more_rule 8 F9 refl
+      (one_more_rule 7 F8 refl (one_more_rule 6 F7 refl (one_more_rule 5 F6 refl (one_more_rule 4 F5 refl (first_four f1 f2 f3 f4) f5) f6) f7) f8) f9) f10) f11) f12) f13
 
-  before_5 : keeps F1 → keeps F2 → keeps F3 → keeps F4 → (q : ℕ) (rule : Rule) → q < 4 → slice_get first_five q ≡ Some rule → keeps rule
-  before_5 f1 f2 f3 f4 zero rule below at = subst keeps (same_Some F1 rule at) f1
-  before_5 f1 f2 f3 f4 (suc zero) rule below at = subst keeps (same_Some F2 rule at) f2
-  before_5 f1 f2 f3 f4 (suc (suc zero)) rule below at = subst keeps (same_Some F3 rule at) f3
-  before_5 f1 f2 f3 f4 (suc (suc (suc zero))) rule below at = subst keeps (same_Some F4 rule at) f4
-  before_5 f1 f2 f3 f4 (suc (suc (suc (suc q)))) rule below at = absurd (omega arith)
+  -- the rule at this place is the least that is broken
+  pub breaks : (shows : Rule → shown.Evidence → Type 0) (place : ℕ) (rule : Rule) (evidence : shown.Evidence) → slice_get all_rules place ≡ Some rule → All keeps (take place all_rules) → ¬ keeps rule → shows rule evidence
+      → IsLeastBroken keeps shows (place + 1) evidence
+  breaks shows place rule evidence numbered before unkept shows_it =
+      record {
+        place = place;
+        counted = refl;
+        lesser = λ q lesser below at. kept_at keeps place all_rules before q lesser below at;
+        rule = rule;
+        numbered = numbered;
+        broken = unkept;
+        is_shown = shows_it;
+      }
 
-  pub breaks_1 : ¬ keeps F1 → IsLeastBroken keeps 1
-  breaks_1 unkept = record { place = 0; counted = refl; lesser = λ q rule below at. absurd (omega arith); rule = F1; numbered = refl; broken = unkept }
-
-  pub breaks_2 : keeps F1 → ¬ keeps F2 → IsLeastBroken keeps 2
-  breaks_2 f1 unkept = record { place = 1; counted = refl; lesser = before_2 f1; rule = F2; numbered = refl; broken = unkept }
-
-  pub breaks_3 : keeps F1 → keeps F2 → ¬ keeps F3 → IsLeastBroken keeps 3
-  breaks_3 f1 f2 unkept = record { place = 2; counted = refl; lesser = before_3 f1 f2; rule = F3; numbered = refl; broken = unkept }
-
-  pub breaks_4 : keeps F1 → keeps F2 → keeps F3 → ¬ keeps F4 → IsLeastBroken keeps 4
-  breaks_4 f1 f2 f3 unkept = record { place = 3; counted = refl; lesser = before_4 f1 f2 f3; rule = F4; numbered = refl; broken = unkept }
-
-  pub breaks_5 : keeps F1 → keeps F2 → keeps F3 → keeps F4 → ¬ keeps F5 → IsLeastBroken keeps 5
-  breaks_5 f1 f2 f3 f4 unkept = record { place = 4; counted = refl; lesser = before_5 f1 f2 f3 f4; rule = F5; numbered = refl; broken = unkept }
+  -- so tells the end by a rule that shows nothing
+  pub ends_by : (shows : Rule → shown.Evidence → Type 0) (place : ℕ) (rule : Rule) → slice_get all_rules place ≡ Some rule → All keeps (take place all_rules) → ¬ keeps rule → shows rule shown.Nothing
+      → (end : ItemEnd) → end ≡ Broken (record { rule = place + 1; evidence = Nothing }) → TellsLeast keeps shows end
+  ends_by shows place rule numbered before unkept shows_it end is =
+      subst (TellsLeast keeps shows) (sym is) (breaks shows place rule shown.Nothing numbered before unkept shows_it)

@@ -1,22 +1,28 @@
 -- What a name with parameters means: a primitive, an earlier component or nothing.
-use Rattle.std.proofs.Common.{◌≡◌, ℕ, Bool, true, false, List, [], ◌∷◌, length, map, slice_get, Contains, Bor, Option, Some, None, Result, Ok, Err, option_map, is_some, inl, filter, ◌==◌, if◌then◌else◌, refl, sym, ap, subst, ◌∙◌, arith}
+use Rattle.std.proofs.Common.{◌≡◌, ℕ, ◌+◌, ◌≤◌, All, Bool, true, false, List, [], ◌∷◌, length, map, slice_get, Contains, Bor, Option, Some, None, Result, Ok, Err, option_map, is_some, inl, filter, ◌==◌, if◌then◌else◌, refl, sym, ap, subst, ◌∙◌, arith}
 use Rattle.std.specs.Option.{option_and_then}
 use Rattle.std.specs.Prelude.{IfOk}
+use Rattle.std.specs.Prelude.{codes}
+use Rattle.std.specs.Str.{bytes_eq}
 use Rattle.std.proofs.lemmas.Bool.Decides.{nat_tests}
+use Rattle.std.proofs.lemmas.List.Elements.{All-cons, All-nil}
 use Rattle.std.proofs.lemmas.Option.{same_Some, slice_get-map}
 use Rattle.hw_bits.specs.declared.memory.Memory.{Memory}
 use Rattle.hw_names.specs.Name.{Text, AreDistinct}
-use Rattle.hw_prims.specs.Table.{outputs_of}
+use Rattle.hw_prims.specs.Table.{inputs_of, outputs_of}
 use Rattle.hw_prims.specs.declared.prim.Primitive.{Primitive}
 use Rattle.hw_prims.specs.declared.prim.Primitive.TheVariants.{StdConst, StdWire, StdAdd, StdSub, StdAnd, StdOr, StdXor, StdNot, StdEq, StdNeq, StdLt, StdGt, StdLe, StdGe, StdLsh, StdRsh, StdSlice, StdPad, FilMux, FilSlice, FilConcat, StdReg, StdMemD1, StdMemD2, StdMultPipe, FilDelay, FilFastMult, FilSeqMult}
-use Rattle.fil_ast.specs.Primitives.{Timing, filament_primitive, is_data_pin, is_filament_primitive, output_port, table_name, primitive_signature, signature_by, timing_of}
+use Rattle.fil_ast.specs.Primitives.{Timing, event, filament_primitive, input_port, is_data_pin, is_filament_primitive, output_port, register_timing, table_name, primitive_signature, signature_by, timing, timing_of}
 use Rattle.fil_ast.specs.Scope.{bare_signature, component_named, signature_in}
-use Rattle.fil_ast.specs.Signature.{SigPort, Signature, component_signature}
+use Rattle.fil_ast.specs.Signature.{Fixed, Gap, End, SigPort, Signature, component_signature}
 use Rattle.fil_ast.specs.Tree.{Component, Design}
 use Rattle.fil_sig.specs.Refusals.{IsCause, ByF2, ByF3, ByF5, TellsCause}
 use Rattle.fil_sig.specs.declared.named.SigEnd.{SigEnd}
 use Rattle.fil_sig.specs.declared.named.SigEnd.TheVariants.{Refused}
 use Rattle.fil_sig.proofs.UseLemmas.{primitive_shape, primitive_signed, primitive_usable}
+use Rattle.fil_ast.specs.declared.tree.TheConstants.{MOST_OFFSET}
+use Rattle.fil_sig.proofs.ListLemmas.{All-mapped}
+use Rattle.fil_check.specs.Callees.{HasGoodDelay, HasGoodTimes, HasSmallInterval}
 use Rattle.fil_check.specs.Outputs.{output_names}
 use Rattle.fil_check.specs.Tables.{ShowsEarlier, made_signature}
 use Rattle.fil_check.specs.declared.tables.Earlier.{Earlier}
@@ -67,6 +73,46 @@ primitive_outputs name params sig is = by (filament_primitive name params) is
     by (Some prim) e =
         let D : Signature → Type 0 = λ s. AreDistinct (output_names s) in
         subst D (same_Some (signature_by (timing_of name) prim) sig e) (outputs_differ (timing_of name) prim)
+
+-- the delays and offsets of a primitive are small
+abbrev HasGoodTiming : Timing → Type 0
+HasGoodTiming t = All HasGoodDelay t.events × (t.from.plus ≤ MOST_OFFSET) × (t.to.plus ≤ MOST_OFFSET)
+
+chosen : (b : Bool) (t u : Timing) → HasGoodTiming t → HasGoodTiming u → HasGoodTiming (if b then t else u)
+chosen true t u good others = good
+chosen false t u good others = others
+
+one_event : (delay latency : ℕ) (go : Option Text) → 1 ≤ delay → delay ≤ MOST_OFFSET → latency + 1 ≤ MOST_OFFSET → HasGoodTiming (timing delay go latency)
+one_event delay latency go some few soon =
+    (All-cons HasGoodDelay (event (codes "G") (Fixed delay) go) [] (some, few) (All-nil HasGoodDelay), omega arith, soon)
+
+register_good : HasGoodTiming register_timing
+register_good =
+    let second : All HasGoodDelay (event (codes "L") End None ∷ []) = All-cons HasGoodDelay (event (codes "L") End None) [] tt (All-nil HasGoodDelay) in
+    (All-cons HasGoodDelay (event (codes "G") Gap (Some (codes "write_en"))) (event (codes "L") End None ∷ []) tt second, omega arith, omega arith)
+
+timing_good : (name : Text) → HasGoodTiming (timing_of name)
+timing_good name =
+    chosen (bytes_eq name (codes "Reg")) _ _ register_good
+    (chosen (bytes_eq name (codes "SeqMult")) _ _ (one_event 3 2 (Some (codes "go")) (omega arith) (omega arith) (omega arith))
+    (chosen (bytes_eq name (codes "FastMult")) _ _ (one_event 1 2 None (omega arith) (omega arith) (omega arith))
+    (chosen (bytes_eq name (codes "Delay")) _ _ (one_event 1 1 None (omega arith) (omega arith) (omega arith))
+    (one_event 1 0 None (omega arith) (omega arith) (omega arith)))))
+
+times_good : (t : Timing) (prim : Primitive) → HasGoodTiming t → HasGoodTimes (signature_by t prim)
+times_good t prim good = record {
+  delays = good.0;
+  ins = All-mapped HasSmallInterval input_port (filter is_data_pin (inputs_of prim)) (λ k p within. (omega arith, omega arith));
+  outs = All-mapped HasSmallInterval (output_port t) (filter is_data_pin (outputs_of prim)) (λ k p within. (good.1, good.2));
+}
+
+pub primitive_times : (name : Text) (params : List ℕ) (sig : Signature) → primitive_signature name params ≡ Some sig → HasGoodTimes sig
+primitive_times name params sig is = by (filament_primitive name params) is
+  where
+    by : (o : Option Primitive) → option_map (signature_by (timing_of name)) o ≡ Some sig → HasGoodTimes sig
+    by None e = absurd (cc)
+    by (Some prim) e =
+        subst HasGoodTimes (same_Some (signature_by (timing_of name) prim) sig e) (times_good (timing_of name) prim (timing_good name))
 
 module _ (name : Text) (params : List ℕ) (is : is_filament_primitive name ≡ true) where
   pub as_primitive : (sig : Signature) → signature_in [] name params ≡ Some sig → primitive_signature name params ≡ Some sig

@@ -1,10 +1,10 @@
 -- What a number among ports, instances and invocations means.
-use Rattle.std.proofs.Common.{◌≡◌, ℕ, zero, suc, ◌+◌, ◌<◌, Bool, true, false, cond, List, [], ◌∷◌, ◌++◌, length, map, slice_get, Contains, Option, Some, None, Bor, option_map, refl, sym, ap, ap₂, subst, ◌∙◌, append_assoc, zero-add, arith, length-append, ◌↔◌}
+use Rattle.std.proofs.Common.{◌≡◌, ℕ, zero, suc, ◌+◌, ◌-◌, ◌<◌, ◌≤◌, ◌⊎◌, inl, inr, Vec, Global, Bool, true, false, cond, List, [], ◌∷◌, ◌++◌, length, map, slice_get, Contains, Option, Some, None, Bor, option_map, refl, sym, ap, ap₂, subst, ◌∙◌, append_assoc, zero-add, arith, length-append, ◌↔◌}
 use Rattle.std.specs.List.{find}
-use Rattle.std.specs.Option.{option_and_then, option_copied}
+use Rattle.std.specs.Option.{IfSome, SomeIff, option_and_then, option_copied}
 use Rattle.std.specs.Slice.{IsItemAt}
 use Rattle.std.specs.Str.{bytes_eq}
-use Rattle.std.proofs.lemmas.Bool.{false_from_ne_true}
+use Rattle.std.proofs.lemmas.Bool.{cases_lt, false_from_ne_true}
 use Rattle.std.proofs.lemmas.List.{length-map, get_or_append_left, get_or-append-add}
 use Rattle.std.proofs.lemmas.List.Elements.{Contains-append_left, Contains-append_right}
 use Rattle.std.proofs.lemmas.Option.{same_Some, slice_get-map, slice_get_past, slice_get_within, slice_get-get_or, get_or_from_slice_get}
@@ -14,7 +14,7 @@ use Rattle.hw_names.specs.Name.{Text, AreDistinct}
 use Rattle.fil_ast.specs.Naming.{port_names, invocation_names}
 use Rattle.fil_ast.specs.Scope.{Scope, Instance, Invocation, Result, input_of, output_of, instance_named, invocation_named, instance_signature, result_at, result_of, signature_in, sig_port_named}
 use Rattle.fil_ast.specs.Signature.{SigPort, Signature, sig_port}
-use Rattle.fil_ast.specs.Tree.{Component, DataPort, Interface, port_tree}
+use Rattle.fil_ast.specs.Tree.{Component, DataPort, Interface, TimeAt, port_tree}
 use Rattle.fil_ast.specs.declared.tree.FilComp.{FilComp}
 use Rattle.fil_ast.specs.declared.tree.FilPort.{FilPort}
 use Rattle.fil_ast.specs.Tree.{value_tree}
@@ -23,15 +23,20 @@ use Rattle.fil_ast.specs.declared.tree.Value.{Value}
 use Rattle.fil_ast.specs.declared.tree.Value.TheVariants as values
 use Rattle.hw_names.proofs.NameLemmas.{text_of-slice_get}
 use Rattle.hw_names.specs.declared.names.NameId.{NameId}
-use Rattle.fil_check.specs.Tables.{IsPlace, instance_of, made_signature, meant_signature}
+use Rattle.fil_check.specs.Tables.{IsPlace, instance_of, made_signature, meant_signature, times_of, times_shown}
 use Rattle.fil_check.specs.declared.tables.Earlier.{Earlier}
 use Rattle.fil_check.specs.declared.tables.Tables.{Tables}
+use Rattle.fil_check.specs.declared.times.Offset.{Offset}
 use Rattle.fil_check.proofs.Lookup.{find_at_place, find_nowhere}
 
 -- what `get` answers, as a look-up
 pub got : {X : Type 0} (xs : List X) (i : ℕ) (r : Option (Bor X)) → IsItemAt xs i r → option_copied r ≡ slice_get xs i
 got xs i None h = sym (slice_get_past xs i h.3)
 got xs i (Some x) h = sym (slice_get-get_or xs i x.now h.3.0 ∙ ap Some (sym h.1))
+
+pub got_among : {X : Type 0} (xs : List X) (i : ℕ) (r : Option (Bor X)) → IsItemAt xs i r → IfSome r (λ (x : Bor X). Contains xs x.now)
+got_among xs i None h = tt
+got_among xs i (Some x) h = (i, h.3.0, sym h.1)
 
 -- nothing is found, so it is not there
 pub not_found : (P : Type 0) → ((false ≡ true) ↔ P) → P → ⊥
@@ -208,14 +213,37 @@ module _ (names : List Text) (earlier : Earlier) (comp : FilComp) (tables : Tabl
           before_midst (λ (v : Invocation). v.name) (port_names scope.comp) scope.invocations [] tables.ports are_invocations name distinct n at
           (omega (arith, count_ports))
 
-      pub invocation_there : (k : ℕ) (r : Option (Bor ℕ)) → n ≡ ((length comp.gos.items + length comp.ins.items) + length comp.outs.items) + k → IsItemAt tables.invoked.items k r
-          → option_map (slice_get tables.instances) (option_copied r) ≡ option_map instance_of (invocation_named scope.invocations name)
-      invocation_there k r is item =
-          ap (option_map (slice_get tables.instances)) (got tables.invoked.items k r item)
-          ∙ sym (slice_get-map (slice_get tables.instances) tables.invoked.items k)
-          ∙ ap (λ os. slice_get os k) place.shows.invoked
-          ∙ slice_get-map instance_of scope.invocations k
-          ∙ ap (option_map instance_of) (sym (at_midst (λ (v : Invocation). v.name) (port_names scope.comp) scope.invocations [] tables.ports are_invocations name distinct n at k (omega (arith, count_ports))))
+      invocation_there : (k : ℕ) → n ≡ ((length comp.gos.items + length comp.ins.items) + length comp.outs.items) + k → slice_get scope.invocations k ≡ invocation_named scope.invocations name
+      invocation_there k is = sym (at_midst (λ (v : Invocation). v.name) (port_names scope.comp) scope.invocations [] tables.ports are_invocations name distinct n at k (omega (arith, count_ports)))
+
+      -- its number, where the number of its name is past those of ports
+      pub invocation_place : (outs count : ℕ) (r : Option ℕ) → n ≡ (length comp.gos.items + length comp.ins.items) + outs → count ≡ length comp.outs.items → SomeIff r (count ≤ outs) (outs - count)
+          → option_and_then (slice_get scope.invocations) r ≡ invocation_named scope.invocations name
+      invocation_place outs count None is counted past = sym (no_invocation_before (by (cases_lt outs count)))
+        where
+          by : (outs < count) ⊎ (count ≤ outs) → n < (length comp.gos.items + length comp.ins.items) + length comp.outs.items
+          by (inl early) = omega arith
+          by (inr late) = absurd (past late)
+      invocation_place outs count (Some k) is counted (late, here) = invocation_there k (omega arith)
+
+  -- what an invocation gives, by its number
+  pub invoked_at : (k : ℕ) (r : Option (Bor ℕ)) → IsItemAt tables.invoked.items k r → option_map (slice_get tables.instances) (option_copied r) ≡ option_map instance_of (slice_get scope.invocations k)
+  invoked_at k r item =
+      ap (option_map (slice_get tables.instances)) (got tables.invoked.items k r item)
+      ∙ sym (slice_get-map (slice_get tables.instances) tables.invoked.items k)
+      ∙ ap (λ os. slice_get os k) place.shows.invoked
+      ∙ slice_get-map instance_of scope.invocations k
+
+  pub given_at : (k : ℕ) (r : Option (Bor (Vec Offset Global))) → IsItemAt tables.times.items k r → option_map (λ (at : Bor (Vec Offset Global)). times_shown tables.events at.now) r ≡ option_map times_of (slice_get scope.invocations k)
+  given_at k r item =
+      composed r ∙ ap (option_map (times_shown tables.events)) (got tables.times.items k r item)
+      ∙ sym (slice_get-map (times_shown tables.events) tables.times.items k)
+      ∙ ap (λ (os : List (List (Option TimeAt))). slice_get os k) place.shows.times
+      ∙ slice_get-map times_of scope.invocations k
+    where
+      composed : (r : Option (Bor (Vec Offset Global))) → option_map (λ (at : Bor (Vec Offset Global)). times_shown tables.events at.now) r ≡ option_map (times_shown tables.events) (option_copied r)
+      composed None = refl
+      composed (Some at) = refl
 
 -- what an instance is made of, by its place
 module _ (names : List Text) (earlier : Earlier) (comp : FilComp) (tables : Tables) (scope : Scope) (place : IsPlace names earlier comp tables scope) (name : Text) where

@@ -1,15 +1,18 @@
 -- That the tables of a place show what its names mean. This project's.
-use Rattle.std.specs.Prelude.{◌≡◌, ℕ, List, [], ◌∷◌, ◌++◌, map, slice_get, Option, Some, None, option_and_then}
+use Rattle.std.specs.Prelude.{◌≡◌, ℕ, suc, List, [], ◌∷◌, ◌++◌, map, length, slice_get, slice_set, slice_index_or, if◌then◌else◌, bytes_eq, Option, Some, None, Vec, option_and_then}
+use Rattle.std.specs.declared.alloc.Global.{Global}
 use Rattle.hw_names.specs.Name.{Text, AreDistinct}
 use Rattle.fil_ast.specs.Naming.{component_names, event_names, port_names, instance_names, invocation_names}
 use Rattle.fil_ast.specs.Scope.{Scope, Instance, Invocation, instances_at, invocations_at, instance_signature, signature_in}
 use Rattle.fil_ast.specs.Signature.{Signature, component_signature}
-use Rattle.fil_ast.specs.Tree.{Statement, New, Call, Both, Connect, Design, component_tree}
+use Rattle.fil_ast.specs.Tree.{TimeAt, Statement, New, Call, Both, Connect, Design, component_tree}
 use Rattle.fil_ast.specs.declared.tree.FilComp.{FilComp}
+use Rattle.fil_check.specs.Times.{AreTimes, known, time_shown}
 use Rattle.fil_check.specs.declared.tables.Earlier.{Earlier}
 use Rattle.fil_check.specs.declared.tables.Made.{Made}
 use Rattle.fil_check.specs.declared.tables.Made.TheVariants as made
 use Rattle.fil_check.specs.declared.tables.Tables.{Tables}
+use Rattle.fil_check.specs.declared.times.Offset.{Offset}
 
 -- the components before one
 pub record ShowsEarlier (earlier : Earlier) (comps : Design) : Type 0 where
@@ -27,6 +30,24 @@ meant_signature comps i = signature_in comps i.made i.params
 abbrev pub instance_of : Invocation → Option Text
 instance_of v = Some v.inst
 
+-- the times of these offsets
+abbrev pub times_shown : List Text → Vec Offset Global → List (Option TimeAt)
+times_shown events at = map (time_shown events) at.items
+
+abbrev pub times_of : Invocation → List (Option TimeAt)
+times_of v = map known v.gives.times
+
+-- the numbers of the invocations of an instance, counted from k
+abbrev pub calls_from : ℕ → Text → List Invocation → List ℕ
+calls_from k inst [] = []
+calls_from k inst (v ∷ invocations) = if bytes_eq v.inst inst then k ∷ calls_from (suc k) inst invocations else calls_from (suc k) inst invocations
+
+abbrev pub calls_of : List Invocation → Instance → List ℕ
+calls_of invocations i = calls_from 0 i.name invocations
+
+abbrev pub listed : Vec ℕ Global → List ℕ
+listed numbers = numbers.items
+
 -- what names mean in a scope
 pub record Shows (earlier : Earlier) (tables : Tables) (scope : Scope) : Type 0 where
   pub components : ShowsEarlier earlier scope.comps
@@ -36,6 +57,8 @@ pub record Shows (earlier : Earlier) (tables : Tables) (scope : Scope) : Type 0 
   pub distinct : AreDistinct (instance_names scope.instances)
   pub made : map (made_signature earlier) tables.made.items ≡ map (meant_signature scope.comps) scope.instances
   pub invoked : map (slice_get tables.instances) tables.invoked.items ≡ map instance_of scope.invocations
+  pub times : map (times_shown tables.events) tables.times.items ≡ map times_of scope.invocations
+  pub calls : map listed tables.calls.items ≡ map (calls_of scope.invocations) scope.instances
 
 -- the scope after one more statement
 abbrev pub grown : Scope → Statement → Scope
@@ -61,18 +84,31 @@ IsMadeAt earlier comps made (Both name of params gives) = option_and_then (made_
 IsMadeAt earlier comps made (Call name inst gives) = made ≡ None
 IsMadeAt earlier comps made (Connect output value) = made ≡ None
 
--- a new instance stands last
+-- these offsets are the times that the statement gives
+abbrev pub AreTimesOf : List Text → List Offset → Statement → Type 0
+AreTimesOf events at (New name made params) = Unit {0}
+AreTimesOf events at (Connect output value) = Unit {0}
+AreTimesOf events at (Call name inst gives) = AreTimes events at gives.times
+AreTimesOf events at (Both name made params gives) = AreTimes events at gives.times
+
+-- a new instance stands last, without invocations
 pub record AddsInstance (old new : Tables) (name : Text) (made : Made) : Type 0 where
   pub instances : new.instances ≡ old.instances ++ name ∷ []
   pub made_of : new.made.items ≡ old.made.items ++ made ∷ []
+  pub calls : map listed new.calls.items ≡ map listed old.calls.items ++ [] ∷ []
   pub events : new.events ≡ old.events
   pub ports : new.ports ≡ old.ports
   pub invoked : new.invoked.items ≡ old.invoked.items
+  pub times : new.times.items ≡ old.times.items
+  pub connected : new.connected ≡ old.connected
 
--- a new invocation stands last
-pub record AddsInvocation (old new : Tables) (name : Text) (instance : ℕ) : Type 0 where
+-- a new invocation stands last, with its times, and last among those of its instance
+pub record AddsInvocation (old new : Tables) (name : Text) (instance : ℕ) (at : Vec Offset Global) : Type 0 where
   pub ports : new.ports ≡ old.ports ++ name ∷ []
   pub invoked : new.invoked.items ≡ old.invoked.items ++ instance ∷ []
+  pub times : new.times.items ≡ old.times.items ++ at ∷ []
+  pub calls : map listed new.calls.items ≡ slice_set (map listed old.calls.items) instance (slice_index_or (map listed old.calls.items) instance [] ++ length old.invoked.items ∷ [])
   pub events : new.events ≡ old.events
   pub instances : new.instances ≡ old.instances
   pub made : new.made.items ≡ old.made.items
+  pub connected : new.connected ≡ old.connected

@@ -3,6 +3,7 @@ ghost use Rattle.std.specs.Prelude.{◌≡◌, option_map, IfOk};
 ghost use Rattle.hw_names.specs.Name.{AreDistinct};
 ghost use Rattle.fil_ast.specs.Scope.{sig_port_named};
 ghost use Rattle.fil_sig.specs.Seen.{seen, seen_port};
+ghost use Rattle.fil_check.specs.Callees.{HasGoodTimes};
 ghost use Rattle.fil_check.specs.Outputs.{output_names};
 
 use fil_sig::{SigPort, TimeSig, add_name};
@@ -11,7 +12,7 @@ use hw_names::Names;
 use std::alloc::Global;
 use std::marker::Model;
 
-/// A signature, and the names of its outputs, which differ.
+/// A signature with small offsets and delays, and the names of its outputs, which differ.
 #[derive(Drop)]
 pub struct Callee {
     sig: TimeSig,
@@ -23,19 +24,21 @@ impl Model for Callee {
     ghost use Rattle.hw_names.specs.Name.{AreDistinct};
     ghost use Rattle.fil_ast.specs.Signature.{Signature};
     ghost use Rattle.fil_sig.specs.Seen.{seen};
+    ghost use Rattle.fil_check.specs.Callees.{HasGoodTimes};
     ghost use Rattle.fil_check.specs.Outputs.{output_names};
 
     ghost Value = { Signature };
 
     ghost view = { λ callee. seen callee.sig };
 
-    ghost invariant = { λ callee. (callee.outs ≡ output_names (seen callee.sig)) × AreDistinct callee.outs };
+    ghost invariant = { λ callee. (callee.outs ≡ output_names (seen callee.sig)) × AreDistinct callee.outs × HasGoodTimes (seen callee.sig) };
 }
 
 impl Callee {
     /// The signature, whose outputs can be looked up by name from then on.
     pub fn make(alloc: Global, sig: TimeSig) -> Result<Callee, Memory>
-        requires { AreDistinct (output_names (seen sig)) }
+        requires outputs { AreDistinct (output_names (seen sig)) }
+        requires times { HasGoodTimes (seen sig) }
         ensures { IfOk result (λ callee. callee ≡ seen sig) }
     {
         let mut outs = Names::new(alloc);
@@ -47,7 +50,8 @@ impl Callee {
 
     /// The signature.
     pub fn sig(&self) -> &TimeSig
-        ensures { seen result.now ≡ self.now }
+        ensures same { seen result.now ≡ self.now }
+        ensures times { HasGoodTimes (seen result.now) }
     {
         &self.sig
     }

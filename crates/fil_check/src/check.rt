@@ -1,53 +1,77 @@
 //! The rules of a design.
-ghost use Rattle.std.specs.Prelude.{[], ◌∷◌, ◌++◌, IfErr, OnOk};
+ghost use Rattle.std.specs.Prelude.{◌≡◌, [], ◌∷◌, ◌++◌, IfErr, IfOk, OnOk};
 ghost use Rattle.fil_ast.specs.Limits.{KeepsLimits, HasSmallOffsets};
 ghost use Rattle.fil_ast.specs.Numbers.{ComponentHasNumbers, HasNumbers};
-ghost use Rattle.fil_ast.specs.Rules.{KeepsComponent, KeepsRules, first_five};
+ghost use Rattle.fil_ast.specs.Rules.{FilRules, KeepsComponent, all_rules};
 ghost use Rattle.fil_ast.specs.Tree.{Design, component_tree, design_of};
-ghost use Rattle.fil_check.specs.First.{TellsFirst};
+ghost use Rattle.fil_check.specs.First.{ComponentIs, TellsFirst};
 ghost use Rattle.fil_check.specs.Tables.{ShowsEarlier};
 
 use crate::callee::Callee;
 use crate::component::judge_component;
-use crate::rules::{CompEnd, FilEnd};
+use crate::rules::{Broken, CompEnd, Evidence, FilEnd};
 use crate::tables::Earlier;
-use fil_ast::{FilComp, FilDesign};
+use crate::wired::{Wired, add_wires};
+use fil_ast::{FilComp, FilDesign, FilOk};
 use fil_sig::{add_name, component_signature};
 use hw_bits::Memory;
-use hw_names::Names;
+use hw_names::{NameId, Names};
 use std::alloc::Global;
 
-/// Judges a design by F1 to F5. A refusal tells the first that is broken: components in text order, in each the
-/// items in order (0 is the signature, then the statements from 1 on), at each item the least rule.
-pub fn check_fil(alloc: Global, design: &FilDesign) -> Result<(), FilEnd>
+/// Judges a design by F1 to F14. A refusal tells the first rule that is broken, with its evidence: components in text
+/// order, in each the items in order (0 is the signature, then the statements from 1 on, then the end of the body), at
+/// each item the least rule. F14 comes after all others, at item 0 of the first component that has a loop.
+pub fn check_fil<'a>(alloc: Global, design: &'a FilDesign) -> Result<FilOk<'a>, FilEnd>
     requires numbers { HasNumbers design.now }
     requires small { HasSmallOffsets design.now }
-    ensures kept { OnOk result (KeepsRules first_five (design_of design.now)) }
+    ensures kept { OnOk result (FilRules (design_of design.now)) }
+    ensures design { IfOk result (λ ok. ok ≡ design.now) }
     ensures refused { IfErr result (TellsFirst design.now) }
 {
     let mut earlier = Earlier {
         names: Names::new(alloc),
         callees: Vec::new(alloc),
     };
+    let mut wired = Wired::Free(Vec::new(alloc));
     for comp in &design.comps {
-        match judge_component(alloc, &design.names, &earlier, comp) {
-            Ok(()) => {}
-            Err(CompEnd::Broken { rule, item }) => {
-                return Err(FilEnd::Refused {
-                    rule,
-                    comp: comp.name,
-                    item,
-                });
-            }
-            Err(CompEnd::Memory) => return Err(FilEnd::Memory),
-        }
+        let tables = match judge_component(alloc, &design.names, &earlier, comp) {
+            Ok(tables) => tables,
+            Err(end) => return Err(in_component(comp.name, end)),
+        };
+        wired = add_wires(alloc, &design.names, &earlier, wired, comp, &tables)?;
         add_component(alloc, &design.names, &mut earlier, comp)?;
     }
-    Ok(())
+    match wired {
+        Wired::Free(_wires) => Ok(FilOk::new(design)),
+        Wired::Looped { comp, ports } => Err(FilEnd::Refused {
+            rule: 14,
+            comp,
+            item: 0,
+            evidence: Evidence::Loop(ports),
+        }),
+    }
+}
+
+/// The end of a component as its design's end.
+fn in_component(comp: NameId, end: CompEnd) -> FilEnd
+    ensures { ComponentIs comp end result }
+{
+    match end {
+        CompEnd::Broken {
+            item,
+            broken: Broken { rule, evidence },
+        } => FilEnd::Refused {
+            rule,
+            comp,
+            item,
+            evidence,
+        },
+        CompEnd::Memory => FilEnd::Memory,
+    }
 }
 
 /// Puts a component that keeps the rules last.
-fn add_component(
+pub fn add_component(
     alloc: Global,
     names: &Names,
     earlier: &mut Earlier,
@@ -55,7 +79,7 @@ fn add_component(
 ) -> Result<(), Memory>
     requires numbers { ComponentHasNumbers names.now comp.now }
     requires small { KeepsLimits comp.now }
-    requires kept { (comps : Design) × ShowsEarlier earlier.old comps × KeepsComponent first_five comps (component_tree names.now comp.now) }
+    requires kept { (comps : Design) × ShowsEarlier earlier.old comps × KeepsComponent all_rules comps (component_tree names.now comp.now) }
     ensures { (comps : Design) → ShowsEarlier earlier.old comps
         → OnOk result (ShowsEarlier earlier.new (comps ++ component_tree names.now comp.now ∷ [])) }
 {

@@ -1,13 +1,17 @@
-//! The rules F1 to F5 of a component: its signature, and its statements one after another.
-ghost use Rattle.std.specs.Prelude.{[], IfErr, OnOk};
+//! The rules F1 to F13 of a component: its signature, its statements one after another, and the end of its body.
+ghost use Rattle.std.specs.Prelude.{[], IfErr, IfOk, OnOk};
 ghost use Rattle.fil_ast.specs.Items.{scope_after};
+ghost use Rattle.fil_ast.specs.Limits.{KeepsLimits};
 ghost use Rattle.fil_ast.specs.Numbers.{ComponentHasNumbers};
-ghost use Rattle.fil_ast.specs.Rules.{KeepsComponent, first_five};
+ghost use Rattle.fil_ast.specs.Rules.{KeepsComponent, all_rules};
 ghost use Rattle.fil_ast.specs.Tree.{Design, component_tree};
-ghost use Rattle.fil_check.specs.First.{KeepsBefore, TellsItem};
-ghost use Rattle.fil_check.specs.Tables.{Shows, ShowsEarlier};
+ghost use Rattle.fil_ast.specs.Wires.{whole_scope};
+ghost use Rattle.fil_check.specs.First.{ItemIs, KeepsBefore, TellsItem};
+ghost use Rattle.fil_check.specs.Place.{StandsAt};
+ghost use Rattle.fil_check.specs.Tables.{IsPlace, ShowsEarlier};
 
-use crate::rules::{CompEnd, ItemEnd};
+use crate::connected::connects_all;
+use crate::rules::{CompEnd, ItemEnd, breaks};
 use crate::signature::judge_signature;
 use crate::statement::judge_statement;
 use crate::tables::{Earlier, Tables};
@@ -15,16 +19,19 @@ use fil_ast::FilComp;
 use hw_names::Names;
 use std::alloc::Global;
 
-/// Judges a component, after those before it.
+/// Judges a component, after those before it. Gives the tables of its whole body where it keeps the rules.
 pub fn judge_component(
     alloc: Global,
     names: &Names,
     earlier: &Earlier,
     comp: &FilComp,
-) -> Result<(), CompEnd>
+) -> Result<Tables, CompEnd>
     requires numbers { ComponentHasNumbers names.now comp.now }
+    requires small { KeepsLimits comp.now }
     ensures kept { (comps : Design) → ShowsEarlier earlier.now comps
-        → OnOk result (KeepsComponent first_five comps (component_tree names.now comp.now)) }
+        → OnOk result (KeepsComponent all_rules comps (component_tree names.now comp.now)) }
+    ensures tables { (comps : Design) → ShowsEarlier earlier.now comps
+        → IfOk result (λ tables. IsPlace names.now earlier.now comp.now tables (whole_scope comps (component_tree names.now comp.now))) }
     ensures broken { (comps : Design) → ShowsEarlier earlier.now comps
         → IfErr result (TellsItem comps (component_tree names.now comp.now)) }
 {
@@ -32,8 +39,7 @@ pub fn judge_component(
     let mut ports = Names::new(alloc);
     match judge_signature(alloc, names, &earlier.names, comp, &mut events, &mut ports) {
         Ok(()) => {}
-        Err(ItemEnd::Broken { rule }) => return Err(CompEnd::Broken { rule, item: 0 }),
-        Err(ItemEnd::Memory) => return Err(CompEnd::Memory),
+        Err(end) => return Err(at_item(0, end)),
     }
     let mut tables = Tables {
         events,
@@ -41,12 +47,26 @@ pub fn judge_component(
         instances: Names::new(alloc),
         made: Vec::new(alloc),
         invoked: Vec::new(alloc),
+        times: Vec::new(alloc),
+        calls: Vec::new(alloc),
+        connected: Names::new(alloc),
     };
-    judge_body(alloc, names, earlier, comp, &mut tables)
+    judge_body(alloc, names, earlier, comp, &mut tables)?;
+    Ok(tables)
 }
 
-/// Judges the statements of a component whose signature keeps the rules, and puts what they make into the
-/// tables.
+/// The end of an item as its component's end.
+fn at_item(item: u64, end: ItemEnd) -> CompEnd
+    ensures { ItemIs item end result }
+{
+    match end {
+        ItemEnd::Broken(broken) => CompEnd::Broken { item, broken },
+        ItemEnd::Memory => CompEnd::Memory,
+    }
+}
+
+/// Judges the statements of a component whose signature keeps the rules, and the end of its body, and puts what the
+/// statements make into the tables.
 fn judge_body(
     alloc: Global,
     names: &Names,
@@ -55,10 +75,13 @@ fn judge_body(
     tables: &mut Tables,
 ) -> Result<(), CompEnd>
     requires numbers { ComponentHasNumbers names.now comp.now }
-    ensures kept { (comps : Design) → Shows earlier.now tables.old (scope_after comps (component_tree names.now comp.now) [])
+    requires small { KeepsLimits comp.now }
+    ensures kept { (comps : Design) → StandsAt names.now earlier.now comp.now tables.old (scope_after comps (component_tree names.now comp.now) []) []
         → KeepsBefore comps (component_tree names.now comp.now) 1
-        → OnOk result (KeepsComponent first_five comps (component_tree names.now comp.now)) }
-    ensures broken { (comps : Design) → Shows earlier.now tables.old (scope_after comps (component_tree names.now comp.now) [])
+        → OnOk result (KeepsComponent all_rules comps (component_tree names.now comp.now)) }
+    ensures tables { (comps : Design) → StandsAt names.now earlier.now comp.now tables.old (scope_after comps (component_tree names.now comp.now) []) []
+        → OnOk result (IsPlace names.now earlier.now comp.now tables.new (whole_scope comps (component_tree names.now comp.now))) }
+    ensures broken { (comps : Design) → StandsAt names.now earlier.now comp.now tables.old (scope_after comps (component_tree names.now comp.now) []) []
         → KeepsBefore comps (component_tree names.now comp.now) 1
         → IfErr result (TellsItem comps (component_tree names.now comp.now)) }
 {
@@ -67,9 +90,11 @@ fn judge_body(
         item += 1;
         match judge_statement(alloc, names, earlier, comp, tables, stmt) {
             Ok(()) => {}
-            Err(ItemEnd::Broken { rule }) => return Err(CompEnd::Broken { rule, item }),
-            Err(ItemEnd::Memory) => return Err(CompEnd::Memory),
+            Err(end) => return Err(at_item(item, end)),
         }
+    }
+    if !connects_all(names, comp, &tables.connected) {
+        return Err(at_item(item + 1, breaks(9)));
     }
     Ok(())
 }

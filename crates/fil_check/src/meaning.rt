@@ -1,5 +1,5 @@
 //! What a name means at a place: a data input, an output, an invocation, an instance or a value.
-ghost use Rattle.std.specs.Prelude.{◌≡◌, List, Some, slice_get, option_map};
+ghost use Rattle.std.specs.Prelude.{◌≡◌, List, Some, Contains, slice_get, option_and_then, option_map, IfSome};
 ghost use Rattle.hw_names.specs.Name.{Text};
 ghost use Rattle.fil_ast.specs.Numbers.{ValueHasNumbers};
 ghost use Rattle.fil_ast.specs.Scope.{Scope, Result, input_of, instance_signature, invocation_named, output_of, result_of};
@@ -8,19 +8,21 @@ ghost use Rattle.fil_ast.specs.Tree.{port_tree, value_tree};
 ghost use Rattle.fil_ast.specs.Typing.{value_width};
 ghost use Rattle.fil_ast.specs.declared.tree.FilComp.{FilComp};
 ghost use Rattle.fil_sig.specs.Seen.{seen_port};
-ghost use Rattle.fil_check.specs.Tables.{IsPlace, instance_of, made_signature};
+ghost use Rattle.fil_check.specs.Tables.{IsPlace, instance_of, made_signature, times_of, times_shown};
 ghost use Rattle.fil_check.specs.declared.tables.Earlier.{Earlier};
 
 use crate::callee::Callee;
 use crate::tables::{Earlier, Made, Tables};
+use crate::times::Offset;
 use fil_ast::{FilComp, FilPort, Value};
 use fil_sig::SigPort;
 use hw_names::Names;
 
 /// The data input of this name.
 pub fn input<'a>(comp: &'a FilComp, tables: &Tables, name: &[u8]) -> Option<&'a FilPort>
-    ensures { (names : List Text) (earlier : Earlier) (scope : Scope) → IsPlace names earlier comp.now tables.now scope
+    ensures meaning { (names : List Text) (earlier : Earlier) (scope : Scope) → IsPlace names earlier comp.now tables.now scope
         → option_map (λ port. sig_port scope.comp.events (port_tree names port.now)) result ≡ input_of scope name.now }
+    ensures among { IfSome result (λ port. Contains comp.now.ins.items port.now) }
 {
     let number = tables.ports.find(name)?.0 as usize;
     let place = number.checked_sub(comp.gos.len())?;
@@ -29,8 +31,9 @@ pub fn input<'a>(comp: &'a FilComp, tables: &Tables, name: &[u8]) -> Option<&'a 
 
 /// The output of this name.
 pub fn output<'a>(comp: &'a FilComp, tables: &Tables, name: &[u8]) -> Option<&'a FilPort>
-    ensures { (names : List Text) (earlier : Earlier) (scope : Scope) → IsPlace names earlier comp.now tables.now scope
+    ensures meaning { (names : List Text) (earlier : Earlier) (scope : Scope) → IsPlace names earlier comp.now tables.now scope
         → option_map (λ port. sig_port scope.comp.events (port_tree names port.now)) result ≡ output_of scope name.now }
+    ensures among { IfSome result (λ port. Contains comp.now.outs.items port.now) }
 {
     let number = tables.ports.find(name)?.0 as usize;
     let data = number.checked_sub(comp.gos.len())?;
@@ -38,15 +41,32 @@ pub fn output<'a>(comp: &'a FilComp, tables: &Tables, name: &[u8]) -> Option<&'a
     comp.outs.get(place)
 }
 
+/// The number of the invocation of this name.
+fn invocation(comp: &FilComp, tables: &Tables, name: &[u8]) -> Option<usize>
+    ensures { (names : List Text) (earlier : Earlier) (scope : Scope) → IsPlace names earlier comp.now tables.now scope
+        → option_and_then (slice_get scope.invocations) result ≡ invocation_named scope.invocations name.now }
+{
+    let number = tables.ports.find(name)?.0 as usize;
+    let data = number.checked_sub(comp.gos.len())?;
+    let outs = data.checked_sub(comp.ins.len())?;
+    outs.checked_sub(comp.outs.len())
+}
+
+/// The times that the invocation of this name gives.
+pub fn given_by<'a>(comp: &FilComp, tables: &'a Tables, name: &[u8]) -> Option<&'a Vec<Offset>>
+    ensures { (names : List Text) (earlier : Earlier) (scope : Scope) → IsPlace names earlier comp.now tables.now scope
+        → option_map (λ at. times_shown tables.now.events at.now) result ≡ option_map times_of (invocation_named scope.invocations name.now) }
+{
+    let place = invocation(comp, tables, name)?;
+    tables.times.get(place)
+}
+
 /// The number of the instance that the invocation of this name invokes.
 pub fn invoked_by(comp: &FilComp, tables: &Tables, name: &[u8]) -> Option<usize>
     ensures { (names : List Text) (earlier : Earlier) (scope : Scope) → IsPlace names earlier comp.now tables.now scope
         → option_map (slice_get tables.now.instances) result ≡ option_map instance_of (invocation_named scope.invocations name.now) }
 {
-    let number = tables.ports.find(name)?.0 as usize;
-    let data = number.checked_sub(comp.gos.len())?;
-    let outs = data.checked_sub(comp.ins.len())?;
-    let place = outs.checked_sub(comp.outs.len())?;
+    let place = invocation(comp, tables, name)?;
     tables.invoked.get(place).copied()
 }
 
@@ -61,7 +81,11 @@ pub fn callee_made<'a>(earlier: &'a Earlier, made: &'a Made) -> Option<&'a Calle
 }
 
 /// The signature of the instance with this number.
-fn callee_at<'a>(earlier: &'a Earlier, tables: &'a Tables, instance: usize) -> Option<&'a Callee>
+pub fn callee_at<'a>(
+    earlier: &'a Earlier,
+    tables: &'a Tables,
+    instance: usize,
+) -> Option<&'a Callee>
     ensures { (names : List Text) (comp : FilComp) (scope : Scope) (name : Text) → IsPlace names earlier.now comp tables.now scope
         → slice_get tables.now.instances instance ≡ Some name
         → option_map (λ callee. callee.now) result ≡ instance_signature scope name }
@@ -79,7 +103,7 @@ pub fn callee_named<'a>(earlier: &'a Earlier, tables: &'a Tables, name: &[u8]) -
 }
 
 /// The output of this name of an invocation.
-fn result_port<'a>(
+pub fn result_port<'a>(
     earlier: &'a Earlier,
     comp: &FilComp,
     tables: &'a Tables,

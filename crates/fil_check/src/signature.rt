@@ -1,13 +1,15 @@
-//! The rules F1, F2, F3 and F5 at a component's signature.
+//! The rules F1, F2, F3, F5 and F6 at a component's signature.
 ghost use Rattle.std.specs.Prelude.{◌≡◌, ◌↔◌, [], true, false, Ok, All, IsTrue, IfErr, OnOk, IfOk};
+ghost use Rattle.fil_ast.specs.Evidence.{Nothing};
 ghost use Rattle.fil_ast.specs.Naming.{HasNewNames, NamesEvents, component_names, event_names, port_names};
 ghost use Rattle.fil_ast.specs.Numbers.{ComponentHasNumbers};
-ghost use Rattle.fil_ast.specs.Rules.{AtSignature, first_five};
+ghost use Rattle.fil_ast.specs.Rules.{AtSignature, all_rules};
 ghost use Rattle.fil_ast.specs.Tree.{Design, component_tree};
 ghost use Rattle.fil_check.specs.Least.{TellsLeast};
 
 use crate::names::{are_among, event_ids, is_any_primitive, port_ids, take_names, used_event_ids};
-use crate::rules::ItemEnd;
+use crate::rules::{ItemEnd, breaks};
+use crate::short::has_short_ports;
 use fil_ast::FilComp;
 use fil_sig::{has_shape, has_widths};
 use hw_bits::Memory;
@@ -64,7 +66,7 @@ fn names_events(
     Ok(are_among(names, &used, events))
 }
 
-/// Judges a component's signature by F1, F2, F3 and F5, after components of the names `known`, and puts the
+/// Judges a component's signature by F1, F2, F3, F5 and F6, after components of the names `known`, and puts the
 /// names of its events and of its ports into the two lists where it keeps them.
 pub fn judge_signature(
     alloc: Global,
@@ -78,23 +80,26 @@ pub fn judge_signature(
     requires no_events { events.old ≡ [] }
     requires no_ports { ports.old ≡ [] }
     ensures kept { (earlier : Design) → known.now ≡ component_names earlier
-        → OnOk result (All (λ rule. AtSignature rule earlier (component_tree names.now comp.now)) first_five) }
+        → OnOk result (All (λ rule. AtSignature rule earlier (component_tree names.now comp.now)) all_rules) }
     ensures broken { (earlier : Design) → known.now ≡ component_names earlier
-        → IfErr result (TellsLeast (λ rule. AtSignature rule earlier (component_tree names.now comp.now))) }
+        → IfErr result (TellsLeast (λ rule. AtSignature rule earlier (component_tree names.now comp.now)) (λ rule evidence. evidence ≡ Nothing)) }
     ensures events { OnOk result (events.new ≡ event_names (component_tree names.now comp.now)) }
     ensures ports { OnOk result (ports.new ≡ port_names (component_tree names.now comp.now)) }
 {
     if !has_new_names(alloc, names, known, comp, events, ports)? {
-        return Err(ItemEnd::Broken { rule: 1 });
+        return Err(breaks(1));
     }
     if !names_events(alloc, names, comp, events)? {
-        return Err(ItemEnd::Broken { rule: 2 });
+        return Err(breaks(2));
     }
     if !has_widths(comp) {
-        return Err(ItemEnd::Broken { rule: 3 });
+        return Err(breaks(3));
     }
     if !has_shape(alloc, names, comp)? {
-        return Err(ItemEnd::Broken { rule: 5 });
+        return Err(breaks(5));
+    }
+    if !has_short_ports(names, comp, events) {
+        return Err(breaks(6));
     }
     Ok(())
 }

@@ -1,16 +1,20 @@
-//! The rules F1 to F4 at a statement.
-ghost use Rattle.std.specs.Prelude.{◌≡◌, ◌↔◌, List, All, Some, IsTrue, IfErr, IfOk, IfSome, OnOk, option_map};
+//! The rules F1 to F13 at a statement.
+ghost use Rattle.std.specs.Prelude.{◌≡◌, ◌↔◌, ◌<◌, [], ◌∷◌, ◌++◌, ℕ, List, length, All, Some, IsTrue, IfErr, IfOk, IfSome, OnOk, option_map};
 ghost use Rattle.hw_names.specs.Name.{text_of};
+ghost use Rattle.fil_ast.specs.Limits.{KeepsStatementLimit};
 ghost use Rattle.fil_ast.specs.Naming.{MakesNewNames, UsesKnownNames};
 ghost use Rattle.fil_ast.specs.Numbers.{ComponentHasNumbers, IsNumberOf, StatementHasNumbers, TimeHasNumber, ValueHasNumbers};
-ghost use Rattle.fil_ast.specs.Rules.{AtStatement, first_five};
+ghost use Rattle.fil_ast.specs.Refusal.{ShowsAtStatement};
+ghost use Rattle.fil_ast.specs.Rules.{AtStatement, all_rules};
 ghost use Rattle.fil_ast.specs.Scope.{Scope, output_of};
-ghost use Rattle.fil_ast.specs.Tree.{Design, Statement, component_tree, giving, statement_tree, value_tree};
+ghost use Rattle.fil_ast.specs.Tree.{Design, Statement, giving, statement_tree, value_tree};
 ghost use Rattle.fil_ast.specs.Typing.{GivesEach, GivesWidths, KeepsNumbers, KeepsWidths, value_width};
 ghost use Rattle.fil_ast.specs.declared.tree.FilComp.{FilComp};
 ghost use Rattle.fil_ast.specs.declared.tree.Time.{Time};
 ghost use Rattle.fil_check.specs.Least.{TellsLeast};
-ghost use Rattle.fil_check.specs.Tables.{IsMadeAt, IsPlace, Shows, ShowsEarlier, grown, signature_at};
+ghost use Rattle.fil_check.specs.Place.{StandsAt, with_instance};
+ghost use Rattle.fil_check.specs.Stages.{HoldsUses, KeepsFrom, KeptAt, ShownAt, TellsFrom};
+ghost use Rattle.fil_check.specs.Tables.{AreTimesOf, IsMadeAt, IsPlace, Shows, ShowsEarlier, calls_from, grown, signature_at};
 ghost use Rattle.fil_check.specs.declared.tables.Earlier.{Earlier};
 
 use crate::callee::Callee;
@@ -19,8 +23,12 @@ use crate::grow::grow;
 use crate::literal::literal_fits;
 use crate::made::{is_made_of, made_of};
 use crate::meaning::{callee_made, callee_named, output, value_width};
-use crate::rules::ItemEnd;
+use crate::offsets::given_at;
+use crate::rules::{ItemEnd, breaks};
+use crate::sharing::judge_sharing;
 use crate::tables::{Earlier, Made, Tables};
+use crate::times::Offset;
+use crate::timing::judge_timing;
 use fil_ast::{FilComp, Stmt, Time, Value};
 use hw_bits::Memory;
 use hw_names::{NameId, Names};
@@ -213,8 +221,148 @@ fn callee_of<'a>(
     }
 }
 
-/// Judges a statement by F1 to F4, in the scope that the tables show, and puts what it makes into them where
-/// it keeps these rules.
+/// Judges a statement by F1 to F4; `callee` is what it makes or invokes. F5 and F6 are of signatures.
+fn judge_meaning(
+    names: &Names,
+    earlier: &Earlier,
+    comp: &FilComp,
+    tables: &Tables,
+    callee: Option<&Callee>,
+    stmt: &Stmt,
+) -> Result<(), ItemEnd>
+    requires { StatementHasNumbers names.now stmt.now }
+    ensures kept { (scope : Scope) (before : List Statement) → IsPlace names.now earlier.now comp.now tables.now scope
+        → option_map (λ callee. callee.now) callee.entry ≡ signature_at scope (statement_tree names.now stmt.now)
+        → OnOk result (KeepsFrom (KeptAt scope before (statement_tree names.now stmt.now)) 0 6) }
+    ensures broken { (scope : Scope) (before : List Statement) → IsPlace names.now earlier.now comp.now tables.now scope
+        → option_map (λ callee. callee.now) callee.entry ≡ signature_at scope (statement_tree names.now stmt.now)
+        → IfErr result (TellsFrom (KeptAt scope before (statement_tree names.now stmt.now)) (ShownAt scope (statement_tree names.now stmt.now)) 0) }
+{
+    if !makes_new_names(names, tables, stmt) {
+        return Err(breaks(1));
+    }
+    if !uses_known_names(names, earlier, comp, tables, stmt) {
+        return Err(breaks(2));
+    }
+    if !keeps_widths(names, earlier, comp, tables, callee, stmt) {
+        return Err(breaks(3));
+    }
+    if !keeps_numbers(names, callee, stmt) {
+        return Err(breaks(4));
+    }
+    Ok(())
+}
+
+/// The numbers of the invocations so far of the instance of this name.
+fn calls_of<'a>(tables: &'a Tables, name: &[u8]) -> &'a [usize]
+    ensures { (earlier : Earlier) (scope : Scope) → Shows earlier tables.now scope → result.now ≡ calls_from 0 name.now scope.invocations }
+{
+    match tables.instances.find(name) {
+        Some(instance) => match tables.calls.get(instance.0 as usize) {
+            Some(calls) => calls,
+            None => &[],
+        },
+        None => &[],
+    }
+}
+
+/// Whether each number is below the end.
+fn are_below(numbers: &[usize], end: usize) -> bool
+    ensures { IsTrue result ↔ All (λ (k : ℕ). k < end) numbers.now }
+{
+    for number in numbers {
+        if *number >= end {
+            return false;
+        }
+    }
+    true
+}
+
+/// The numbers of the invocations so far of the instance of this name. Each is tested, so that it finds its times.
+fn tested_calls<'a>(tables: &'a Tables, name: &[u8]) -> &'a [usize]
+    ensures calls { (earlier : Earlier) (scope : Scope) → Shows earlier tables.now scope → result.now ≡ calls_from 0 name.now scope.invocations }
+    ensures within { All (λ (k : ℕ). k < length tables.now.times.items) result.now }
+{
+    let calls = calls_of(tables, name);
+    if are_below(calls, tables.times.len()) {
+        calls
+    } else {
+        &[]
+    }
+}
+
+/// Judges a statement that keeps F1 to F10 by F11 to F13; `callee` is what it makes or invokes, at these times.
+fn judge_use(
+    names: &Names,
+    comp: &FilComp,
+    tables: &Tables,
+    callee: Option<&Callee>,
+    at: &[Offset],
+    stmt: &Stmt,
+) -> Result<(), ItemEnd>
+    requires component { ComponentHasNumbers names.now comp.now }
+    requires statement { StatementHasNumbers names.now stmt.now }
+    ensures kept { (earlier : Earlier) (scope : Scope) (before : List Statement) → StandsAt names.now earlier comp.now tables.now scope before
+        → option_map (λ callee. callee.now) callee.entry ≡ signature_at scope (statement_tree names.now stmt.now)
+        → AreTimesOf tables.now.events at.now (statement_tree names.now stmt.now)
+        → KeepsFrom (KeptAt scope before (statement_tree names.now stmt.now)) 0 10
+        → OnOk result (KeepsFrom (KeptAt scope before (statement_tree names.now stmt.now)) 10 13) }
+    ensures broken { (earlier : Earlier) (scope : Scope) (before : List Statement) → StandsAt names.now earlier comp.now tables.now scope before
+        → option_map (λ callee. callee.now) callee.entry ≡ signature_at scope (statement_tree names.now stmt.now)
+        → AreTimesOf tables.now.events at.now (statement_tree names.now stmt.now)
+        → KeepsFrom (KeptAt scope before (statement_tree names.now stmt.now)) 0 10
+        → IfErr result (TellsFrom (KeptAt scope before (statement_tree names.now stmt.now)) (ShownAt scope (statement_tree names.now stmt.now)) 10) }
+{
+    let Some(callee) = callee else {
+        return Ok(());
+    };
+    match stmt {
+        Stmt::Call { inst, .. } => {
+            let calls = tested_calls(tables, names.text(*inst));
+            judge_sharing(names, comp, tables, calls, callee, at)
+        }
+        Stmt::Both { .. } => judge_sharing(names, comp, tables, &[], callee, at),
+        Stmt::New { .. } => Ok(()),
+        Stmt::Set { .. } => Ok(()),
+    }
+}
+
+/// Judges a statement by F1 to F13, where `made` is what its instance is made of; gives the times at which it invokes.
+fn judge_rules(
+    alloc: Global,
+    names: &Names,
+    earlier: &Earlier,
+    comp: &FilComp,
+    tables: &Tables,
+    made: &Option<Made>,
+    stmt: &Stmt,
+) -> Result<Vec<Offset>, ItemEnd>
+    requires component { ComponentHasNumbers names.now comp.now }
+    requires statement { StatementHasNumbers names.now stmt.now }
+    requires small { KeepsStatementLimit stmt.now }
+    ensures kept { (scope : Scope) (before : List Statement) → StandsAt names.now earlier.now comp.now tables.now scope before
+        → IsMadeAt earlier.now scope.comps made.now (statement_tree names.now stmt.now)
+        → OnOk result (KeepsFrom (KeptAt scope before (statement_tree names.now stmt.now)) 0 13) }
+    ensures broken { (scope : Scope) (before : List Statement) → StandsAt names.now earlier.now comp.now tables.now scope before
+        → IsMadeAt earlier.now scope.comps made.now (statement_tree names.now stmt.now)
+        → IfErr result (TellsLeast (KeptAt scope before (statement_tree names.now stmt.now)) (ShownAt scope (statement_tree names.now stmt.now))) }
+    ensures times { (scope : Scope) (before : List Statement) → StandsAt names.now earlier.now comp.now tables.now scope before
+        → IsMadeAt earlier.now scope.comps made.now (statement_tree names.now stmt.now)
+        → IfOk result (λ at. AreTimesOf tables.now.events at.items (statement_tree names.now stmt.now)) }
+    ensures held { (scope : Scope) (before : List Statement) → StandsAt names.now earlier.now comp.now tables.now scope before
+        → IsMadeAt earlier.now scope.comps made.now (statement_tree names.now stmt.now)
+        → OnOk result (HoldsUses scope (statement_tree names.now stmt.now)) }
+{
+    let callee = callee_of(names, earlier, tables, made, stmt);
+    judge_meaning(names, earlier, comp, tables, callee, stmt)?;
+    let at = given_at(alloc, names, &tables.events, stmt)?;
+    judge_timing(names, earlier, comp, tables, callee, &at, stmt)?;
+    judge_use(names, comp, tables, callee, &at, stmt)?;
+    Ok(at)
+}
+
+/// Judges a statement by F1 to F13, in the scope that the tables show, and puts what it makes into them where it
+/// keeps these rules.
 pub fn judge_statement(
     alloc: Global,
     names: &Names,
@@ -225,27 +373,17 @@ pub fn judge_statement(
 ) -> Result<(), ItemEnd>
     requires component { ComponentHasNumbers names.now comp.now }
     requires statement { StatementHasNumbers names.now stmt.now }
-    ensures kept { (scope with : Scope) (before : List Statement) → Shows earlier.now tables.old scope → scope.comp ≡ component_tree names.now comp.now
-        → OnOk result (All (λ rule. AtStatement rule scope with before (statement_tree names.now stmt.now)) first_five) }
-    ensures broken { (scope with : Scope) (before : List Statement) → Shows earlier.now tables.old scope → scope.comp ≡ component_tree names.now comp.now
-        → IfErr result (TellsLeast (λ rule. AtStatement rule scope with before (statement_tree names.now stmt.now))) }
-    ensures shown { (scope : Scope) → Shows earlier.now tables.old scope → scope.comp ≡ component_tree names.now comp.now
-        → OnOk result (Shows earlier.now tables.new (grown scope (statement_tree names.now stmt.now))) }
+    requires small { KeepsStatementLimit stmt.now }
+    ensures kept { (scope : Scope) (before : List Statement) → StandsAt names.now earlier.now comp.now tables.old scope before
+        → OnOk result (All (λ rule. AtStatement rule scope (with_instance scope (statement_tree names.now stmt.now)) before (statement_tree names.now stmt.now)) all_rules) }
+    ensures broken { (scope : Scope) (before : List Statement) → StandsAt names.now earlier.now comp.now tables.old scope before
+        → IfErr result (TellsLeast (λ rule. AtStatement rule scope (with_instance scope (statement_tree names.now stmt.now)) before (statement_tree names.now stmt.now))
+        (λ rule. ShowsAtStatement rule scope (with_instance scope (statement_tree names.now stmt.now)) (statement_tree names.now stmt.now))) }
+    ensures next { (scope : Scope) (before : List Statement) → StandsAt names.now earlier.now comp.now tables.old scope before
+        → OnOk result (StandsAt names.now earlier.now comp.now tables.new (grown scope (statement_tree names.now stmt.now)) (before ++ statement_tree names.now stmt.now ∷ [])) }
 {
-    if !makes_new_names(names, tables, stmt) {
-        return Err(ItemEnd::Broken { rule: 1 });
-    }
-    if !uses_known_names(names, earlier, comp, tables, stmt) {
-        return Err(ItemEnd::Broken { rule: 2 });
-    }
     let made = made_at(alloc, names, earlier, stmt)?;
-    let callee = callee_of(names, earlier, tables, &made, stmt);
-    if !keeps_widths(names, earlier, comp, tables, callee, stmt) {
-        return Err(ItemEnd::Broken { rule: 3 });
-    }
-    if !keeps_numbers(names, callee, stmt) {
-        return Err(ItemEnd::Broken { rule: 4 });
-    }
-    grow(names, tables, made, stmt)?;
+    let at = judge_rules(alloc, names, earlier, comp, tables, &made, stmt)?;
+    grow(alloc, names, tables, made, at, stmt)?;
     Ok(())
 }

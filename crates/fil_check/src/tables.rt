@@ -1,5 +1,6 @@
 //! What names mean at a place of a component's body, in tables that are looked up by name.
 use crate::callee::Callee;
+use crate::times::Offset;
 use hw_names::Names;
 
 /// The components before one, by name and by number.
@@ -33,4 +34,10 @@ pub struct Tables {
     pub made: Vec<Made>,
     /// The number of each invocation's instance.
     pub invoked: Vec<usize>,
+    /// The times that each invocation gives.
+    pub times: Vec<Vec<Offset>>,
+    /// The numbers of each instance's invocations, counted from 0.
+    pub calls: Vec<Vec<usize>>,
+    /// The names of the outputs that are connected so far.
+    pub connected: Names,
 }

@@ -57,16 +57,40 @@ fn two_components(alloc: Global, first: &str, second: &str, made: &str) -> Resul
     Ok(FilDesign { names, comps })
 }
 
+/// The rule, the component and the item that an end tells; `None` where there was no memory.
+fn told(end: FilEnd) -> Option<(u8, Option<NameId>, u64)> {
+    match end {
+        FilEnd::Refused {
+            rule,
+            comp,
+            item,
+            evidence: _evidence,
+        } => Some((rule, Some(comp), item)),
+        FilEnd::Memory => None,
+    }
+}
+
+/// The same of a design: rule 0 where it is accepted.
+fn found(alloc: Global, design: &FilDesign) -> Option<(u8, Option<NameId>, u64)>
+    requires numbers { HasNumbers design.now }
+    requires small { HasSmallOffsets design.now }
+{
+    match check_fil(alloc, design) {
+        Ok(_ok) => Some((0, None, 0)),
+        Err(end) => told(end),
+    }
+}
+
 #[test]
 fn the_first_broken_rule_is_told(rt: HostRuntime) -> Result<(), Fail> {
     for (first, second, made, rule, comp, item) in CASES {
         let design = two_components(rt.alloc(), first, second, made)?;
-        let found = check_fil(rt.alloc(), &design);
-        let told = match design.names.find(comp.as_bytes()) {
-            Some(comp) => Err(FilEnd::Refused { rule, comp, item }),
-            None => Ok(()),
-        };
-        assert_eq!(rt; found, told, "at {first}, {second} and {made}");
+        let comp = design.names.find(comp.as_bytes());
+        assert_eq!(rt;
+            found(rt.alloc(), &design),
+            Some((rule, comp, item)),
+            "at {first}, {second} and {made}"
+        );
     }
     Ok(())
 }

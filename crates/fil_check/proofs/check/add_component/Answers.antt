@@ -1,9 +1,11 @@
 use Rattle.std.proofs.Common.{List, Contains, ap, sym, subst, ◌∙◌}
 use Rattle.hw_names.specs.Name.{Text, AreDistinct}
 use Rattle.hw_names.proofs.NameLemmas.{text_of-slice_get}
+use Rattle.fil_ast.specs.Signature.{Signature}
 use Rattle.fil_ast.specs.Tree.{component_tree}
+use Rattle.fil_check.specs.Callees.{HasGoodTimes}
 use Rattle.fil_check.specs.Outputs.{output_names}
-use Rattle.fil_check.proofs.DesignLemmas.{new_names, widths, shape, outputs_differ, few_events, name_added, names_more, callees_more}
+use Rattle.fil_check.proofs.DesignLemmas.{new_names, widths, shape, outputs_differ, few_events, good_times, name_added, names_more, callees_more}
 use Rattle.fil_check.proofs.check.add_component.Goals as goal
 
 pub component_signature-requires-clause-few : goal.component_signature-requires-clause-few
@@ -15,10 +17,16 @@ pub component_signature-requires-clause-wide : goal.component_signature-requires
 component_signature-requires-clause-wide c =
     widths c.requires.kept.0 (component_tree c.args.names.now c.args.comp.now) c.requires.kept.2
 
-pub make-requires : goal.make-requires
-make-requires c =
+pub make-requires-clause-outputs : goal.make-requires-clause-outputs
+make-requires-clause-outputs c =
     let D : List Text → Type 0 = AreDistinct in
     subst D (ap output_names (sym c.in_ok-sig.ensures)) (outputs_differ c.requires.kept.0 (component_tree c.args.names.now c.args.comp.now) c.requires.kept.2)
+
+pub make-requires-clause-times : goal.make-requires-clause-times
+make-requires-clause-times c =
+    let G : Signature → Type 0 = HasGoodTimes in
+    let tree = component_tree c.args.names.now c.args.comp.now in
+    subst G (sym c.in_ok-sig.ensures) (good_times c.args.names.now c.args.comp.now c.requires.small (shape c.requires.kept.0 tree c.requires.kept.2))
 
 pub returns : goal.returns
 returns c comps shows =

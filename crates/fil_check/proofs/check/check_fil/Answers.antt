@@ -1,25 +1,38 @@
 use Rattle.std.proofs.Common.{◌≡◌, ◌≤◌, ◌<◌, List, length, take, get_or, slice_get, Some, sym, ap, subst, ◌∙◌, arith}
-use Rattle.std.proofs.lemmas.List.{length-map}
+use Rattle.std.proofs.lemmas.List.{length-map, take_all}
+use Rattle.hw_names.specs.Name.{text_of}
 use Rattle.fil_ast.specs.Limits.{KeepsLimits}
 use Rattle.fil_ast.specs.Tree.{Design, component_tree, design_of}
 use Rattle.fil_ast.specs.declared.tree.FilComp.{FilComp}
-use Rattle.fil_check.specs.First.{TellsItem}
+use Rattle.fil_check.specs.First.{TellsFirst}
 use Rattle.fil_check.specs.Tables.{ShowsEarlier}
-use Rattle.fil_check.specs.declared.rules.CompEnd.{CompEnd}
-use Rattle.fil_check.proofs.DesignLemmas.{at_mapped, take_next, keep_more, all_keep, refused}
+use Rattle.fil_check.specs.declared.rules.FilEnd.TheVariants as design
+use Rattle.fil_check.proofs.ItemLemmas.{passed_up}
+use Rattle.fil_check.specs.Wired.{HaveNoLoop, IsFirstLoop, IsWired}
+use Rattle.fil_check.specs.declared.wired.Wired.{Wired}
+use Rattle.fil_check.proofs.DesignLemmas.{all_keep, at_mapped, component_ends, keep_more, kept_so_far, looped}
+use Rattle.fil_share.proofs.ListLemmas.{take_next}
 use Rattle.fil_check.proofs.check.check_fil.Goals as goal
 
-pub returns-in-Err-Broken-clause-refused : goal.returns-in-Err-Broken-clause-refused
-returns-in-Err-Broken-clause-refused c =
+pub returns-in-Err-clause-refused : goal.returns-in-Err-clause-refused
+returns-in-Err-clause-refused c =
     let d = c.args.design.now in
     let n = c.loop-comp.comp-index in
     let comp = c.comp-item.result in
     let tree = component_tree d.names comp in
     let before = take n (design_of d) in
     let at : slice_get (design_of d) n ≡ Some tree = at_mapped (component_tree d.names) d.comps.items c.deref-comp-items.result.now n comp c.deref-comp-items.ensures.value c.loop-comp-test.true c.comp-item.is in
-    let T : CompEnd → Type 0 = TellsItem before tree in
-    let first = subst T c.in-Err-Broken.field-0-is (c.in-Err-Broken.ensures.broken before c.loop-comp.invariant.shown) in
-    rw c.in-Err-Broken.field-0-is (refused d n comp c.in-Err-Broken.rule c.in-Err-Broken.item at c.loop-comp.invariant.kept first)
+    component_ends d n comp c.in-Err.end c.in_component.result at c.loop-comp.invariant.kept (c.in-Err.ensures.broken before c.loop-comp.invariant.shown) c.in_component.ensures
+
+pub judge_component-requires-clause-small : goal.judge_component-requires-clause-small
+judge_component-requires-clause-small c =
+    let comps = c.args.design.now.comps.items in
+    let n = c.loop-comp.comp-index in
+    let comp = c.comp-item.result in
+    let is : comp ≡ get_or comps n comp = c.comp-item.is ∙ ap (λ (xs : List FilComp). get_or xs n comp) c.deref-comp-items.ensures.value in
+    let within : n < length comps = omega (arith, ap length c.deref-comp-items.ensures.value) in
+    let K : FilComp → Type 0 = KeepsLimits in
+    subst K (sym is) (c.requires.small n comp within)
 
 pub add_component-requires-clause-small : goal.add_component-requires-clause-small
 add_component-requires-clause-small c =
@@ -40,13 +53,54 @@ loop-comp-preserved c =
     let before = take n (design_of d) in
     let at : slice_get (design_of d) n ≡ Some tree = at_mapped (component_tree d.names) d.comps.items c.deref-comp-items.result.now n comp c.deref-comp-items.ensures.value c.loop-comp-test.true c.comp-item.is in
     let S : Design → Type 0 = ShowsEarlier c.add_component.new.earlier in
+    let W : Design → Type 0 = λ comps. IsWired d.names comps c.in_ok-wired.wired in
     record {
       shown = subst S (sym (take_next (design_of d) n tree at)) (c.in_ok-add_component.ensures before c.loop-comp.invariant.shown);
       kept = keep_more (design_of d) n tree at c.loop-comp.invariant.kept (c.in-Ok.ensures.kept before c.loop-comp.invariant.shown);
+      wired = subst W (sym (take_next (design_of d) n tree at))
+          (c.in_ok-wired.ensures before (c.in-Ok.ensures.tables before c.loop-comp.invariant.shown) (kept_so_far (design_of d) n c.loop-comp.invariant.kept) (c.in-Ok.ensures.kept before c.loop-comp.invariant.shown) c.loop-comp.invariant.wired);
     }
 
-pub returns-clause-kept : goal.returns-clause-kept
-returns-clause-kept c =
+pub new-requires-in-Free-clause-rules : goal.new-requires-in-Free-clause-rules
+new-requires-in-Free-clause-rules c =
     let d = c.args.design.now in
-    let end : length (design_of d) ≤ c.loop-comp.comp-index = omega (arith, length-map d.comps.items (component_tree d.names), ap length c.deref-comp-items.ensures.value) in
-    all_keep (design_of d) c.loop-comp.comp-index end c.loop-comp.invariant.kept
+    let n = c.loop-comp.comp-index in
+    let end : length (design_of d) ≤ n = omega (arith, length-map d.comps.items (component_tree d.names), ap length c.deref-comp-items.ensures.value) in
+    let W : Wired → Type 0 = IsWired d.names (take n (design_of d)) in
+    let free = subst W c.in-Free.is c.loop-comp.invariant.wired in
+    let N : Design → Type 0 = HaveNoLoop in
+    record {
+      keeps = all_keep (design_of d) n end c.loop-comp.invariant.kept;
+      no_loop = subst N (take_all n (design_of d) end) free.1;
+    }
+
+pub returns-in-Free-clause-kept : goal.returns-in-Free-clause-kept
+returns-in-Free-clause-kept c =
+    let d = c.args.design.now in
+    let n = c.loop-comp.comp-index in
+    let end : length (design_of d) ≤ n = omega (arith, length-map d.comps.items (component_tree d.names), ap length c.deref-comp-items.ensures.value) in
+    let W : Wired → Type 0 = IsWired d.names (take n (design_of d)) in
+    let free = subst W c.in-Free.is c.loop-comp.invariant.wired in
+    let N : Design → Type 0 = HaveNoLoop in
+    record {
+      keeps = all_keep (design_of d) n end c.loop-comp.invariant.kept;
+      no_loop = subst N (take_all n (design_of d) end) free.1;
+    }
+
+pub returns-clause-refused : goal.returns-clause-refused
+returns-clause-refused c =
+    let d = c.args.design.now in
+    let n = c.loop-comp.comp-index in
+    let end : length (design_of d) ≤ n = omega (arith, length-map d.comps.items (component_tree d.names), ap length c.deref-comp-items.ensures.value) in
+    let W : Wired → Type 0 = IsWired d.names (take n (design_of d)) in
+    let F : Design → Type 0 = λ comps. IsFirstLoop comps (text_of d.names c.in-Looped.comp) c.in-Looped.ports.items in
+    let first = subst F (take_all n (design_of d) end) (subst W c.in-Looped.is c.loop-comp.invariant.wired) in
+    looped (design_of d) (text_of d.names c.in-Looped.comp) c.in-Looped.ports.items (all_keep (design_of d) n end c.loop-comp.invariant.kept) first
+
+pub returns-in_err-wired-clause-refused : goal.returns-in_err-wired-clause-refused
+returns-in_err-wired-clause-refused c =
+    passed_up c.from_residual.result design.Memory (TellsFirst c.args.design.now) c.from_residual.ensures.1 tt
+
+pub returns-in_err-add_component-clause-refused : goal.returns-in_err-add_component-clause-refused
+returns-in_err-add_component-clause-refused c =
+    passed_up c.from_residual-in_err-add_component.result design.Memory (TellsFirst c.args.design.now) c.from_residual-in_err-add_component.ensures.1 tt

@@ -2,13 +2,14 @@ use Rattle.std.proofs.Common.{◌≡◌, ◌+◌, [], take}
 use Rattle.fil_ast.specs.Items.{scope_after}
 use Rattle.fil_ast.specs.Tree.{Design, component_tree}
 use Rattle.fil_check.specs.First.{KeepsBefore}
-use Rattle.fil_check.specs.Tables.{Shows}
+use Rattle.fil_check.specs.Place.{StandsAt}
+use Rattle.fil_check.proofs.ItemLemmas.{Stands}
 use Rattle.fil_check.proofs.component.judge_body.Given as goal
 
 -- the statements so far keep the rules, and the tables show what names mean after them
 abbrev pub invariant-loop-stmt : goal.invariant-loop-stmt
 invariant-loop-stmt l = record {
   counted : l.item ≡ l.stmt-index;
-  shown : (comps : Design) → Shows l.earlier l.initial.tables (scope_after comps (component_tree l.names l.comp) []) → Shows l.earlier l.tables (scope_after comps (component_tree l.names l.comp) (take l.stmt-index (component_tree l.names l.comp).body));
-  kept : (comps : Design) → Shows l.earlier l.initial.tables (scope_after comps (component_tree l.names l.comp) []) → KeepsBefore comps (component_tree l.names l.comp) 1 → KeepsBefore comps (component_tree l.names l.comp) (l.stmt-index + 1);
+  stands : (comps : Design) → StandsAt l.names l.earlier l.comp l.initial.tables (scope_after comps (component_tree l.names l.comp) []) [] → Stands l.names l.earlier comps l.comp l.tables (take l.stmt-index (component_tree l.names l.comp).body);
+  kept : (comps : Design) → StandsAt l.names l.earlier l.comp l.initial.tables (scope_after comps (component_tree l.names l.comp) []) [] → KeepsBefore comps (component_tree l.names l.comp) 1 → KeepsBefore comps (component_tree l.names l.comp) (l.stmt-index + 1);
 }

@@ -1,10 +1,17 @@
 use Rattle.std.proofs.Common.{[], Some, refl, sym, ap, ◌∙◌}
 use Rattle.fil_sig.specs.Seen.{seen}
-use Rattle.fil_check.proofs.MadeLemmas.{as_primitive, primitive_outputs, refused_primitive}
+use Rattle.fil_check.proofs.MadeLemmas.{as_primitive, primitive_outputs, primitive_times, refused_primitive}
 use Rattle.fil_check.proofs.made.primitive_made.Goals as goal
 
-pub make-requires : goal.make-requires
-make-requires c =
+pub make-requires-clause-times : goal.make-requires-clause-times
+make-requires-clause-times c =
+    let name = c.args.name.now in
+    let params = c.args.params.now in
+    let sig = seen c.in-Ok.sig in
+    primitive_times name params sig (as_primitive name params c.requires sig (c.in-Ok.ensures.made [] refl))
+
+pub make-requires-clause-outputs : goal.make-requires-clause-outputs
+make-requires-clause-outputs c =
     let name = c.args.name.now in
     let params = c.args.params.now in
     let sig = seen c.in-Ok.sig in

@@ -14,7 +14,7 @@ returns-in_err-input-in-Port c scope place =
     let text = c.text.result.now in
     c.from_residual.ensures
     ∙ width_seen (λ (p : Bor FilPort). tree.sig_port scope.comp.events (port_tree names p.now)) (λ (p : Bor FilPort). p.now.width) None (input_of scope text) (λ p. refl)
-    (c.in_err-input-in-Port.ensures names c.args.earlier.now scope place)
+    (c.in_err-input-in-Port.ensures.meaning names c.args.earlier.now scope place)
     ∙ width_port names scope c.args.value c.in-Port.name text c.in-Port.is c.text.ensures
 
 pub returns-in_ok-input-in-Port : goal.returns-in_ok-input-in-Port
@@ -22,7 +22,7 @@ returns-in_ok-input-in-Port c scope place =
     let names = c.args.names.now in
     let text = c.text.result.now in
     width_seen (λ (p : Bor FilPort). tree.sig_port scope.comp.events (port_tree names p.now)) (λ (p : Bor FilPort). p.now.width) (Some c.in_ok-input-in-Port.field-0) (input_of scope text) (λ p. refl)
-    (c.in_ok-input-in-Port.ensures names c.args.earlier.now scope place)
+    (c.in_ok-input-in-Port.ensures.meaning names c.args.earlier.now scope place)
     ∙ width_port names scope c.args.value c.in-Port.name text c.in-Port.is c.text.ensures
 
 pub returns-in_err-found-in-Out : goal.returns-in_err-found-in-Out

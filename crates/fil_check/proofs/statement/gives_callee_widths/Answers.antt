@@ -11,4 +11,4 @@ pub returns-in-Some : goal.returns-in-Some
 returns-in-Some c scope at place =
     let names = c.args.names.now in
     let P : Option Signature → Type 0 = λ o. IsTrue c.gives_widths.result ↔ IfSome o (λ sig. GivesWidths scope sig (giving names at c.args.args.now)) in
-    subst P (ap Some c.sig.ensures ∙ sym (ap (option_map (λ (callee : Bor Callee). callee.now)) c.in-Some.is)) (c.gives_widths.ensures scope at place)
+    subst P (ap Some c.sig.ensures.same ∙ sym (ap (option_map (λ (callee : Bor Callee). callee.now)) c.in-Some.is)) (c.gives_widths.ensures scope at place)

@@ -12,11 +12,11 @@ returns-in-Some c scope place =
     let names = c.args.names.now in
     let named = text_of-slice_get names c.args.dst c.text.result.now c.text.ensures in
     output_width (output_of scope (text_of names c.args.dst)) _ (value_width scope (value_tree names c.args.value)) c.has_width.result
-    (c.in-Some.ensures names c.args.earlier.now scope place ∙ ap (output_of scope) (sym named)) (c.has_width.ensures scope place)
+    (c.in-Some.ensures.meaning names c.args.earlier.now scope place ∙ ap (output_of scope) (sym named)) (c.has_width.ensures scope place)
 
 pub returns-in-None : goal.returns-in-None
 returns-in-None c scope place =
     let names = c.args.names.now in
     let named = text_of-slice_get names c.args.dst c.text.result.now c.text.ensures in
     no_output_width (output_of scope (text_of names c.args.dst)) (value_width scope (value_tree names c.args.value))
-    (c.in-None.ensures names c.args.earlier.now scope place ∙ ap (output_of scope) (sym named))
+    (c.in-None.ensures.meaning names c.args.earlier.now scope place ∙ ap (output_of scope) (sym named))

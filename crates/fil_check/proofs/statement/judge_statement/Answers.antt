@@ -1,58 +1,34 @@
-use Rattle.fil_ast.specs.Rules.{AtStatement, Rule}
+use Rattle.std.proofs.Common.{refl, arith}
+use Rattle.std.proofs.lemmas.Result.{err_from_is_err_and}
+use Rattle.fil_ast.specs.Rules.{Rule, F1, F2, F3, F9}
 use Rattle.fil_ast.specs.Tree.{statement_tree}
-use Rattle.fil_check.specs.Tables.{IsPlace}
-use Rattle.fil_check.proofs.GivenLemmas.{clash}
-use Rattle.fil_check.proofs.LeastLemmas.{all_five, breaks_1, breaks_2, breaks_3, breaks_4}
+use Rattle.fil_check.specs.Stages.{KeptAt}
+use Rattle.fil_check.proofs.PlaceLemmas.{stands_next}
+use Rattle.fil_check.proofs.StageLemmas.{all_kept, later_kept}
 use Rattle.fil_check.proofs.statement.judge_statement.Goals as goal
 
-pub returns-then-not-makes_new_names-clause-broken : goal.returns-then-not-makes_new_names-clause-broken
-returns-then-not-makes_new_names-clause-broken c scope with before shows is_comp =
-    let keeps : Rule → Type 0 = λ rule. AtStatement rule scope with before (statement_tree c.args.names.now c.args.stmt.now) in
-    let place : IsPlace c.args.names.now c.args.earlier.now c.args.comp.now c.args.tables.now scope = record { shows = shows; is_comp = is_comp } in
-    breaks_1 keeps (λ new. clash c.makes_new_names.result ((c.makes_new_names.ensures c.args.earlier.now c.args.comp.now scope place).1 new) c.if-not-makes_new_names.true)
-
-pub returns-then-not-uses_known_names-clause-broken : goal.returns-then-not-uses_known_names-clause-broken
-returns-then-not-uses_known_names-clause-broken c scope with before shows is_comp =
-    let keeps : Rule → Type 0 = λ rule. AtStatement rule scope with before (statement_tree c.args.names.now c.args.stmt.now) in
-    let place : IsPlace c.args.names.now c.args.earlier.now c.args.comp.now c.args.tables.now scope = record { shows = shows; is_comp = is_comp } in
-    breaks_2 keeps ((c.makes_new_names.ensures c.args.earlier.now c.args.comp.now scope place).0 c.if-not-makes_new_names.false)
-    (λ known. clash c.uses_known_names.result ((c.uses_known_names.ensures scope place).1 known) c.if-not-uses_known_names.true)
-
-pub returns-then-not-keeps_widths-clause-broken : goal.returns-then-not-keeps_widths-clause-broken
-returns-then-not-keeps_widths-clause-broken c scope with before shows is_comp =
-    let keeps : Rule → Type 0 = λ rule. AtStatement rule scope with before (statement_tree c.args.names.now c.args.stmt.now) in
-    let place : IsPlace c.args.names.now c.args.earlier.now c.args.comp.now c.args.tables.now scope = record { shows = shows; is_comp = is_comp } in
-    let signed = c.callee_of-callee.ensures c.args.comp.now scope place (c.in_ok-made.ensures scope.comps shows.components) in
-    breaks_3 keeps ((c.makes_new_names.ensures c.args.earlier.now c.args.comp.now scope place).0 c.if-not-makes_new_names.false)
-    ((c.uses_known_names.ensures scope place).0 c.if-not-uses_known_names.false)
-    (λ wide. clash c.keeps_widths.result ((c.keeps_widths.ensures scope place signed).1 wide) c.if-not-keeps_widths.true)
-
-pub returns-then-not-keeps_numbers-clause-broken : goal.returns-then-not-keeps_numbers-clause-broken
-returns-then-not-keeps_numbers-clause-broken c scope with before shows is_comp =
-    let keeps : Rule → Type 0 = λ rule. AtStatement rule scope with before (statement_tree c.args.names.now c.args.stmt.now) in
-    let place : IsPlace c.args.names.now c.args.earlier.now c.args.comp.now c.args.tables.now scope = record { shows = shows; is_comp = is_comp } in
-    let signed = c.callee_of-callee.ensures c.args.comp.now scope place (c.in_ok-made.ensures scope.comps shows.components) in
-    breaks_4 keeps ((c.makes_new_names.ensures c.args.earlier.now c.args.comp.now scope place).0 c.if-not-makes_new_names.false)
-    ((c.uses_known_names.ensures scope place).0 c.if-not-uses_known_names.false)
-    ((c.keeps_widths.ensures scope place signed).0 c.if-not-keeps_widths.false)
-    (λ each. clash c.keeps_numbers.result ((c.keeps_numbers.ensures scope signed).1 each) c.if-not-keeps_numbers.true)
+pub returns-in_err-at-clause-broken : goal.returns-in_err-at-clause-broken
+returns-in_err-at-clause-broken c scope before stands =
+    let made = c.in_ok-made.ensures scope.comps stands.place.shows.components in
+    let p = err_from_is_err_and c.from_residual-in_err-at.result c.from_residual-in_err-at.ensures.1 in
+    rw (p.1, p.2) (c.in_err-at.ensures.broken scope before stands made)
 
 pub returns-clause-kept : goal.returns-clause-kept
-returns-clause-kept c scope with before shows is_comp =
-    let keeps : Rule → Type 0 = λ rule. AtStatement rule scope with before (statement_tree c.args.names.now c.args.stmt.now) in
-    let place : IsPlace c.args.names.now c.args.earlier.now c.args.comp.now c.args.tables.now scope = record { shows = shows; is_comp = is_comp } in
-    let signed = c.callee_of-callee.ensures c.args.comp.now scope place (c.in_ok-made.ensures scope.comps shows.components) in
-    all_five keeps ((c.makes_new_names.ensures c.args.earlier.now c.args.comp.now scope place).0 c.if-not-makes_new_names.false)
-    ((c.uses_known_names.ensures scope place).0 c.if-not-uses_known_names.false)
-    ((c.keeps_widths.ensures scope place signed).0 c.if-not-keeps_widths.false)
-    ((c.keeps_numbers.ensures scope signed).0 c.if-not-keeps_numbers.false) tt
+returns-clause-kept c scope before stands =
+    let K : Rule → Type 0 = KeptAt scope before (statement_tree c.args.names.now c.args.stmt.now) in
+    all_kept K (c.in_ok-at.ensures.kept scope before stands (c.in_ok-made.ensures scope.comps stands.place.shows.components))
 
-pub returns-clause-shown : goal.returns-clause-shown
-returns-clause-shown c scope shows is_comp =
-    let place : IsPlace c.args.names.now c.args.earlier.now c.args.comp.now c.args.tables.now scope = record { shows = shows; is_comp = is_comp } in
-    let made = c.in_ok-made.ensures scope.comps shows.components in
-    let signed = c.callee_of-callee.ensures c.args.comp.now scope place made in
-    c.in_ok-grow.ensures c.args.earlier.now c.args.comp.now scope place
-    ((c.makes_new_names.ensures c.args.earlier.now c.args.comp.now scope place).0 c.if-not-makes_new_names.false)
-    ((c.uses_known_names.ensures scope place).0 c.if-not-uses_known_names.false)
-    ((c.keeps_widths.ensures scope place signed).0 c.if-not-keeps_widths.false) made
+pub returns-clause-next : goal.returns-clause-next
+returns-clause-next c scope before stands =
+    let names = c.args.names.now in
+    let earlier = c.args.earlier.now in
+    let comp = c.args.comp.now in
+    let tables = c.args.tables.now in
+    let s = statement_tree names c.args.stmt.now in
+    let K : Rule → Type 0 = KeptAt scope before s in
+    let made = c.in_ok-made.ensures scope.comps stands.place.shows.components in
+    let kept = c.in_ok-at.ensures.kept scope before stands made in
+    let fresh = kept 0 F1 (omega arith) (omega arith) refl in
+    stands_next names earlier comp tables scope before stands s c.grow.new.tables fresh (c.in_ok-at.ensures.held scope before stands made) (later_kept K 0 10 13 (omega arith) kept)
+    (c.in_ok-grow.ensures.shown earlier comp scope stands.place fresh (kept 1 F2 (omega arith) (omega arith) refl) (kept 2 F3 (omega arith) (omega arith) refl) made (c.in_ok-at.ensures.times scope before stands made))
+    (c.in_ok-grow.ensures.connected scope before stands.connected (kept 8 F9 (omega arith) (omega arith) refl))

@@ -84,7 +84,7 @@ returns-then-is_some-2 c scope place =
     let named = text_of-slice_get names c.in-Set.dst c.text-in-Set.result.now c.text-in-Set.ensures in
     let first =
     seen_listed (λ (p : Bor FilPort). sig_port scope.comp.events (port_tree names p.now)) c.output.result (output_of scope dst) a c.is_some-in-Set.ensures
-    (c.output.ensures names c.args.earlier.now scope place ∙ ap (output_of scope) (sym named)) in
+    (c.output.ensures.meaning names c.args.earlier.now scope place ∙ ap (output_of scope) (sym named)) in
     let width = c.is_some-then-is_some-2.ensures ∙ ap is_some (c.value_width.ensures scope place) in
     subst S (sym c.in-Set.is)
     (both_parts (IsSome (output_of scope dst)) (IsKnownValue scope value) a b first c.if-is_some-2.true
@@ -99,5 +99,5 @@ returns-else-is_some-2 c scope place =
     let named = text_of-slice_get names c.in-Set.dst c.text-in-Set.result.now c.text-in-Set.ensures in
     let first =
     seen_listed (λ (p : Bor FilPort). sig_port scope.comp.events (port_tree names p.now)) c.output.result (output_of scope dst) a c.is_some-in-Set.ensures
-    (c.output.ensures names c.args.earlier.now scope place ∙ ap (output_of scope) (sym named)) in
+    (c.output.ensures.meaning names c.args.earlier.now scope place ∙ ap (output_of scope) (sym named)) in
     subst S (sym c.in-Set.is) (first_fails (IsSome (output_of scope dst)) (IsKnownValue scope (value_tree names c.in-Set.value)) a first c.if-is_some-2.false)

@@ -16,7 +16,7 @@ loop-port-preserved c =
     let within : i < length ports = c.loop-port-test.true in
     let same_name : c.bytes.result.now ≡ port.name = c.bytes.ensures in
     let absent : Contains c.loop-port.outs c.bytes.result.now → ⊥ =
-    λ there. output_is_new c.args.sig ports c.deref-port-items.ensures.value c.requires i port within c.port-item.is
+    λ there. output_is_new c.args.sig ports c.deref-port-items.ensures.value c.requires.outputs i port within c.port-item.is
     (subst (λ (t : Text). Contains (map port_name (take i ports)) t) same_name (subst (λ (ts : List Text). Contains ts c.bytes.result.now) c.loop-port.invariant.0 there)) in
     by_cases c.in_ok-_new._new
     (λ so. let put = (c.in_ok-_new.ensures.new (ap Ok so)).1 in (output_put ports i port c.loop-port.outs c.add_name.new.names within c.port-item.is c.loop-port.invariant.0 (put ∙ ap (λ (t : Text). c.loop-port.outs ++ t ∷ []) same_name), c.in_ok-_new.ensures.distinct))
@@ -29,4 +29,5 @@ invariant_of-result c =
       c.loop-port.invariant.0 ∙ ap (λ k. map port_name (take k ports)) end ∙ ap (map port_name) (take-length ports)
           ∙ ap (map port_name) c.deref-port-items.ensures.value ∙ port_names_seen c.args.sig,
       c.loop-port.invariant.1,
+      c.requires.times,
     )

@@ -1,0 +1,375 @@
+-- What a statement leaves of the places before it: what its invocation means, and that the uses so far share their instances well.
+use Rattle.std.proofs.Common.{◌≡◌, ℕ, zero, suc, ◌+◌, ◌-◌, ◌<◌, ◌≤◌, ◌⊎◌, inl, inr, Bool, true, false, cond, List, [], ◌∷◌, ◌++◌, length, map, flat_map, option_map, All, Contains, Option, Some, None, Vec, Global, get_or, slice_get, refl, sym, ap, subst, ◌∙◌, arith}
+use Rattle.std.specs.Option.{IfSome, option_and_then}
+use Rattle.std.specs.Str.{bytes_eq}
+use Rattle.std.proofs.lemmas.Bool.{false_from_ne_true}
+use Rattle.std.proofs.lemmas.List.{append-nil, length-map}
+use Rattle.std.proofs.lemmas.List.Elements.{All-cons, All-head, All-nil, Contains-get_or}
+use Rattle.std.proofs.lemmas.Option.{none-some, same_Some, get_or_from_slice_get, slice_get-get_or, slice_get-map, slice_get_within}
+use Rattle.std.proofs.lemmas.Slice.Eq.{bytes_eq-Decides}
+use Rattle.hw_names.specs.Name.{Text, AreDistinct}
+use Rattle.fil_ast.specs.Connections.{connected_at}
+use Rattle.fil_ast.specs.Naming.{MakesNewNames, instance_names}
+use Rattle.fil_ast.specs.Rules.{Rule, F1, F7, F10, F11, F12, F13}
+use Rattle.fil_ast.specs.Scope.{Scope, Instance, Invocation, instance_named, instance_signature, instances_at, invocations_at, signature_in}
+use Rattle.fil_ast.specs.Sharing.{IsEarlierUse, IsUseOf, KeepsApart, EndsInTime, TriggersWithInterface}
+use Rattle.fil_ast.specs.Signature.{Delay, Fixed, Gap, End, Signature}
+use Rattle.fil_ast.specs.Timeline.{HoldsSome, IsUse, KeepsDelays, Use, hold_of, until}
+use Rattle.fil_ast.specs.Tree.{Giving, Statement, New, Call, Both, Connect, TimeAt, ValueTree}
+use Rattle.fil_check.specs.Callees.{HasGoodDelay, HasGoodTimes, IsGoodDelay}
+use Rattle.fil_ast.specs.declared.tree.FilComp.{FilComp}
+use Rattle.fil_check.specs.Place.{AreHeld, AreShared, SharesWell, StandsAt, with_instance}
+use Rattle.fil_check.specs.Shared.{IsInvoked, KeepsSharing}
+use Rattle.fil_check.specs.Stages.{HoldsUses, KeepsFrom, KeptAt}
+use Rattle.fil_check.specs.Tables.{Shows, calls_from, calls_of, grown, instance_of, listed, signature_at, times_of, times_shown}
+use Rattle.fil_check.specs.Times.{AreTimes}
+use Rattle.fil_check.specs.declared.tables.Earlier.{Earlier}
+use Rattle.fil_check.specs.declared.tables.Tables.{Tables}
+use Rattle.fil_check.specs.declared.times.Offset.{Offset}
+use Rattle.fil_check.proofs.AvailableLemmas.{among}
+use Rattle.fil_check.proofs.GivenLemmas.{mapped_at, unmapped}
+use Rattle.fil_check.proofs.StageLemmas.{keeps_more, keeps_none}
+use Rattle.fil_check.proofs.StatementLemmas.{both_instance}
+
+-- the instance of a name, where others stand after those
+kept_front : (is more : List Instance) (name : Text) → Contains (instance_names is) name → instance_named (is ++ more) name ≡ instance_named is name
+kept_front [] more name (k, within, same) = absurd (omega arith)
+kept_front (i ∷ is) more name (k, within, same) = by (bytes_eq i.name name) refl k within same (λ there. kept_front is more name there)
+  where
+    by : (b : Bool) → bytes_eq i.name name ≡ b → (k : ℕ) → k < length (instance_names (i ∷ is)) → get_or (instance_names (i ∷ is)) k name ≡ name
+        → (Contains (instance_names is) name → instance_named (is ++ more) name ≡ instance_named is name) → instance_named (i ∷ is ++ more) name ≡ instance_named (i ∷ is) name
+    by true e k within same later =
+        ap (λ (b : Bool). cond b (Some i) (instance_named (is ++ more) name)) e ∙ sym (ap (λ (b : Bool). cond b (Some i) (instance_named is name)) e)
+    by false e zero within same later = let bad : true ≡ false = sym ((bytes_eq-Decides i.name name).1 same) ∙ e in absurd (cc)
+    by false e (suc k) within same later =
+        ap (λ (b : Bool). cond b (Some i) (instance_named (is ++ more) name)) e ∙ later (k, omega arith, same)
+        ∙ sym (ap (λ (b : Bool). cond b (Some i) (instance_named is name)) e)
+
+-- a new instance
+found_last : (is : List Instance) (i : Instance) → (Contains (instance_names is) i.name → ⊥) → instance_named (is ++ i ∷ []) i.name ≡ Some i
+found_last [] i absent = ap (λ (b : Bool). cond b (Some i) None) ((bytes_eq-Decides i.name i.name).1 refl)
+found_last (j ∷ is) i absent =
+    let apart : bytes_eq j.name i.name ≡ false = false_from_ne_true (bytes_eq j.name i.name) (λ same. absent (zero, omega arith, (bytes_eq-Decides j.name i.name).0 same)) in
+    ap (λ (b : Bool). cond b (Some j) (instance_named (is ++ i ∷ []) i.name)) apart
+    ∙ found_last is i (λ (k, within, same). absent (suc k, omega arith, same))
+
+-- an invocation's instance is among those that are listed
+known_in : (ts : List Text) (ns : List ℕ) (vs : List Invocation) → map (slice_get ts) ns ≡ map instance_of vs → (k : ℕ) (v : Invocation) → slice_get vs k ≡ Some v → Contains ts v.inst
+known_in ts [] [] e k v at = absurd (none-some v at)
+known_in ts [] (w ∷ vs) e k v at = absurd (cc)
+known_in ts (n ∷ ns) [] e k v at = absurd (cc)
+known_in ts (n ∷ ns) (w ∷ vs) e zero v at =
+    let head : slice_get ts n ≡ Some w.inst = cc in
+    let here : slice_get ts n ≡ Some v.inst = head ∙ ap (λ (v : Invocation). Some v.inst) (same_Some w v at) in
+    (n, slice_get_within ts n v.inst here, get_or_from_slice_get ts n v.inst v.inst here)
+known_in ts (n ∷ ns) (w ∷ vs) e (suc k) v at =
+    let tail : map (slice_get ts) ns ≡ map instance_of vs = cc in
+    known_in ts ns vs tail k v at
+
+pub at_of : {X : Type 0} (xs : List X) (x : X) → Contains xs x → (k : ℕ) × (slice_get xs k ≡ Some x)
+at_of xs x (k, within, same) = (k, slice_get-get_or xs k x within ∙ ap Some same)
+
+pub instance_listed_of : (earlier : Earlier) (tables : Tables) (scope : Scope) → Shows earlier tables scope → (v : Invocation) → Contains scope.invocations v → Contains (instance_names scope.instances) v.inst
+instance_listed_of earlier tables scope shown v there =
+    let place = at_of scope.invocations v there in
+    let C : List Text → Type 0 = λ ts. Contains ts v.inst in
+    subst C shown.instances (known_in tables.instances tables.invoked.items scope.invocations shown.invoked place.0 v place.1)
+
+-- a name of no invoked instance has no calls
+pub no_calls : (k : ℕ) (name : Text) (vs : List Invocation) → ((v : Invocation) → Contains vs v → v.inst ≡ name → ⊥) → calls_from k name vs ≡ []
+no_calls k name [] apart = refl
+no_calls k name (v ∷ vs) apart =
+    let other : bytes_eq v.inst name ≡ false = false_from_ne_true (bytes_eq v.inst name) (λ same. apart v (zero, omega arith, refl) ((bytes_eq-Decides v.inst name).0 same)) in
+    ap (λ (b : Bool). cond b (k ∷ calls_from (suc k) name vs) (calls_from (suc k) name vs)) other
+    ∙ no_calls (suc k) name vs (λ w (j, within, same). apart w (suc j, omega arith, same))
+
+one_there : {X : Type 0} (x y : X) → Contains (x ∷ []) y → x ≡ y
+one_there x y (zero, within, same) = same
+one_there x y (suc k, within, same) = absurd (omega arith)
+
+-- what the invocation of a statement invokes
+pub signed_with : (scope : Scope) (s : Statement) → MakesNewNames scope s → (v : Invocation) → Contains (invocations_at s) v → instance_signature (with_instance scope s) v.inst ≡ signature_at scope s
+signed_with scope (New name made params) new v (k, within, same) = absurd (omega arith)
+signed_with scope (Connect output value) new v (k, within, same) = absurd (omega arith)
+signed_with scope (Call name inst gives) new v there =
+    let w : Invocation = record { name = name; inst = inst; gives = gives } in
+    let signature : List Instance → Text → Option Signature = λ is t. option_and_then (λ (i : Instance). signature_in scope.comps i.made i.params) (instance_named is t) in
+    ap (λ (v : Invocation). signature (scope.instances ++ []) v.inst) (sym (one_there w v there)) ∙ ap (λ is. signature is inst) (append-nil scope.instances)
+signed_with scope (Both name made params gives) new v there =
+    let w : Invocation = record { name = name; inst = name; gives = gives } in
+    let i : Instance = record { name = name; made = made; params = params } in
+    let New : Instance → Type 0 = λ i. ¬ Contains (instance_names scope.instances) i.name in
+    let signature : List Instance → Text → Option Signature = λ is t. option_and_then (λ (i : Instance). signature_in scope.comps i.made i.params) (instance_named is t) in
+    ap (λ (v : Invocation). signature (scope.instances ++ i ∷ []) v.inst) (sym (one_there w v there))
+    ∙ ap (option_and_then (λ (i : Instance). signature_in scope.comps i.made i.params)) (found_last scope.instances i (All-head New i [] new.instances))
+
+-- where nothing is known of the instance, nothing is used
+pub unsigned_kept : (with : Scope) (v : Invocation) → instance_signature with v.inst ≡ None → KeepsSharing with v
+unsigned_kept with v none = record {
+  apart = λ u earlier (sig, signed, used) by. absurd (none-some sig (sym none ∙ signed));
+  in_time = λ u earlier (sig, signed, used) by e there named. absurd (none-some sig (sym none ∙ signed));
+  triggers = record {
+    triggers = λ u (sig, signed, used) some. absurd (none-some sig (sym none ∙ signed));
+    once = λ earlier u w there same (sig, signed, used) by on. absurd (none-some sig (sym none ∙ signed));
+  };
+}
+
+-- a used is held for a row or more, where delays are, and a register's times are apart
+use_held : (sig : Signature) (inst : Text) (times : List TimeAt) (u : Use) → HasGoodTimes sig → HoldsSome sig times → IsUse sig inst times u → 0 < u.hold
+use_held sig inst times u good some used =
+    by used.event.delay refl (slice_get times (u.event + 1)) refl used.held (among_delay used.event.delay refl)
+  where
+    among_delay : (d : Delay) → used.event.delay ≡ d → IsGoodDelay d
+    among_delay d is =
+        let within = slice_get_within sig.events u.event used.event used.of in
+        let G : Delay → Type 0 = IsGoodDelay in
+        subst G is (among HasGoodDelay sig.events used.event good.delays (u.event, within, get_or_from_slice_get sig.events u.event used.event used.event used.of))
+
+    by : (d : Delay) → used.event.delay ≡ d → (o : Option TimeAt) → slice_get times (u.event + 1) ≡ o → hold_of d u.at o ≡ Some u.hold → IsGoodDelay d → 0 < u.hold
+    by (Fixed rows) is o next held good_delay =
+        let same = same_Some rows u.hold held in
+        let least = good_delay.0 in omega arith
+    by Gap is None next held good_delay = absurd (none-some u.hold held)
+    by Gap is (Some t) next held good_delay =
+        let apart = some u.event used.event used.of is u.at t used.time next in
+        let same = same_Some (until u.at t) u.hold held in
+        omega arith
+    by End is o next held good_delay = absurd (none-some u.hold held)
+
+-- so at a statement that keeps F7, with a callee whose delays are small
+pub statement_held : (scope : Scope) (before : List Statement) (s : Statement) (o : Option Signature) → o ≡ signature_at scope s → IfSome o HasGoodTimes → KeepsFrom (KeptAt scope before s) 6 10 → HoldsUses scope s
+statement_held scope before (New name made params) o is good kept v sig u (k, within, same) signed used = absurd (omega arith)
+statement_held scope before (Connect output value) o is good kept v sig u (k, within, same) signed used = absurd (omega arith)
+statement_held scope before (Call name inst gives) o is good kept v sig u there signed used =
+    let w : Invocation = record { name = name; inst = inst; gives = gives } in
+    let G : Option Signature → Type 0 = λ o. IfSome o HasGoodTimes in
+    let H : Option Signature → Type 0 = λ o. IfSome o (λ (sig : Signature). HoldsSome sig gives.times) in
+    let U : Invocation → Type 0 = λ v. IsUse sig v.inst v.gives.times u in
+    use_held sig inst gives.times u (subst G (is ∙ signed) good) (subst H signed (kept 6 F7 (omega arith) (omega arith) refl)) (subst U (sym (one_there w v there)) used)
+statement_held scope before (Both name made params gives) o is good kept v sig u there signed used =
+    let w : Invocation = record { name = name; inst = name; gives = gives } in
+    let G : Option Signature → Type 0 = λ o. IfSome o HasGoodTimes in
+    let H : Option Signature → Type 0 = λ o. IfSome o (λ (sig : Signature). HoldsSome sig gives.times) in
+    let U : Invocation → Type 0 = λ v. IsUse sig v.inst v.gives.times u in
+    use_held sig name gives.times u (subst G (is ∙ signed) good) (subst H signed (kept 6 F7 (omega arith) (omega arith) refl)) (subst U (sym (one_there w v there)) used)
+
+pub held_at_new : (scope : Scope) (name made : Text) (params : List ℕ) → HoldsUses scope (New name made params)
+held_at_new scope name made params v sig u (k, within, same) signed used = absurd (omega arith)
+
+pub held_at_connection : (scope : Scope) (output : Text) (value : ValueTree) → HoldsUses scope (Connect output value)
+held_at_connection scope output value v sig u (k, within, same) signed used = absurd (omega arith)
+
+module _ (scope : Scope) (s : Statement) (known : (v : Invocation) → Contains scope.invocations v → Contains (instance_names scope.instances) v.inst) where
+  abbrev with : Scope
+  with = with_instance scope s
+
+  use_before : (v : Invocation) (u : Use) → Contains scope.invocations v → IsUseOf with v u → IsUseOf scope v u
+  use_before v u there (sig, signed, used) =
+      let meant = λ (i : Instance). signature_in scope.comps i.made i.params in
+      (sig, sym (ap (option_and_then meant) (kept_front scope.instances (instances_at s) v.inst (known v there))) ∙ signed, used)
+
+  pub held_with : AreHeld scope → AreHeld with
+  held_with held v u there used = held v u there (use_before v u there used)
+
+  contained : (k : ℕ) (v : Invocation) → slice_get scope.invocations k ≡ Some v → Contains scope.invocations v
+  contained k v at = (k, slice_get_within scope.invocations k v at, get_or_from_slice_get scope.invocations k v v at)
+
+  pub shared_with : SharesWell scope → SharesWell with
+  shared_with shared i j v w u x before at_i at_j use_v use_w same_inst same_event =
+      let a = shared i j v w u x before at_i at_j (use_before v u (contained i v at_i) use_v) (use_before w x (contained j w at_j) use_w) same_inst same_event in
+      record { event = a.event; disjoint = a.disjoint; in_time = a.in_time }
+
+in_parts : {X : Type 0} (xs ys : List X) (x : X) → Contains (xs ++ ys) x → Contains xs x ⊎ Contains ys x
+in_parts [] ys x there = inr there
+in_parts (y ∷ xs) ys x (zero, within, same) = inl (zero, omega arith, same)
+in_parts (y ∷ xs) ys x (suc k, within, same) = by (in_parts xs ys x (k, omega arith, same))
+  where
+    by : Contains xs x ⊎ Contains ys x → Contains (y ∷ xs) x ⊎ Contains ys x
+    by (inl (j, below, is)) = inl (suc j, omega arith, is)
+    by (inr there) = inr there
+
+nothing_off : (k : ℕ) → k - 0 ≡ k
+nothing_off k = omega arith
+
+-- where an element of two lists stands
+at_parts : {X : Type 0} (xs ys : List X) (k : ℕ) (x : X) → slice_get (xs ++ ys) k ≡ Some x → ((k < length xs) × (slice_get xs k ≡ Some x)) ⊎ ((length xs ≤ k) × (slice_get ys (k - length xs) ≡ Some x))
+at_parts [] ys k x at = inr (omega arith, ap (slice_get ys) (nothing_off k) ∙ at)
+at_parts (y ∷ xs) ys zero x at = inl (omega arith, at)
+at_parts (y ∷ xs) ys (suc k) x at = by (at_parts xs ys k x at)
+  where
+    by : ((k < length xs) × (slice_get xs k ≡ Some x)) ⊎ ((length xs ≤ k) × (slice_get ys (k - length xs) ≡ Some x))
+        → ((suc k < length (y ∷ xs)) × (slice_get (y ∷ xs) (suc k) ≡ Some x)) ⊎ ((length (y ∷ xs) ≤ suc k) × (slice_get ys (suc k - length (y ∷ xs)) ≡ Some x))
+    by (inl (below, is)) = inl (omega arith, is)
+    by (inr (past, is)) =
+        let same : k - length xs ≡ suc k - length (y ∷ xs) = omega arith in
+        inr (omega arith, ap (slice_get ys) (sym same) ∙ is)
+
+few : (s : Statement) → length (invocations_at s) ≤ 1
+few (New name made params) = omega arith
+few (Connect output value) = omega arith
+few (Call name inst gives) = omega arith
+few (Both name made params gives) = omega arith
+
+module _ (scope : Scope) (before : List Statement) (s : Statement) (signed : (v : Invocation) → Contains (invocations_at s) v → instance_signature (with_instance scope s) v.inst ≡ signature_at scope s) where
+  abbrev after : Scope
+  after = grown scope s
+
+  pub held_grown : AreHeld (with_instance scope s) → HoldsUses scope s → AreHeld after
+  held_grown held own v u there used = by (in_parts scope.invocations (invocations_at s) v there)
+    where
+      by : Contains scope.invocations v ⊎ Contains (invocations_at s) v → 0 < u.hold
+      by (inl old) = held v u old used
+      by (inr new) = own v used.0 u new (sym (signed v new) ∙ used.1) used.2
+
+  pub shared_grown : SharesWell (with_instance scope s) → KeepsFrom (KeptAt scope before s) 10 13 → SharesWell after
+  shared_grown shared kept i j v w u x earlier at_i at_j use_v use_w same_inst same_event =
+      by (at_parts scope.invocations (invocations_at s) i v at_i) (at_parts scope.invocations (invocations_at s) j w at_j)
+    where
+      by : ((i < length scope.invocations) × (slice_get scope.invocations i ≡ Some v)) ⊎ ((length scope.invocations ≤ i) × (slice_get (invocations_at s) (i - length scope.invocations) ≡ Some v))
+          → ((j < length scope.invocations) × (slice_get scope.invocations j ≡ Some w)) ⊎ ((length scope.invocations ≤ j) × (slice_get (invocations_at s) (j - length scope.invocations) ≡ Some w)) → AreShared after u x
+      by (inl (i_in, at_v)) (inl (j_in, at_w)) =
+          let a = shared i j v w u x earlier at_v at_w use_v use_w same_inst same_event in
+          record { event = a.event; disjoint = a.disjoint; in_time = a.in_time }
+      by (inl (i_in, at_v)) (inr (j_out, at_w)) =
+          let last = j - length scope.invocations in
+          let w_in : Contains (invocations_at s) w = (last, slice_get_within (invocations_at s) last w at_w, get_or_from_slice_get (invocations_at s) last w w at_w) in
+          let apart : KeepsApart (with_instance scope s) w = among (KeepsApart (with_instance scope s)) (invocations_at s) w (kept 10 F11 (omega arith) (omega arith) refl) w_in in
+          let in_time : EndsInTime (with_instance scope s) w = among (EndsInTime (with_instance scope s)) (invocations_at s) w (kept 11 F12 (omega arith) (omega arith) refl) w_in in
+          let by_earlier : IsEarlierUse (with_instance scope s) x u =
+          record {
+            invocation = v;
+            is_earlier = (i, i_in, get_or_from_slice_get scope.invocations i v v at_v);
+            uses = use_v;
+            same_instance = same_inst;
+            same_event = same_event;
+          } in
+          let a = apart x u use_w by_earlier in
+          record { event = a.0; disjoint = a.1; in_time = in_time x u use_w by_earlier }
+      by (inr (i_out, at_v)) right =
+          let one = few s in
+          let within_i = slice_get_within (invocations_at s) (i - length scope.invocations) v at_v in
+          absurd (past right)
+        where
+          past : ((j < length scope.invocations) × (slice_get scope.invocations j ≡ Some w)) ⊎ ((length scope.invocations ≤ j) × (slice_get (invocations_at s) (j - length scope.invocations) ≡ Some w)) → ⊥
+          past (inl (j_in, at_w)) = omega arith
+          past (inr (j_out, at_w)) =
+              let one = few s in
+              let within_j = slice_get_within (invocations_at s) (j - length scope.invocations) w at_w in
+              omega arith
+
+-- calls are among the invocations
+abbrev IsBelow : ℕ → ℕ → Type 0
+IsBelow end k = k < end
+
+calls_below : (j : ℕ) (name : Text) (vs : List Invocation) (end : ℕ) → j + length vs ≤ end → All (IsBelow end) (calls_from j name vs)
+calls_below j name [] end within = All-nil (IsBelow end)
+calls_below j name (v ∷ vs) end within = by (bytes_eq v.inst name) refl (calls_below (suc j) name vs end (omega arith))
+  where
+    by : (b : Bool) → bytes_eq v.inst name ≡ b → All (IsBelow end) (calls_from (suc j) name vs) → All (IsBelow end) (calls_from j name (v ∷ vs))
+    by true is rest =
+        let A : List ℕ → Type 0 = All (IsBelow end) in
+        let here : j < end = omega arith in
+        subst A (sym (ap (λ (b : Bool). cond b (j ∷ calls_from (suc j) name vs) (calls_from (suc j) name vs)) is)) (All-cons (IsBelow end) j (calls_from (suc j) name vs) here rest)
+    by false is rest =
+        let A : List ℕ → Type 0 = All (IsBelow end) in
+        subst A (sym (ap (λ (b : Bool). cond b (j ∷ calls_from (suc j) name vs) (calls_from (suc j) name vs)) is)) rest
+
+pub calls_within : (earlier : Earlier) (tables : Tables) (scope : Scope) → Shows earlier tables scope → (name : Text) (calls : List ℕ) (end : ℕ) → end ≡ length tables.times.items → calls ≡ calls_from 0 name scope.invocations
+    → All (λ (k : ℕ). k < end) calls
+calls_within earlier tables scope shown name calls end counted are =
+    let A : List ℕ → Type 0 = All (λ (k : ℕ). k < end) in
+    let count : length tables.times.items ≡ length scope.invocations =
+    sym (length-map tables.times.items (times_shown tables.events)) ∙ ap length shown.times ∙ length-map scope.invocations times_of in
+    subst A (sym are) (calls_below 0 name scope.invocations end (omega arith))
+
+-- the calls that the tables list
+module _ (earlier : Earlier) (tables : Tables) (scope : Scope) (shown : Shows earlier tables scope) (name : Text) where
+  pub calls_absent : (Contains tables.instances name → ⊥) → [] ≡ calls_from 0 name scope.invocations
+  calls_absent absent =
+      let C : Text → Type 0 = λ t. Contains (instance_names scope.instances) t in
+      let D : List Text → Type 0 = λ ts. Contains ts name in
+      sym (no_calls 0 name scope.invocations (λ v there same. absent (subst D (sym shown.instances) (subst C same (instance_listed_of earlier tables scope shown v there)))))
+
+  module _ (n : ℕ) (at : slice_get tables.instances n ≡ Some name) where
+    abbrev instance : (i : Instance) × (slice_get scope.instances n ≡ Some i) × (i.name ≡ name)
+    instance = unmapped (λ (i : Instance). i.name) scope.instances n name (ap (λ (ts : List Text). slice_get ts n) (sym shown.instances) ∙ at)
+
+    calls_at : slice_get (map listed tables.calls.items) n ≡ Some (calls_of scope.invocations instance.0)
+    calls_at = ap (λ (os : List (List ℕ)). slice_get os n) shown.calls ∙ mapped_at (calls_of scope.invocations) scope.instances n instance.0 instance.1
+
+    pub calls_found : (numbers : Vec ℕ Global) → slice_get tables.calls.items n ≡ Some numbers → numbers.items ≡ calls_from 0 name scope.invocations
+    calls_found numbers here =
+        same_Some numbers.items (calls_of scope.invocations instance.0) (sym (mapped_at listed tables.calls.items n numbers here) ∙ calls_at)
+        ∙ ap (λ (t : Text). calls_from 0 t scope.invocations) instance.2
+
+    pub calls_missing : slice_get tables.calls.items n ≡ None → ⊥
+    calls_missing none = none-some (calls_of scope.invocations instance.0) (sym (slice_get-map listed tables.calls.items n ∙ ap (option_map listed) none) ∙ calls_at)
+
+-- a statement without a callee uses nothing
+pub none_used : (scope : Scope) (before : List Statement) (s : Statement) → MakesNewNames scope s → None ≡ signature_at scope s → KeepsFrom (KeptAt scope before s) 10 13
+none_used scope before s new none =
+    let keeps : Rule → Type 0 = KeptAt scope before s in
+    let with = with_instance scope s in
+    let each : (v : Invocation) → Contains (invocations_at s) v → KeepsSharing with v = λ v there. unsigned_kept with v (signed_with scope s new v there ∙ sym none) in
+    let all : (P : Invocation → Type 0) → ((v : Invocation) → KeepsSharing with v → P v) → All P (invocations_at s) =
+    λ P of k v within. of (get_or (invocations_at s) k v) (each (get_or (invocations_at s) k v) (Contains-get_or (invocations_at s) k v within)) in
+    keeps_more keeps 10 12 F13 refl
+    (keeps_more keeps 10 11 F12 refl
+    (keeps_more keeps 10 10 F11 refl (keeps_none keeps 10) (all (KeepsApart with) (λ v kept. kept.apart)))
+    (all (EndsInTime with) (λ v kept. kept.in_time)))
+    (all (TriggersWithInterface with) (λ v kept. kept.triggers))
+
+-- what F11 to F13 are judged by
+module _ (names : List Text) (earlier : Earlier) (comp : FilComp) (tables : Tables) (scope : Scope) (before : List Statement) (stands : StandsAt names earlier comp tables scope before) where
+  pub invoked_at : (s : Statement) → MakesNewNames scope s → (v : Invocation) → Contains (invocations_at s) v → (sig : Signature) → signature_at scope s ≡ Some sig
+      → (calls : List ℕ) → calls ≡ calls_from 0 v.inst scope.invocations → (at : List Offset) → AreTimes tables.events at v.gives.times → HoldsSome sig v.gives.times
+      → KeepsDelays scope sig v.inst v.gives → IsInvoked names comp tables calls sig at (with_instance scope s) v
+  invoked_at s new v there sig signed calls are at given holds delays =
+      let known = instance_listed_of earlier tables scope stands.place.shows in
+      record {
+        is_comp = stands.place.is_comp;
+        events = stands.place.shows.events;
+        distinct = stands.distinct;
+        times = stands.place.shows.times;
+        earlier = are;
+        signature = signed_with scope s new v there ∙ signed;
+        own_times = given;
+        own_holds = holds;
+        own_delays = delays;
+        held = held_with scope s known stands.held;
+        shared = shared_with scope s known stands.shared;
+      }
+
+  module _ (name inst : Text) (gives : Giving) (kept : KeepsFrom (KeptAt scope before (Call name inst gives)) 0 10) (sig : Signature) (signed : instance_signature scope inst ≡ Some sig) where
+    pub invoked_call : (calls : List ℕ) → calls ≡ calls_from 0 inst scope.invocations → (at : List Offset) → AreTimes tables.events at gives.times
+        → IsInvoked names comp tables calls sig at (with_instance scope (Call name inst gives)) (record { name = name; inst = inst; gives = gives })
+    invoked_call calls are at given =
+        let H : Option Signature → Type 0 = λ o. IfSome o (λ (sig : Signature). HoldsSome sig gives.times) in
+        let D : Option Signature → Type 0 = λ o. IfSome o (λ (sig : Signature). KeepsDelays scope sig inst gives) in
+        invoked_at (Call name inst gives) (kept 0 F1 (omega arith) (omega arith) refl) (record { name = name; inst = inst; gives = gives }) (0, omega arith, refl) sig signed calls are at given
+        (subst H signed (kept 6 F7 (omega arith) (omega arith) refl)) (subst D signed (kept 9 F10 (omega arith) (omega arith) refl))
+
+  module _ (name made : Text) (params : List ℕ) (gives : Giving) (kept : KeepsFrom (KeptAt scope before (Both name made params gives)) 0 10) (sig : Signature) (signed : signature_in scope.comps made params ≡ Some sig) where
+    pub invoked_both : (at : List Offset) → AreTimes tables.events at gives.times
+        → IsInvoked names comp tables [] sig at (with_instance scope (Both name made params gives)) (record { name = name; inst = name; gives = gives })
+    invoked_both at given =
+        let H : Option Signature → Type 0 = λ o. IfSome o (λ (sig : Signature). HoldsSome sig gives.times) in
+        let D : Option Signature → Type 0 = λ o. IfSome o (λ (sig : Signature). KeepsDelays scope sig name gives) in
+        let fresh : MakesNewNames scope (Both name made params gives) = kept 0 F1 (omega arith) (omega arith) refl in
+        let none = calls_absent earlier tables scope stands.place.shows name (both_instance names earlier comp tables scope stands.place name made params gives fresh) in
+        invoked_at (Both name made params gives) fresh (record { name = name; inst = name; gives = gives }) (0, omega arith, refl) sig signed [] none at given
+        (subst H signed (kept 6 F7 (omega arith) (omega arith) refl)) (subst D signed (kept 9 F10 (omega arith) (omega arith) refl))
+
+  -- where a statement stands that keeps all rules, the next one stands
+  pub stands_next : (s : Statement) (new : Tables) → MakesNewNames scope s → HoldsUses scope s → KeepsFrom (KeptAt scope before s) 10 13 → Shows earlier new (grown scope s)
+      → new.connected ≡ flat_map connected_at (before ++ s ∷ []) → StandsAt names earlier comp new (grown scope s) (before ++ s ∷ [])
+  stands_next s new fresh own kept shows connected =
+      let known = instance_listed_of earlier tables scope stands.place.shows in
+      let D : List Text → Type 0 = AreDistinct in
+      record {
+        place = record { shows = shows; is_comp = stands.place.is_comp };
+        distinct = subst D (stands.place.shows.events ∙ sym shows.events) stands.distinct;
+        connected = connected;
+        held = held_grown scope before s (signed_with scope s fresh) (held_with scope s known stands.held) own;
+        shared = shared_grown scope before s (signed_with scope s fresh) (shared_with scope s known stands.shared) kept;
+      }

@@ -1,0 +1,428 @@
+-- The span of an event's uses; F12.
+use Rattle.std.proofs.Common.{◌≡◌, ℕ, ◌+◌, ◌-◌, ◌<◌, ◌≤◌, ◌⊎◌, inl, inr, List, length, map, slice_get, Contains, Option, Some, None, refl, sym, ap, ap₂, subst, ◌∙◌, arith}
+use Rattle.std.specs.Prelude.{max, IfNone, IfSome, MatchOption}
+use Rattle.std.proofs.lemmas.Bool.{cases_lt}
+use Rattle.std.proofs.lemmas.Option.{same_Some, slice_get-get_or, slice_get_within, get_or_from_slice_get}
+use Rattle.hw_names.specs.Name.{Text}
+use Rattle.fil_ast.specs.Evidence.{AreApart, Fits, IsGap, IsSpan, UsesEvent, Own, Another}
+use Rattle.fil_ast.specs.Naming.{event_names}
+use Rattle.fil_ast.specs.Scope.{Scope, Invocation}
+use Rattle.fil_ast.specs.Sharing.{AreDisjoint, EndsInTime, IsUseOf, KeepsApart}
+use Rattle.fil_ast.specs.Signature.{Delay, Fixed, Gap, End, Signature}
+use Rattle.fil_ast.specs.Timeline.{IsUse, Use, hold_of, until}
+use Rattle.fil_ast.specs.Tree.{Component, Event, TimeAt, component_tree, event_tree}
+use Rattle.fil_ast.specs.declared.tree.EventDef.{EventDef}
+use Rattle.fil_ast.specs.declared.tree.FilComp.{FilComp}
+use Rattle.fil_share.specs.declared.hold.Meet.{Meet}
+use Rattle.fil_sig.specs.Seen.{seen, seen_delay, seen_event}
+use Rattle.fil_sig.specs.declared.time_sig.SigEvent as time_sig
+use Rattle.fil_sig.specs.declared.time_sig.TimeSig.{TimeSig}
+use Rattle.fil_check.specs.Callees.{HasGoodDelay, HasGoodTimes, IsGoodDelay}
+use Rattle.fil_check.specs.Place.{AreShared}
+use Rattle.fil_check.specs.Shared.{IsInvoked}
+use Rattle.fil_check.specs.Sharing.{EndsAt, GapAt, HasDelay, IsFirstOf, IsLastOf, IsShownBy, IsSpanOf, SpanFits, SpanMeets}
+use Rattle.fil_check.specs.Uses.{ShowsUse}
+use Rattle.fil_check.specs.declared.span.Span.{Span}
+use Rattle.fil_check.specs.declared.tables.Tables.{Tables}
+use Rattle.fil_check.specs.declared.times.Offset.{Offset}
+use Rattle.fil_check.specs.declared.uses.Use as numbers
+use Rattle.fil_check.proofs.GivenLemmas.{mapped_at}
+use Rattle.fil_check.proofs.SharingLemmas.{AreAlike, a_use, alike_back, apart_alike, call_at, disjoint_back, from_earlier, from_own, no_use, place_of, same_use, to_earlier}
+use Rattle.fil_check.proofs.UseLemmas.{event_there, is_there, its_name, only_delay}
+
+-- an event of a good delay is held for a row or more
+held_by : (d : Delay) (s : TimeAt) (next : Option TimeAt) (hold : ℕ) → IsGoodDelay d → hold_of d s next ≡ Some hold → (d ≡ Gap → (t : TimeAt) → next ≡ Some t → s.plus + 1 < t.plus) → 0 < hold
+held_by (Fixed rows) s next hold good e later =
+    let same : rows ≡ hold = same_Some rows hold e in let least : 1 ≤ rows = good.0 in omega arith
+held_by Gap s None hold good e later = absurd (cc)
+held_by Gap s (Some t) hold good e later =
+    let same : t.plus - (s.plus + 1) ≡ hold = same_Some (until s t) hold e in let less : s.plus + 1 < t.plus = later refl t refl in omega arith
+held_by End s next hold good e later = absurd (cc)
+
+pub good_at : (sig : TimeSig) (n : ℕ) (e : time_sig.SigEvent) → HasGoodTimes (seen sig) → slice_get sig.events.items n ≡ Some e → IsGoodDelay (seen_delay e.delay)
+good_at sig n e good here =
+    let all = map seen_event sig.events.items in
+    let at = mapped_at seen_event sig.events.items n e here in
+    subst HasGoodDelay (get_or_from_slice_get all n (seen_event e) (seen_event e) at) (good.delays n (seen_event e) (slice_get_within all n (seen_event e) at))
+
+-- what a look-up that may find nothing tells
+pub told_other : (P P' : Type 0) (Q Q' : Meet → Type 0) (r : Option Meet) → MatchOption r P Q → (P → P') → ((x : Meet) → Q x → Q' x) → MatchOption r P' Q'
+told_other P P' Q Q' None told none some = none told
+told_other P P' Q Q' (Some x) told none some = some x told
+
+-- the uses by the invocation and by the earlier ones, as far as a loop has come
+pub record IsEarlierBelow (with : Scope) (calls : List ℕ) (k n : ℕ) (u : Use) : Type 0 where
+  pub place : ℕ
+  pub below : place < n
+  pub call : ℕ
+  pub numbered : slice_get calls place ≡ Some call
+  pub invocation : Invocation
+  pub there : slice_get with.invocations call ≡ Some invocation
+  pub triggered : IsUseOf with invocation u
+  pub event : u.event ≡ k
+
+abbrev pub Among : Scope → Invocation → List ℕ → ℕ → ℕ → Use → Type 0
+Among with v calls k n u = (IsUseOf with v u × (u.event ≡ k)) ⊎ IsEarlierBelow with calls k n u
+
+-- one of two, by numbers and by texts
+chosen : (events : List Text) (P : Use → Type 0) (one other new : numbers.Use) (a b : Use) → (new ≡ one) ⊎ (new ≡ other) → IsShownBy events one a → IsShownBy events other b → P a → P b → (f : Use) × IsShownBy events new f × P f
+chosen events P one other new a b choice shows_a shows_b has_a has_b = elim choice [
+  | inl same ↦ (a, subst (λ (n : numbers.Use). IsShownBy events n a) (sym same) shows_a, has_a)
+  | inr same ↦ (b, subst (λ (n : numbers.Use). IsShownBy events n b) (sym same) shows_b, has_b)
+]
+
+module _ (names : List Text) (comp : FilComp) (tables : Tables) (calls : List ℕ) (sig : Signature) (at : List Offset) (with : Scope) (v : Invocation) (is : IsInvoked names comp tables calls sig at with v) where
+  own : (u : Use) → IsUseOf with v u → IsUse sig v.inst v.gives.times u
+  own u is_u = from_own names comp tables calls sig at with v is u is_u
+
+  pub alike_in : (w : Invocation) (a b : Use) → IsUseOf with w a → IsUseOf with w b → a.event ≡ b.event → AreAlike a b
+  alike_in w a b (s, is_s, use_a) (t, is_t, use_b) same =
+      let use_too : IsUse s w.inst w.gives.times b = subst (λ (x : Signature). IsUse x w.inst w.gives.times b) (same_Some t s (sym is_t ∙ is_s)) use_b in
+      same_use s w.gives.times w.inst w.inst a b use_a use_too same
+
+  -- uses by two earlier invocations of one instance
+  two_earlier : (i j : Invocation) (a b : Use) → Contains with.invocations i → Contains with.invocations j → IsUseOf with i a → IsUseOf with j b → a.inst ≡ b.inst → a.event ≡ b.event
+      → AreAlike a b ⊎ (AreShared with a b ⊎ AreShared with b a)
+  two_earlier i j a b has_i has_j use_a use_b inst event =
+      let m = has_i.0 in
+      let n = has_j.0 in
+      let at_m : slice_get with.invocations m ≡ Some i = slice_get-get_or with.invocations m i has_i.1 ∙ ap Some has_i.2 in
+      let at_n : slice_get with.invocations n ≡ Some j = slice_get-get_or with.invocations n j has_j.1 ∙ ap Some has_j.2 in
+      elim (cases_lt m n) [
+        | inl before ↦ inr (inl (is.shared m n i j a b before at_m at_n use_a use_b inst event))
+        | inr after ↦ elim (cases_lt n m) [
+          | inl later ↦ inr (inr (is.shared n m j i b a later at_n at_m use_b use_a (sym inst) (sym event)))
+          | inr le ↦
+              let same : m ≡ n = omega arith in
+              let same_invocation = same_Some j i (sym at_n ∙ ap (slice_get with.invocations) (sym same) ∙ at_m) in
+              inl (alike_in i a b use_a (subst (λ (w : Invocation). IsUseOf with w b) same_invocation use_b) event)
+        ]
+      ]
+
+  module _ (good : HasGoodTimes sig) (kept : KeepsApart with v) where
+    own_held : (u : Use) → IsUseOf with v u → 0 < u.hold
+    own_held u is_u =
+        let x = own u is_u in
+        let within = slice_get_within sig.events u.event x.event x.of in
+        let delay = subst HasGoodDelay (get_or_from_slice_get sig.events u.event x.event x.event x.of) (good.delays u.event x.event within) in
+        held_by x.event.delay u.at (slice_get v.gives.times (u.event + 1)) u.hold delay x.held (λ gap t is_t. is.own_holds u.event x.event x.of gap u.at t x.time is_t)
+
+    module _ (k : ℕ) where
+      abbrev Uses : Use → Type 0
+      Uses a = UsesEvent with v k a
+
+      held : (a : Use) → Uses a → 0 < a.hold
+      held a (Own is_a here) = own_held a is_a
+      held a (Another u is_u here earlier) = is.held earlier.invocation a earlier.is_earlier earlier.uses
+
+      event_of : (a : Use) → Uses a → a.event ≡ k
+      event_of a (Own is_a here) = here
+      event_of a (Another u is_u here earlier) = earlier.same_event ∙ here
+
+      inst_of : (a : Use) → Uses a → a.inst ≡ v.inst
+      inst_of a (Own is_a here) = (own a is_a).named
+      inst_of a (Another u is_u here earlier) = earlier.same_instance ∙ (own u is_u).named
+
+      own_other : (u a : Use) → IsUseOf with v u → u.event ≡ k → Uses a → AreAlike u a ⊎ AreApart a u
+      own_other u a is_u here (Own is_a there) = inl (alike_in v u a is_u is_a (here ∙ sym there))
+      own_other u a is_u here (Another x is_x there earlier) =
+          inr (apart_alike a x a u (refl, refl) (alike_in v x u is_x is_u (there ∙ sym here)) (kept x a is_x earlier))
+
+      on_event : (u a : Use) → IsUseOf with v u → u.event ≡ k → Uses a → a.at.event ≡ u.at.event
+      on_event u a is_u here has = elim (own_other u a is_u here has) [
+        | inl like ↦ ap (λ (t : TimeAt). t.event) (sym like.0)
+        | inr apart ↦ apart.0
+      ]
+
+      two_uses : (a b : Use) → Uses a → Uses b → AreAlike a b ⊎ AreDisjoint a b
+      two_uses a b (Own is_a here) has_b = elim (own_other a b is_a here has_b) [
+        | inl like ↦ inl like
+        | inr apart ↦ inr (disjoint_back b a apart.1)
+      ]
+      two_uses a b (Another u is_u here earlier) (Own is_b there) = elim (own_other b a is_b there (Another u is_u here earlier)) [
+        | inl like ↦ inl (alike_back b a like)
+        | inr apart ↦ inr apart.1
+      ]
+      two_uses a b (Another u is_u here earlier) (Another x is_x there other) =
+          let inst = inst_of a (Another u is_u here earlier) ∙ sym (inst_of b (Another x is_x there other)) in
+          let event = event_of a (Another u is_u here earlier) ∙ sym (event_of b (Another x is_x there other)) in
+          elim (two_earlier earlier.invocation other.invocation a b earlier.is_earlier other.is_earlier earlier.uses other.uses inst event) [
+            | inl like ↦ inl like
+            | inr (inl shared) ↦ inr shared.disjoint
+            | inr (inr shared) ↦ inr (disjoint_back b a shared.disjoint)
+          ]
+
+      -- what starts no later than the last ends no later
+      ends_by : (a last : Use) → Uses a → Uses last → a.at.plus ≤ last.at.plus → a.at.plus + a.hold ≤ last.at.plus + last.hold
+      ends_by a last has_a has_last before =
+          let is_held : 0 < last.hold = held last has_last in
+          elim (two_uses a last has_a has_last) [
+            | inl like ↦
+                let plus : a.at.plus ≡ last.at.plus = ap (λ (t : TimeAt). t.plus) like.0 in
+                let hold : a.hold ≡ last.hold = like.1 in omega arith
+            | inr (inl h) ↦ omega arith
+            | inr (inr h) ↦ omega arith
+          ]
+
+      -- where the span fits, F12 holds at the event
+      pub fits_ends : (first last : Use) (d : ℕ) → Uses first → ((a : Use) → Uses a → first.at.plus ≤ a.at.plus) → Uses last → ((a : Use) → Uses a → a.at.plus ≤ last.at.plus)
+          → ((e : Event) → Contains with.comp.events e → e.name ≡ first.at.event → e.delay ≡ d) → last.at.plus + last.hold ≤ first.at.plus + d → EndsAt with v k
+      fits_ends first last d has_first least has_last greatest delays fits u w is_u earlier here e there named =
+          let has_u : Uses u = Own is_u here in
+          let has_w : Uses w = Another u is_u here earlier in
+          let delay : e.delay ≡ d = delays e there (named ∙ sym (on_event u first is_u here has_first)) in
+          let start_u : first.at.plus ≤ u.at.plus = least u has_u in
+          let start_w : first.at.plus ≤ w.at.plus = least w has_w in
+          let end_u : u.at.plus + u.hold ≤ last.at.plus + last.hold = ends_by u last has_u has_last (greatest u has_u) in
+          let end_w : w.at.plus + w.hold ≤ last.at.plus + last.hold = ends_by w last has_w has_last (greatest w has_w) in (omega arith, omega arith)
+
+      -- where F12 holds at the event, each span fits
+      fit_by : EndsAt with v k → (p q : Use) (d : ℕ) → IsSpan with v k p q d → Uses p → Uses q → Fits p q d
+      fit_by ends p q d s (Own is_p here) (Own is_q there) =
+          let like = alike_in v p q is_p is_q (here ∙ sym there) in
+          let plus : p.at.plus ≡ q.at.plus = ap (λ (t : TimeAt). t.plus) like.0 in
+          let hold : p.hold ≡ q.hold = like.1 in
+          let short : p.hold ≤ s.on.delay = is.own_delays p (own p is_p) s.on s.is_own s.named in
+          let delayed : d ≡ s.on.delay = s.delayed in omega arith
+      fit_by ends p q d s (Own is_p here) (Another u is_u there earlier) =
+          let like = alike_in v p u is_p is_u (here ∙ sym there) in
+          let plus : p.at.plus ≡ u.at.plus = ap (λ (t : TimeAt). t.plus) like.0 in
+          let within : q.at.plus + q.hold ≤ u.at.plus + s.on.delay = (ends u q is_u earlier there s.on s.is_own (s.named ∙ ap (λ (t : TimeAt). t.event) like.0)).0 in
+          let delayed : d ≡ s.on.delay = s.delayed in omega arith
+      fit_by ends p q d s (Another u is_u here earlier) (Own is_q there) =
+          let like = alike_in v u q is_u is_q (here ∙ sym there) in
+          let plus : u.at.plus ≡ q.at.plus = ap (λ (t : TimeAt). t.plus) like.0 in
+          let hold : u.hold ≡ q.hold = like.1 in
+          let within : u.at.plus + u.hold ≤ p.at.plus + s.on.delay = (ends u p is_u earlier here s.on s.is_own (s.named ∙ (kept u p is_u earlier).0)).1 in
+          let delayed : d ≡ s.on.delay = s.delayed in omega arith
+      fit_by ends p q d s (Another u is_u here earlier) (Another x is_x there other) =
+          let has_p : Uses p = Another u is_u here earlier in
+          let has_q : Uses q = Another x is_x there other in
+          let delayed : d ≡ s.on.delay = s.delayed in
+          elim (two_earlier earlier.invocation other.invocation p q earlier.is_earlier other.is_earlier earlier.uses other.uses (inst_of p has_p ∙ sym (inst_of q has_q)) (event_of p has_p ∙ sym (event_of q has_q))) [
+            | inl like ↦
+                let plus : p.at.plus ≡ q.at.plus = ap (λ (t : TimeAt). t.plus) like.0 in
+                let first : p.at.plus ≤ u.at.plus = s.least u (Own is_u here) in
+                let last : u.at.plus ≤ q.at.plus = s.greatest u (Own is_u here) in
+                let held_p : 0 < p.hold = held p has_p in
+                let held_u : 0 < u.hold = own_held u is_u in
+                elim ((kept u p is_u earlier).1) [ inl h ↦ absurd (omega arith) | inr h ↦ absurd (omega arith) ]
+            | inr (inl shared) ↦
+                let within : q.at.plus + q.hold ≤ p.at.plus + s.on.delay = (shared.in_time s.on s.is_own (s.named ∙ shared.event)).1 in omega arith
+            | inr (inr shared) ↦
+                let within : q.at.plus + q.hold ≤ p.at.plus + s.on.delay = (shared.in_time s.on s.is_own s.named).0 in omega arith
+          ]
+
+      pub ends_fit : EndsAt with v k → (p q : Use) (d : ℕ) → IsSpan with v k p q d → Fits p q d
+      ends_fit ends p q d s = fit_by ends p q d s s.has_first s.has_last
+
+      -- what the span by numbers says, where the event on which it is has this delay
+      module _ (span : Span) (spans : IsSpanOf tables.events (UsesEvent with v k) span) (d : EventDef) (here : slice_get comp.events.items span.first.at.event ≡ Some d) where
+        are : tables.events ≡ event_names (component_tree names comp)
+        are = is.events ∙ ap event_names is.is_comp
+
+        span_delay : (e : Event) → Contains with.comp.events e → e.name ≡ spans.first.at.event → e.delay ≡ d.delay
+        span_delay e there named =
+            only_delay names comp tables.events are span.first.at.event spans.first.at.event spans.shows_first.event is.distinct d here e
+            (subst (λ (c : Component). Contains c.events e) is.is_comp there) named
+
+        pub ends_at : SpanFits span d.delay → EndsAt with v k
+        ends_at fits =
+            let first : span.first.at.plus ≡ spans.first.at.plus = spans.shows_first.plus in
+            let last : span.last.at.plus ≡ spans.last.at.plus = spans.shows_last.plus in
+            let hold : span.last.hold ≡ spans.last.hold = spans.shows_last.hold in
+            let end : span.last.at.plus + span.last.hold ≤ span.first.at.plus + d.delay = fits in
+            fits_ends spans.first spans.last d.delay spans.has_first spans.least spans.has_last spans.greatest span_delay (omega arith)
+
+        pub gap_here : (meet : Meet) → SpanMeets span d.delay meet → GapAt with v k meet
+        gap_here meet meets =
+            let first : span.first.at.plus ≡ spans.first.at.plus = spans.shows_first.plus in
+            let last : span.last.at.plus ≡ spans.last.at.plus = spans.shows_last.plus in
+            let hold : span.last.hold ≡ spans.last.hold = spans.shows_last.hold in
+            let late : span.first.at.plus + d.delay < span.last.at.plus + span.last.hold = meets.late in
+            record {
+              first = spans.first;
+              last = spans.last;
+              delay = d.delay;
+              span = record {
+                has_first = spans.has_first;
+                least = spans.least;
+                has_last = spans.has_last;
+                greatest = spans.greatest;
+                on = event_tree names d;
+                is_own = subst (λ (c : Component). Contains c.events (event_tree names d)) (sym is.is_comp) (is_there names comp tables.events are span.first.at.event spans.first.at.event spans.shows_first.event is.distinct d here);
+                named = its_name names comp tables.events are span.first.at.event spans.first.at.event spans.shows_first.event is.distinct d here;
+                delayed = refl;
+              };
+              broken = λ fits. (let end : spans.last.at.plus + spans.last.hold ≤ spans.first.at.plus + d.delay = fits in omega arith);
+              distance = meets.gap ∙ ap₂ (λ (a b : ℕ). max d.delay (a - b)) last first;
+              row = meets.cycle ∙ ap (λ (a : ℕ). meet.gap + a) first;
+            }
+
+    pub has_on : (k : ℕ) (span : Span) → IsSpanOf tables.events (UsesEvent with v k) span → slice_get comp.events.items span.first.at.event ≡ None → ⊥
+    has_on k span spans none =
+        let there = event_there names comp tables.events (is.events ∙ ap event_names is.is_comp) span.first.at.event spans.first.at.event spans.shows_first.event in
+        let bad : ◌≡◌ {A = Option EventDef} None (Some there.0) = sym none ∙ there.1 in absurd (cc)
+
+    -- F12 at each event
+    pub ends_all : (n : ℕ) → length sig.events ≤ n → ((k : ℕ) → k < n → EndsAt with v k) → EndsInTime with v
+    ends_all n all below u earlier is_u known e there named =
+        let x = own u is_u in
+        let within = slice_get_within sig.events u.event x.event x.of in
+        below u.event (omega arith) u earlier is_u known refl e there named
+
+    pub first_broken : (n : ℕ) (meet : Meet) → ((k : ℕ) → k < n → EndsAt with v k) → GapAt with v n meet → IsGap with v meet.gap meet.cycle
+    first_broken n meet below here = record {
+      event = n;
+      first = here.first;
+      last = here.last;
+      delay = here.delay;
+      span = here.span;
+      broken = here.broken;
+      events = λ k p q d less s. ends_fit k (below k less) p q d s;
+      distance = here.distance;
+      row = here.row;
+    }
+
+    pub gap_breaks : (gap cycle : ℕ) → IsGap with v gap cycle → EndsInTime with v → ⊥
+    gap_breaks gap cycle told ends =
+        told.broken (ends_fit told.event (λ u earlier is_u known here e there named. ends u earlier is_u known e there named) told.first told.last told.delay told.span)
+
+  -- the span of all uses
+  pub span_end : (k n : ℕ) (span : Span) (u : Use) → length calls ≤ n → IsUseOf with v u → u.event ≡ k → IsSpanOf tables.events (Among with v calls k n) span → IsSpanOf tables.events (UsesEvent with v k) span
+  span_end k n span u all is_u here s =
+      let to_uses : (a : Use) → Among with v calls k n a → UsesEvent with v k a = λ a has. elim has [
+        | inl (is_a, there) ↦ Own is_a there
+        | inr e ↦
+            let found = call_at names comp tables calls sig at with v is e.place e.call e.numbered in
+            let same = same_Some found.0 e.invocation (sym found.1 ∙ e.there) in
+            let named : e.invocation.inst ≡ v.inst = ap (λ (w : Invocation). w.inst) (sym same) ∙ found.2 in
+            Another u is_u here
+            (record {
+              invocation = e.invocation;
+              is_earlier = (e.call, slice_get_within with.invocations e.call e.invocation e.there, get_or_from_slice_get with.invocations e.call e.invocation e.invocation e.there);
+              uses = e.triggered;
+              same_instance = e.triggered.2.named ∙ named ∙ sym (own u is_u).named;
+              same_event = e.event ∙ sym here;
+            })
+      ] in
+      let from_uses : (a : Use) → UsesEvent with v k a → Among with v calls k n a = λ a has. among k n all a has in
+      record {
+        first = s.first;
+        shows_first = s.shows_first;
+        has_first = to_uses s.first s.has_first;
+        least = λ a has. s.least a (from_uses a has);
+        last = s.last;
+        shows_last = s.shows_last;
+        has_last = to_uses s.last s.has_last;
+        greatest = λ a has. s.greatest a (from_uses a has);
+      }
+    where
+      among : (k n : ℕ) → length calls ≤ n → (a : Use) → UsesEvent with v k a → Among with v calls k n a
+      among k n all a (Own is_a there) = inl (is_a, there)
+      among k n all a (Another x is_x there earlier) =
+          let w = earlier.invocation in
+          let c = earlier.is_earlier in
+          let at_c : slice_get with.invocations c.0 ≡ Some w = slice_get-get_or with.invocations c.0 w c.1 ∙ ap Some c.2 in
+          let named : w.inst ≡ v.inst = sym earlier.uses.2.named ∙ earlier.same_instance ∙ (own x is_x).named in
+          let place = place_of names comp tables calls sig at with v is c.0 w at_c named in
+          let within = slice_get_within calls place.0 c.0 place.1 in
+          inr (record {
+            place = place.0;
+            below = omega arith;
+            call = c.0;
+            numbered = place.1;
+            invocation = w;
+            there = at_c;
+            triggered = earlier.uses;
+            event = earlier.same_event ∙ there;
+          })
+
+  -- and of those so far with one more invocation
+  module _ (k n call : ℕ) (w : Invocation) (here : slice_get calls n ≡ Some call) (there : slice_get with.invocations call ≡ Some w) (named : w.inst ≡ v.inst) (delay : Delay) (has : HasDelay sig k delay) where
+    more : (a : Use) → Among with v calls k n a → Among with v calls k (n + 1) a
+    more a among = elim among [
+      | inl own_use ↦ inl own_use
+      | inr e ↦
+          let below : e.place < n = e.below in
+          inr (record { place = e.place; below = omega arith; call = e.call; numbered = e.numbered; invocation = e.invocation; there = e.there; triggered = e.triggered; event = e.event })
+    ]
+
+    less : (a : Use) → Among with v calls k (n + 1) a → Among with v calls k n a ⊎ (IsUse sig v.inst w.gives.times a × (a.event ≡ k))
+    less a among = elim among [
+      | inl own_use ↦ inl (inl own_use)
+      | inr e ↦ elim (cases_lt e.place n) [
+        | inl below ↦ inl (inr (record { place = e.place; below = below; call = e.call; numbered = e.numbered; invocation = e.invocation; there = e.there; triggered = e.triggered; event = e.event }))
+        | inr after ↦
+            let below : e.place < n + 1 = e.below in
+            let same : e.place ≡ n = omega arith in
+            let same_call = same_Some e.call call (sym e.numbered ∙ ap (slice_get calls) same ∙ here) in
+            let same_invocation = same_Some e.invocation w (sym e.there ∙ ap (slice_get with.invocations) same_call ∙ there) in
+            inr (from_earlier names comp tables calls sig at with v is w named a (subst (λ (x : Invocation). IsUseOf with x a) same_invocation e.triggered), e.event)
+      ]
+    ]
+
+    pub span_more : (span new : Span) (other : Option numbers.Use) → ShowsUse tables.events delay w.gives.times k other → IfNone other (new ≡ span) → IfSome other (λ u. IsFirstOf span.first u new.first) → IfSome other (λ u. IsLastOf span.last u new.last)
+        → IsSpanOf tables.events (Among with v calls k n) span → IsSpanOf tables.events (Among with v calls k (n + 1)) new
+    span_more span new None told same first last s =
+        let fewer : (a : Use) → Among with v calls k (n + 1) a → Among with v calls k n a = λ a has_a. elim (less a has_a) [
+          | inl before ↦ before
+          | inr now ↦ absurd (no_use tables.events sig v.inst w.gives.times k delay has told a now.0 now.1)
+        ] in
+        subst (IsSpanOf tables.events (Among with v calls k (n + 1))) (sym same)
+        (record {
+          first = s.first;
+          shows_first = s.shows_first;
+          has_first = more s.first s.has_first;
+          least = λ a has_a. s.least a (fewer a has_a);
+          last = s.last;
+          shows_last = s.shows_last;
+          has_last = more s.last s.has_last;
+          greatest = λ a has_a. s.greatest a (fewer a has_a);
+        })
+    span_more span new (Some o) told same first last s =
+        let P = Among with v calls k (n + 1) in
+        let x = a_use tables.events sig v.inst w.gives.times k delay has o told in
+        let has_x : P x.0 = inr (record { place = n; below = omega arith; call = call; numbered = here; invocation = w; there = there; triggered = to_earlier names comp tables calls sig at with v is w named x.0 x.1; event = x.2 }) in
+        let f = chosen tables.events P span.first o new.first s.first x.0 first.0 s.shows_first x.3 (more s.first s.has_first) has_x in
+        let l = chosen tables.events P span.last o new.last s.last x.0 last.0 s.shows_last x.3 (more s.last s.has_last) has_x in
+        let plus_x : o.at.plus ≡ x.0.at.plus = x.3.plus in
+        let plus_first : span.first.at.plus ≡ s.first.at.plus = s.shows_first.plus in
+        let plus_last : span.last.at.plus ≡ s.last.at.plus = s.shows_last.plus in
+        let plus_f : new.first.at.plus ≡ f.0.at.plus = f.1.plus in
+        let plus_l : new.last.at.plus ≡ l.0.at.plus = l.1.plus in
+        let first_old : new.first.at.plus ≤ span.first.at.plus = first.1 in
+        let first_new : new.first.at.plus ≤ o.at.plus = first.2 in
+        let last_old : span.last.at.plus ≤ new.last.at.plus = last.1 in
+        let last_new : o.at.plus ≤ new.last.at.plus = last.2 in
+        let plus_now : (a : Use) → IsUse sig v.inst w.gives.times a × (a.event ≡ k) → x.0.at.plus ≡ a.at.plus = λ a now. ap (λ (t : TimeAt). t.plus) (same_use sig w.gives.times v.inst v.inst x.0 a x.1 now.0 (x.2 ∙ sym now.1)).0 in
+        record {
+          first = f.0;
+          shows_first = f.1;
+          has_first = f.2;
+          least = λ a has_a. elim (less a has_a) [
+            | inl before ↦ let old : s.first.at.plus ≤ a.at.plus = s.least a before in omega arith
+            | inr now ↦ let e : x.0.at.plus ≡ a.at.plus = plus_now a now in omega arith
+          ];
+          last = l.0;
+          shows_last = l.1;
+          has_last = l.2;
+          greatest = λ a has_a. elim (less a has_a) [
+            | inl before ↦ let old : a.at.plus ≤ s.last.at.plus = s.greatest a before in omega arith
+            | inr now ↦ let e : x.0.at.plus ≡ a.at.plus = plus_now a now in omega arith
+          ];
+        }
+
+-- the span's order and its last hold, with one more use
+pub order_more : (span new : Span) (other : Option numbers.Use) → IfNone other (new ≡ span) → IfSome other (λ u. IsFirstOf span.first u new.first) → IfSome other (λ u. IsLastOf span.last u new.last) → span.first.at.plus ≤ span.last.at.plus → new.first.at.plus ≤ new.last.at.plus
+order_more span new None same first last order = subst (λ (s : Span). s.first.at.plus ≤ s.last.at.plus) (sym same) order
+order_more span new (Some o) same first last order =
+    let earlier : new.first.at.plus ≤ span.first.at.plus = first.1 in
+    let later : span.last.at.plus ≤ new.last.at.plus = last.1 in omega arith
+
+pub small_more : (span new : Span) (other : Option numbers.Use) (most : ℕ) → IfNone other (new ≡ span) → IfSome other (λ u. IsLastOf span.last u new.last) → IfSome other (λ u. u.hold ≤ most) → span.last.hold ≤ most → new.last.hold ≤ most
+small_more span new None most same last small kept = subst (λ (s : Span). s.last.hold ≤ most) (sym same) kept
+small_more span new (Some o) most same last small kept = elim last.0 [
+  | inl e ↦ subst (λ (u : numbers.Use). u.hold ≤ most) (sym e) kept
+  | inr e ↦ subst (λ (u : numbers.Use). u.hold ≤ most) (sym e) small
+]

@@ -1,0 +1,40 @@
+-- That empty tables show what names mean before the first statement.
+use Rattle.std.proofs.Common.{◌≡◌, List, [], map, slice_get, refl, sym, ap, subst, ◌∙◌, arith}
+use Rattle.std.proofs.lemmas.List.{append-nil}
+use Rattle.std.proofs.lemmas.Option.{slice_get_within}
+use Rattle.hw_names.specs.Name.{Text, AreDistinct}
+use Rattle.fil_ast.specs.Items.{scope_after}
+use Rattle.fil_ast.specs.Naming.{HasNewNames, event_names, port_names}
+use Rattle.fil_ast.specs.Tree.{Component, Design, component_tree}
+use Rattle.fil_ast.specs.declared.tree.FilComp.{FilComp}
+use Rattle.fil_check.specs.Place.{StandsAt}
+use Rattle.fil_check.specs.Tables.{Shows, ShowsEarlier, listed, made_signature, times_shown}
+use Rattle.fil_check.specs.declared.tables.Earlier.{Earlier}
+use Rattle.fil_check.specs.declared.tables.Tables.{Tables}
+
+pub start_shown : (earlier : Earlier) (comps : Design) (c : Component) (tables : Tables) → ShowsEarlier earlier comps → tables.events ≡ event_names c → tables.ports ≡ port_names c → tables.instances ≡ []
+    → tables.made.items ≡ [] → tables.invoked.items ≡ [] → tables.times.items ≡ [] → tables.calls.items ≡ [] → Shows earlier tables (scope_after comps c [])
+start_shown earlier comps c tables shows events ports instances made invoked times calls = record {
+  components = shows;
+  events = events;
+  ports = ports ∙ sym (append-nil (port_names c));
+  instances = instances;
+  distinct = λ i j d before within. absurd (omega arith);
+  made = ap (map (made_signature earlier)) made;
+  invoked = ap (map (slice_get tables.instances)) invoked;
+  times = ap (map (times_shown tables.events)) times;
+  calls = ap (map listed) calls;
+}
+
+-- what holds before the first statement of a component whose signature keeps F1
+pub start : (names : List Text) (earlier : Earlier) (comps : Design) (comp : FilComp) (tables : Tables) → Shows earlier tables (scope_after comps (component_tree names comp) []) → HasNewNames comps (component_tree names comp) → tables.connected ≡ []
+    → StandsAt names earlier comp tables (scope_after comps (component_tree names comp) []) []
+start names earlier comps comp tables shows new connected =
+    let D : List Text → Type 0 = AreDistinct in
+    record {
+      place = record { shows = shows; is_comp = refl };
+      distinct = subst D (sym shows.events) new.events;
+      connected = connected;
+      held = λ v u there uses. absurd (omega (arith, there.1));
+      shared = λ i j v w u x less at_i at_j uses_u uses_x inst event. (let within = slice_get_within [] i v at_i in absurd (omega arith));
+    }

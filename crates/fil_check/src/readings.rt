@@ -1,0 +1,329 @@
+//! Which ports of a component read which within a row.
+ghost use Rattle.std.specs.Prelude.{◌≡◌, ◌<◌, List, Some, All, Contains, length, map, option_map, IfOk, OnOk};
+ghost use Rattle.hw_names.specs.Name.{Text};
+ghost use Rattle.fil_ast.specs.Numbers.{ComponentHasNumbers, StatementHasNumbers, ValueHasNumbers};
+ghost use Rattle.fil_ast.specs.Primitives.{filament_primitive, table_name};
+ghost use Rattle.fil_ast.specs.Rules.{KeepsRules, all_rules};
+ghost use Rattle.fil_ast.specs.Scope.{Scope, Invocation, instances_at, invocation_named};
+ghost use Rattle.fil_ast.specs.Tree.{Design, component_tree, statement_tree, value_tree};
+ghost use Rattle.fil_ast.specs.Wires.{through_before, whole_scope};
+ghost use Rattle.fil_sig.specs.Seen.{seen, seen_port};
+ghost use Rattle.hw_prims.specs.Meaning.{is_through};
+ghost use Rattle.hw_prims.specs.Table.{inputs_of, name_at, outputs_of};
+ghost use Rattle.hw_prims.specs.declared.prim.Primitive.{Primitive};
+ghost use Rattle.fil_check.specs.PortGraph.{Adds, Below};
+ghost use Rattle.fil_check.specs.Readings.{port_of_value, ReadsAll, ReadsArgument, ReadsAt, ReadsBy, ReadsEach, ReadsGiven, ReadsMade, ReadsNumbered, ReadsValue, ReadsWired};
+ghost use Rattle.fil_check.specs.Tables.{IsPlace};
+ghost use Rattle.fil_check.specs.Wiring.{ShowsWires};
+ghost use Rattle.fil_ast.specs.declared.tree.FilComp.{FilComp};
+ghost use Rattle.fil_check.specs.declared.tables.Earlier.{Earlier};
+
+use crate::meaning::{callee_named, invoked_by};
+use crate::port_graph::{PortGraph, full_name};
+use crate::tables::{Earlier, Tables};
+use crate::wires::Wires;
+use fil_ast::{FilComp, Stmt, Value};
+use fil_sig::{SigPort, TimeSig, table_name};
+use hw_bits::Memory;
+use hw_names::{NameId, Names};
+use hw_prims::Prim;
+use std::alloc::Global;
+
+/// Adds what each statement of the body says.
+pub fn add_body(
+    alloc: Global,
+    graph: &mut PortGraph,
+    names: &Names,
+    earlier: &Earlier,
+    wires: &[Wires],
+    comp: &FilComp,
+    tables: &Tables,
+) -> Result<(), Memory>
+    requires numbers { ComponentHasNumbers names.now comp.now }
+    ensures { (comps : Design) → IsPlace names.now earlier.now comp.now tables.now (whole_scope comps (component_tree names.now comp.now))
+        → ShowsWires comps wires.now → KeepsRules all_rules comps
+        → OnOk result (Adds (Below (ReadsAt (through_before comps) (whole_scope comps (component_tree names.now comp.now)) (component_tree names.now comp.now).body) (length comp.now.body.items)) graph.old graph.new) }
+{
+    for stmt in &comp.body {
+        add_statement(alloc, graph, names, earlier, wires, comp, tables, stmt)?;
+    }
+    Ok(())
+}
+
+/// Adds what a statement says.
+fn add_statement(
+    alloc: Global,
+    graph: &mut PortGraph,
+    names: &Names,
+    earlier: &Earlier,
+    wires: &[Wires],
+    comp: &FilComp,
+    tables: &Tables,
+    stmt: &Stmt,
+) -> Result<(), Memory>
+    requires numbers { StatementHasNumbers names.now stmt.now }
+    ensures { (scope : Scope) → IsPlace names.now earlier.now comp.now tables.now scope
+        → ShowsWires scope.comps wires.now → KeepsRules all_rules scope.comps
+        → All (Contains scope.instances) (instances_at (statement_tree names.now stmt.now))
+        → OnOk result (Adds (ReadsBy (through_before scope.comps) scope (statement_tree names.now stmt.now)) graph.old graph.new) }
+{
+    match stmt {
+        Stmt::New { name, comp, params } => {
+            let (name, made) = (names.text(*name), names.text(*comp));
+            add_instance(alloc, graph, earlier, wires, tables, name, made, params)
+        }
+        Stmt::Call { inst, args, .. } => {
+            add_arguments(
+                alloc,
+                graph,
+                names,
+                earlier,
+                comp,
+                tables,
+                names.text(*inst),
+                args,
+            )
+        }
+        Stmt::Both {
+            name,
+            comp: made,
+            params,
+            args,
+            ..
+        } => {
+            let (name, made) = (names.text(*name), names.text(*made));
+            add_instance(alloc, graph, earlier, wires, tables, name, made, params)?;
+            add_arguments(alloc, graph, names, earlier, comp, tables, name, args)
+        }
+        Stmt::Set { dst, value } => {
+            add_value(alloc, graph, names, comp, tables, names.text(*dst), *value)
+        }
+    }
+}
+
+/// Adds that the ports of an instance's arguments read what is given to them.
+fn add_arguments(
+    alloc: Global,
+    graph: &mut PortGraph,
+    names: &Names,
+    earlier: &Earlier,
+    comp: &FilComp,
+    tables: &Tables,
+    inst: &[u8],
+    args: &[Value],
+) -> Result<(), Memory>
+    requires values { All (ValueHasNumbers names.now) args.now }
+    ensures { (scope : Scope) → IsPlace names.now earlier.now comp.now tables.now scope
+        → OnOk result (Adds (ReadsGiven scope inst.now (map (value_tree names.now) args.now)) graph.old graph.new) }
+{
+    match callee_named(earlier, tables, inst) {
+        Some(callee) => { add_given(alloc, graph, names, comp, tables, inst, callee.sig(), args) }
+        None => Ok(()),
+    }
+}
+
+/// The same for an instance of this signature.
+fn add_given(
+    alloc: Global,
+    graph: &mut PortGraph,
+    names: &Names,
+    comp: &FilComp,
+    tables: &Tables,
+    inst: &[u8],
+    sig: &TimeSig,
+    args: &[Value],
+) -> Result<(), Memory>
+    requires values { All (ValueHasNumbers names.now) args.now }
+    ensures { (earlier : Earlier) (scope : Scope) → IsPlace names.now earlier comp.now tables.now scope
+        → OnOk result (Adds (Below (ReadsArgument scope inst.now (seen sig.now) (map (value_tree names.now) args.now)) (length args.now)) graph.old graph.new) }
+{
+    for (number, value) in args.iter().enumerate() {
+        if let Some(input) = sig.ins.get(number) {
+            let port = full_name(alloc, inst, input.name.bytes())?;
+            add_value(alloc, graph, names, comp, tables, port.as_slice(), *value)?;
+        }
+    }
+    Ok(())
+}
+
+/// Adds that the port reads the value.
+fn add_value(
+    alloc: Global,
+    graph: &mut PortGraph,
+    names: &Names,
+    comp: &FilComp,
+    tables: &Tables,
+    port: &[u8],
+    value: Value,
+) -> Result<(), Memory>
+    requires value { ValueHasNumbers names.now value }
+    ensures { (earlier : Earlier) (scope : Scope) → IsPlace names.now earlier comp.now tables.now scope
+        → OnOk result (Adds (ReadsValue scope port.now (value_tree names.now value)) graph.old graph.new) }
+{
+    match value_port(alloc, names, comp, tables, value)? {
+        Some(other) => graph.add(port, other.as_slice()),
+        None => Ok(()),
+    }
+}
+
+/// The full name of the port that a value is read from; `None` for a literal.
+fn value_port(
+    alloc: Global,
+    names: &Names,
+    comp: &FilComp,
+    tables: &Tables,
+    value: Value,
+) -> Result<Option<Vec<u8>>, Memory>
+    requires value { ValueHasNumbers names.now value }
+    ensures { (earlier : Earlier) (scope : Scope) → IsPlace names.now earlier comp.now tables.now scope
+        → IfOk result (λ found. option_map (λ full. full.items) found ≡ port_of_value scope (value_tree names.now value)) }
+{
+    match value {
+        Value::Port(name) => Ok(Some(Vec::from_slice(alloc, names.text(name))?)),
+        Value::Out(invocation, port) => {
+            match instance_invoked(comp, tables, names.text(invocation)) {
+                Some(inst) => Ok(Some(full_name(alloc, inst, names.text(port))?)),
+                None => Ok(None),
+            }
+        }
+        Value::Lit { .. } => Ok(None),
+    }
+}
+
+/// The name of the instance that the invocation of this name invokes.
+fn instance_invoked<'a>(comp: &FilComp, tables: &'a Tables, name: &[u8]) -> Option<&'a [u8]>
+    ensures { (names : List Text) (earlier : Earlier) (scope : Scope) → IsPlace names earlier comp.now tables.now scope
+        → option_map (λ inst. inst.now) result ≡ option_map (λ (v : Invocation). v.inst) (invocation_named scope.invocations name.now) }
+{
+    let instance = invoked_by(comp, tables, name)?;
+    if instance >= tables.instances.len() {
+        return None;
+    }
+    Some(tables.instances.text(NameId(instance as u32)))
+}
+
+/// Adds that the outputs of an instance read the inputs on which they depend within a row.
+fn add_instance(
+    alloc: Global,
+    graph: &mut PortGraph,
+    earlier: &Earlier,
+    wires: &[Wires],
+    tables: &Tables,
+    name: &[u8],
+    made: &[u8],
+    params: &[u128],
+) -> Result<(), Memory>
+    ensures { (names : List Text) (comp : FilComp) (scope : Scope) → IsPlace names earlier.now comp tables.now scope
+        → ShowsWires scope.comps wires.now → KeepsRules all_rules scope.comps
+        → Contains scope.instances (record { name = name.now; made = made.now; params = params.now })
+        → OnOk result (Adds (ReadsMade (through_before scope.comps) scope (record { name = name.now; made = made.now; params = params.now })) graph.old graph.new) }
+{
+    let Some(callee) = callee_named(earlier, tables, name) else {
+        return Ok(());
+    };
+    if let Some(table) = table_name(made) {
+        if is_through(table, params) {
+            return add_all(alloc, graph, name, callee.sig());
+        }
+        return Ok(());
+    }
+    let Some(number) = earlier.names.find(made) else {
+        return Ok(());
+    };
+    match wires.get(number.0 as usize) {
+        Some(own) => add_wired(alloc, graph, name, callee.sig(), own),
+        None => Ok(()),
+    }
+}
+
+/// Whether each output of a Filament primitive depends on each input within a row; if not, none does on any.
+fn is_through(table: &str, params: &[u128]) -> bool
+    ensures { (made : Text) (prim : Primitive) (input output : Text) → table_name made ≡ Some table.now → filament_primitive made params.now ≡ Some prim
+        → 0 < length (inputs_of prim) → 0 < length (outputs_of prim) → is_through prim input output ≡ result }
+{
+    match Prim::make(table.as_bytes(), params) {
+        Ok(prim) => is_first_through(prim),
+        Err(_) => false,
+    }
+}
+
+/// Whether the first output depends on the first input within a row.
+fn is_first_through(prim: Prim) -> bool
+    ensures { 0 < length (inputs_of prim) → 0 < length (outputs_of prim)
+        → result ≡ is_through prim (name_at (inputs_of prim) 0) (name_at (outputs_of prim) 0) }
+{
+    if prim.inputs() == 0 {
+        return false;
+    }
+    if prim.outputs() == 0 {
+        return false;
+    }
+    prim.through(0, 0)
+}
+
+/// Adds that each output of an instance reads each input.
+fn add_all(alloc: Global, graph: &mut PortGraph, inst: &[u8], sig: &TimeSig) -> Result<(), Memory>
+    ensures { OnOk result (Adds (Below (ReadsAll inst.now (seen sig.now)) (length sig.now.outs.items)) graph.old graph.new) }
+{
+    for output in &sig.outs {
+        add_each(alloc, graph, inst, output.name.bytes(), &sig.ins)?;
+    }
+    Ok(())
+}
+
+/// Adds that an output of an instance reads each of the inputs.
+fn add_each(
+    alloc: Global,
+    graph: &mut PortGraph,
+    inst: &[u8],
+    output: &[u8],
+    ins: &[SigPort],
+) -> Result<(), Memory>
+    ensures { OnOk result (Adds (Below (ReadsEach inst.now output.now (map seen_port ins.now)) (length ins.now)) graph.old graph.new) }
+{
+    let port = full_name(alloc, inst, output)?;
+    for input in ins {
+        let other = full_name(alloc, inst, input.name.bytes())?;
+        graph.add(port.as_slice(), other.as_slice())?;
+    }
+    Ok(())
+}
+
+/// Adds that each output of an instance reads the inputs on which it depends.
+fn add_wired(
+    alloc: Global,
+    graph: &mut PortGraph,
+    inst: &[u8],
+    sig: &TimeSig,
+    wires: &Wires,
+) -> Result<(), Memory>
+    ensures { OnOk result (Adds (Below (ReadsWired inst.now (seen sig.now) wires.now.inputs.items) (length sig.now.outs.items)) graph.old graph.new) }
+{
+    for (number, output) in sig.outs.iter().enumerate() {
+        if let Some(numbers) = wires.inputs.get(number) {
+            add_inputs(alloc, graph, inst, output.name.bytes(), &sig.ins, numbers)?;
+        }
+    }
+    Ok(())
+}
+
+/// Adds that an output of an instance reads the inputs of these numbers.
+fn add_inputs(
+    alloc: Global,
+    graph: &mut PortGraph,
+    inst: &[u8],
+    output: &[u8],
+    ins: &[SigPort],
+    numbers: &[usize],
+) -> Result<(), Memory>
+    ensures { OnOk result (Adds (Below (ReadsNumbered inst.now output.now (map seen_port ins.now) numbers.now) (length numbers.now)) graph.old graph.new) }
+{
+    let port = full_name(alloc, inst, output)?;
+    for number in numbers {
+        if let Some(input) = ins.get(*number) {
+            let other = full_name(alloc, inst, input.name.bytes())?;
+            graph.add(port.as_slice(), other.as_slice())?;
+        }
+    }
+    Ok(())
+}

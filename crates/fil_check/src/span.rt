@@ -1,0 +1,148 @@
+//! The rule F12: one transaction's uses of an event of an instance end within the delay.
+ghost use Rattle.std.specs.Prelude.{◌≡◌, ◌≤◌, ℕ, ◌<◌, List, All, IfNone, IfSome, MatchOption, length};
+ghost use Rattle.hw_names.specs.Name.{Text};
+ghost use Rattle.fil_ast.specs.Evidence.{IsGap, UsesEvent};
+ghost use Rattle.fil_ast.specs.Scope.{Scope, Invocation};
+ghost use Rattle.fil_ast.specs.Sharing.{EndsInTime, IsUseOf, KeepsApart};
+ghost use Rattle.fil_ast.specs.Signature.{Signature};
+ghost use Rattle.fil_ast.specs.Timeline as timeline;
+ghost use Rattle.fil_ast.specs.declared.tree.FilComp.{FilComp};
+ghost use Rattle.fil_sig.specs.Seen.{seen, seen_delay};
+ghost use Rattle.fil_check.specs.Callees.{HasGoodTimes, IsGoodDelay};
+ghost use Rattle.fil_check.specs.Shared.{IsInvoked};
+ghost use Rattle.fil_check.specs.Sharing.{EndsAt, GapAt, HasDelay, IsFirstOf, IsLastOf, IsShownBy, IsSpanOf, MOST_HOLD, SpanFits, SpanMeets};
+ghost use Rattle.fil_check.specs.declared.uses.Use.{Use};
+
+use crate::apart::{end_of, times_given};
+use crate::tables::Tables;
+use crate::times::Offset;
+use crate::uses::{Use, use_of};
+use fil_ast::FilComp;
+use fil_share::Meet;
+use fil_sig::{Delay, TimeSig};
+
+/// Of one transaction's uses of an event of an instance, the one that starts first and the one that starts last.
+#[derive(Clone, Copy, Debug, PartialEq, Eq)]
+pub struct Span {
+    pub first: Use,
+    pub last: Use,
+}
+
+/// Of two uses the one that starts first.
+fn first_of(one: Use, other: Use) -> Use
+    ensures { IsFirstOf one other result }
+{
+    if other.at.plus < one.at.plus {
+        other
+    } else {
+        one
+    }
+}
+
+/// Of two uses the one that starts last.
+fn last_of(one: Use, other: Use) -> Use
+    ensures { IsLastOf one other result }
+{
+    if one.at.plus < other.at.plus {
+        other
+    } else {
+        one
+    }
+}
+
+/// The span with one more use, if there is one.
+fn widened(span: Span, other: Option<Use>) -> Span
+    ensures same { IfNone other (result ≡ span) }
+    ensures first { IfSome other (λ u. IsFirstOf span.first u result.first) }
+    ensures last { IfSome other (λ u. IsLastOf span.last u result.last) }
+{
+    match other {
+        Some(other) => Span {
+            first: first_of(span.first, other),
+            last: last_of(span.last, other),
+        },
+        None => span,
+    }
+}
+
+/// The span of a use of the callee's event with this number and delay, and of the uses by the earlier invocations.
+fn span_of(tables: &Tables, calls: &[usize], own: Use, number: usize, delay: Delay) -> Span
+    requires calls { All (λ (k : ℕ). k < length tables.now.times.items) calls.now }
+    requires good { IsGoodDelay (seen_delay delay) }
+    requires small { own.hold ≤ MOST_HOLD }
+    ensures spans { (names : List Text) (comp : FilComp) (sig : Signature) (at : List Offset) (with : Scope) (v : Invocation) (u : timeline.Use)
+        → IsInvoked names comp tables.now calls.now sig at with v → HasDelay sig number (seen_delay delay)
+        → IsUseOf with v u → u.event ≡ number → IsShownBy tables.now.events own u
+        → IsSpanOf tables.now.events (UsesEvent with v number) result }
+    ensures order { result.first.at.plus ≤ result.last.at.plus }
+    ensures small { result.last.hold ≤ MOST_HOLD }
+{
+    let mut span = Span {
+        first: own,
+        last: own,
+    };
+    for call in calls {
+        span = widened(span, use_of(times_given(tables, *call), number, delay));
+    }
+    span
+}
+
+/// How far apart two transactions start that both hold the instance, and where, if a transaction's uses end later
+/// than the delay after the first start.
+fn overrun(span: Span, delay: u128) -> Option<Meet>
+    requires order { span.first.at.plus ≤ span.last.at.plus }
+    requires small { span.last.hold ≤ MOST_HOLD }
+    ensures { MatchOption result (SpanFits span delay) (SpanMeets span delay) }
+{
+    if end_of(span.last) - span.first.at.plus as u128 <= delay {
+        return None;
+    }
+    let distance = span.last.at.plus - span.first.at.plus;
+    let gap = (delay as u64).max(distance as u64);
+    let cycle = gap + span.first.at.plus as u64;
+    Some(Meet { gap, cycle })
+}
+
+/// F12 at the callee's event with this number and delay: the evidence where it is broken.
+fn gap_at(
+    comp: &FilComp,
+    tables: &Tables,
+    calls: &[usize],
+    at: &[Offset],
+    number: usize,
+    delay: Delay,
+) -> Option<Meet>
+    requires calls { All (λ (k : ℕ). k < length tables.now.times.items) calls.now }
+    requires good { IsGoodDelay (seen_delay delay) }
+    ensures { (names : List Text) (sig : Signature) (with : Scope) (v : Invocation)
+        → IsInvoked names comp.now tables.now calls.now sig at.now with v → HasGoodTimes sig → HasDelay sig number (seen_delay delay) → KeepsApart with v
+        → MatchOption result (EndsAt with v number) (GapAt with v number) }
+{
+    let own = use_of(at, number, delay)?;
+    let span = span_of(tables, calls, own, number, delay);
+    let event = comp.events.get(span.first.at.event)?;
+    overrun(span, event.delay)
+}
+
+/// F12 of an invocation at these times, after the earlier ones of its instance with these numbers: the evidence for
+/// the first event of the callee that breaks it.
+pub fn first_gap(
+    comp: &FilComp,
+    tables: &Tables,
+    calls: &[usize],
+    sig: &TimeSig,
+    at: &[Offset],
+) -> Option<Meet>
+    requires calls { All (λ (k : ℕ). k < length tables.now.times.items) calls.now }
+    requires times { HasGoodTimes (seen sig.now) }
+    ensures { (names : List Text) (with : Scope) (v : Invocation)
+        → IsInvoked names comp.now tables.now calls.now (seen sig.now) at.now with v → KeepsApart with v
+        → MatchOption result (EndsInTime with v) (λ meet. IsGap with v meet.gap meet.cycle) }
+{
+    for (number, event) in sig.events.iter().enumerate() {
+        if let Some(meet) = gap_at(comp, tables, calls, at, number, event.delay) {
+            return Some(meet);
+        }
+    }
+    None
+}

@@ -1,0 +1,134 @@
+//! The rule F14: which ports of a component read which within a row, and its least loop.
+ghost use Rattle.std.specs.Prelude.{◌≡◌, ◌<◌, ◌^◌, [], All, length, map, slice_index_or, IfErr, IfOk, OnOk};
+ghost use Rattle.hw_names.specs.Name.{AreDistinct, KeepsTexts};
+ghost use Rattle.fil_ast.specs.Numbers.{ComponentHasNumbers, PortHasNumbers};
+ghost use Rattle.fil_ast.specs.Rules.{KeepsComponent, KeepsRules, all_rules};
+ghost use Rattle.fil_ast.specs.Tree.{Design, component_tree};
+ghost use Rattle.fil_ast.specs.Wires.{HasNoLoop, whole_scope};
+ghost use Rattle.fil_check.specs.Tables.{IsPlace};
+ghost use Rattle.fil_check.specs.Reached.{IsGraphOf, input_names};
+ghost use Rattle.fil_check.specs.Wiring.{DependsOn, ShowsWires, TellsLoop};
+
+use crate::depends::inputs_reached;
+use crate::port_graph::PortGraph;
+use crate::readings::add_body;
+use crate::tables::{Earlier, Tables};
+use fil_ast::FilComp;
+use fil_sig::add_name;
+use hw_bits::Memory;
+use hw_graph::{OrderEnd, gather, order_or_least_loop};
+use hw_names::{NameId, Names, Word};
+use std::alloc::Global;
+
+/// On which inputs a component's outputs depend within a row.
+#[derive(Drop)]
+pub struct Wires {
+    /// For each output the numbers of the inputs.
+    pub inputs: Vec<Vec<usize>>,
+}
+
+/// Why a component's outputs depend on nothing.
+#[derive(Debug, Drop)]
+pub enum WireEnd {
+    /// Full names of ports: the least loop. Each port reads the next within a row, and the last reads the first.
+    Loop(Vec<Word>),
+    /// There was no memory.
+    Memory,
+}
+
+impl From<Memory> for WireEnd {
+    ghost use Rattle.std.specs.Prelude.{◌≡◌};
+    ghost use Rattle.fil_check.specs.declared.wires.WireEnd.{WireEnd};
+
+    ghost from_gives = { λ memory end. end ≡ WireEnd.Memory };
+
+    fn from(_memory: Memory) -> WireEnd {
+        WireEnd::Memory
+    }
+}
+
+/// Judges a component that keeps F1 to F13, as those before it do, by F14. The `tables` show the whole of its body, and
+/// `wires` are those of the components before it. Tells on which inputs its outputs depend within a row, or its least loop.
+pub fn judge_wires(
+    alloc: Global,
+    names: &Names,
+    earlier: &Earlier,
+    wires: &[Wires],
+    comp: &FilComp,
+    tables: &Tables,
+) -> Result<Wires, WireEnd>
+    requires numbers { ComponentHasNumbers names.now comp.now }
+    ensures kept { (comps : Design) → IsPlace names.now earlier.now comp.now tables.now (whole_scope comps (component_tree names.now comp.now))
+        → ShowsWires comps wires.now → KeepsRules all_rules comps → KeepsComponent all_rules comps (component_tree names.now comp.now)
+        → OnOk result (HasNoLoop comps (component_tree names.now comp.now)) }
+    ensures depends { (comps : Design) → IsPlace names.now earlier.now comp.now tables.now (whole_scope comps (component_tree names.now comp.now))
+        → ShowsWires comps wires.now → KeepsRules all_rules comps → KeepsComponent all_rules comps (component_tree names.now comp.now)
+        → IfOk result (DependsOn comps (component_tree names.now comp.now)) }
+    ensures cycle { (comps : Design) → IsPlace names.now earlier.now comp.now tables.now (whole_scope comps (component_tree names.now comp.now))
+        → ShowsWires comps wires.now → KeepsRules all_rules comps → KeepsComponent all_rules comps (component_tree names.now comp.now)
+        → IfErr result (TellsLoop comps (component_tree names.now comp.now)) }
+{
+    let graph = port_graph(alloc, names, earlier, wires, comp, tables)?;
+    let reads = gather(alloc, graph.entries.as_slice(), graph.names.len())?;
+    match order_or_least_loop(alloc, &reads, &graph.names) {
+        Ok(_order) => {
+            let inputs = inputs_reached(alloc, names, comp, &graph.names, &reads)?;
+            Ok(Wires { inputs })
+        }
+        Err(OrderEnd::Loop { ports }) => {
+            Err(WireEnd::Loop(full_names(alloc, &graph.names, ports.as_slice())?))
+        }
+        Err(OrderEnd::Memory) => Err(WireEnd::Memory),
+    }
+}
+
+/// Which ports of the component read which. Its inputs are the first ports, by their numbers.
+fn port_graph(
+    alloc: Global,
+    names: &Names,
+    earlier: &Earlier,
+    wires: &[Wires],
+    comp: &FilComp,
+    tables: &Tables,
+) -> Result<PortGraph, Memory>
+    requires numbers { ComponentHasNumbers names.now comp.now }
+    ensures reads { (comps : Design) → IsPlace names.now earlier.now comp.now tables.now (whole_scope comps (component_tree names.now comp.now))
+        → ShowsWires comps wires.now → KeepsRules all_rules comps
+        → IfOk result (IsGraphOf comps (component_tree names.now comp.now)) }
+    ensures inputs { (comps : Design) → IsPlace names.now earlier.now comp.now tables.now (whole_scope comps (component_tree names.now comp.now))
+        → ShowsWires comps wires.now → KeepsRules all_rules comps → AreDistinct (input_names (component_tree names.now comp.now))
+        → IfOk result (λ graph. KeepsTexts (input_names (component_tree names.now comp.now)) graph.names) }
+{
+    let mut graph = PortGraph {
+        names: input_names(alloc, names, comp)?,
+        entries: Vec::new(alloc),
+    };
+    add_body(alloc, &mut graph, names, earlier, wires, comp, tables)?;
+    Ok(graph)
+}
+
+/// The names of the component's inputs, numbered in their order.
+fn input_names(alloc: Global, names: &Names, comp: &FilComp) -> Result<Names, Memory>
+    requires numbers { All (PortHasNumbers names.now) comp.now.ins.items }
+    ensures { AreDistinct (input_names (component_tree names.now comp.now))
+        → IfOk result (λ inputs. inputs ≡ input_names (component_tree names.now comp.now)) }
+{
+    let mut inputs = Names::new(alloc);
+    for port in &comp.ins {
+        let _new = add_name(&mut inputs, names.text(port.name))?;
+    }
+    Ok(inputs)
+}
+
+/// The full names of ports.
+fn full_names(alloc: Global, names: &Names, ports: &[usize]) -> Result<Vec<Word>, Memory>
+    requires in_range { All (λ port. port < length names.now) ports.now }
+    requires small { length names.now < 2 ^ 32 }
+    ensures { IfOk result (λ words. words.items ≡ map (λ port. slice_index_or names.now port []) ports.now) }
+{
+    let mut words = Vec::new(alloc);
+    for port in ports {
+        words.push(Word::make(alloc, names.text(NameId(*port as u32)))?)?;
+    }
+    Ok(words)
+}
