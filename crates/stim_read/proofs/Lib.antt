@@ -8,3 +8,9 @@ pub mod MeaningLemmas
 pub mod PlaceLemmas
 pub mod SeenLemmas
 pub mod TextLemmas
+pub mod TxEventLemmas
+pub mod TxRunLemmas
+pub mod TxSaidLemmas
+pub mod TxStartLemmas
+pub mod TxValueLemmas
+pub mod TxMeaningLemmas

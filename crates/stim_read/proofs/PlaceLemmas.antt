@@ -88,3 +88,10 @@ field_at f h xs names name read i x same spelled at within is =
 
 pub all_hold : {X : Type 0} (P : X → Type 0) (xs : List X) (i : ℕ) (x : X) → All P xs → i < length xs → x ≡ get_or xs i x → P x
 all_hold P xs i x all within is = subst P (sym is) (all i x within)
+
+-- a name that has no place has the number past the end
+pub place_past : (names : List Text) (name : Text) → is_one_of names name ≡ false → place_in names name ≡ length names
+place_past names name missing =
+    position_or_len_is (bytes_eq name) names (length names) name (omega arith)
+    (λ k below. by_false _ (λ same. false≢true (sym missing ∙ is_there names name (k, below, sym ((bytes_eq-Decides name (get_or names k name)).0 same)))))
+    (λ within. absurd (omega arith))

@@ -8,6 +8,7 @@ use Rattle.net_core.specs.declared.stimulus.MemShape.{MemShape}
 use Rattle.stim_read.specs.Parts.{is_one_of}
 use Rattle.stim_read.specs.CycleText.{Entry, Words, Cycles}
 use Rattle.stim_read.specs.declared.given.Given.{Given}
+use Rattle.stim_read.specs.declared.limits.TheConstants.{MOST_TRANSACTIONS, MOST_CYCLES}
 use Rattle.stim_read.specs.declared.stim_end.StimEnd.{StimEnd}
 use Rattle.stim_read.specs.declared.stim_end.StimEnd.TheVariants.{Refused, Limit}
 
@@ -83,11 +84,11 @@ memories_fault targets sizes number [] = None
 memories_fault targets sizes number (memory ∷ others) =
     or_else (memory_fault targets sizes number memory) (memories_fault targets sizes (number + 1) others)
 
--- the limits: at most 100,000 entries of inputs, and at most 1,000,000 rows
+-- the limits on the entries of inputs and on the rows
 abbrev pub limit_fault : Cycles → Option StimEnd
 limit_fault c =
-    or_else (unless (nat_le (length c.inputs) 100000) (Limit (length c.inputs) 100000 false))
-    (unless (nat_le c.cycles 1000000) (Limit c.cycles 1000000 true))
+    or_else (unless (nat_le (length c.inputs) MOST_TRANSACTIONS) (Limit (length c.inputs) MOST_TRANSACTIONS false))
+    (unless (nat_le c.cycles MOST_CYCLES) (Limit c.cycles MOST_CYCLES true))
 
 -- the first limit or rule that a stimulus does not keep; memories are counted on after the inputs
 abbrev pub cycles_fault : List SigPort → List MemShape → Cycles → Option StimEnd

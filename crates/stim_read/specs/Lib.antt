@@ -4,3 +4,8 @@ pub mod Amounts
 pub mod CycleText
 pub mod CycleRules
 pub mod CycleRun
+pub mod TxText
+pub mod TxEvents
+pub mod TxRules
+pub mod TxRun
+pub mod TxWalk

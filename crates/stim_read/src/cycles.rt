@@ -12,20 +12,15 @@ ghost use Rattle.stim_read.specs.CycleRun.{run_of, run_seen, IsJson, SayCycles, 
 use crate::cycle_inputs::settings;
 use crate::cycle_memories::loads;
 use crate::cycle_text::{CycleText, read_cycle_text};
+use crate::limits::{MOST_CYCLES, MOST_TRANSACTIONS};
 use crate::stim_end::{StimEnd, refused};
 use fil_sig::SigPort;
 use net_core::{CycleList, MemShape};
 use serde_json::Value;
 use std::alloc::Global;
 
-/// The greatest number of entries of a stimulus.
-pub const MOST_ENTRIES: u64 = 100_000;
-
-/// The greatest number of rows of a run.
-pub const MOST_CYCLES: u64 = 1_000_000;
-
 /// The JSON value of a text.
-fn read_value(alloc: Global, bytes: &[u8]) -> Result<Value, StimEnd>
+pub(crate) fn read_value(alloc: Global, bytes: &[u8]) -> Result<Value, StimEnd>
     ensures value { IfOk result (λ value. IsJson bytes.now (view value)) }
     ensures cause { IfErr result (IsNoJson bytes.now) }
 {
@@ -53,10 +48,10 @@ fn check_limits(text: &CycleText) -> Result<(), StimEnd>
     ensures { Tells result (limit_fault (cycles_seen text.now)) }
 {
     let count = text.inputs.len() as u64;
-    if count > MOST_ENTRIES {
+    if count > MOST_TRANSACTIONS {
         return Err(StimEnd::Limit {
             count,
-            limit: MOST_ENTRIES,
+            limit: MOST_TRANSACTIONS,
             cycles: false,
         });
     }

@@ -38,7 +38,8 @@ pub(crate) fn memory_names(alloc: Global, mems: &[MemShape]) -> Result<Names, Me
 
 /// The place of a name.
 pub(crate) fn place(names: &Names, name: &[u8]) -> Option<usize>
-    ensures { MatchOption result (is_one_of names.now name.now ≡ false)
+    ensures distinct { AreDistinct names.now }
+    ensures place { MatchOption result (is_one_of names.now name.now ≡ false)
         (λ place. (is_one_of names.now name.now ≡ true) × (place ≡ place_in names.now name.now) × (place < length names.now)) }
 {
     let id = names.find(name)?;

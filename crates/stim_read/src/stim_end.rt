@@ -3,7 +3,7 @@ ghost use Rattle.std.specs.Prelude.{◌≡◌};
 ghost use Rattle.stim_read.specs.CycleRules.{refused};
 
 use hw_bits::Memory;
-use std::alloc::AllocFailed;
+use std::alloc::{AllocError, AllocFailed};
 
 /// Why a stimulus gives no run.
 #[derive(Clone, Copy, Debug, PartialEq, Eq)]
@@ -33,6 +33,16 @@ impl From<Memory> for StimEnd {
     ghost from_gives = { λ memory end. end ≡ StimEnd.Memory };
 
     fn from(_memory: Memory) -> StimEnd {
+        StimEnd::Memory
+    }
+}
+
+impl From<AllocError> for StimEnd {
+    ghost use Rattle.stim_read.specs.declared.stim_end.StimEnd.{StimEnd};
+
+    ghost from_gives = { λ error end. end ≡ StimEnd.Memory };
+
+    fn from(_error: AllocError) -> StimEnd {
         StimEnd::Memory
     }
 }

@@ -11,7 +11,7 @@ returns-then-is_none c =
     let given = c.args.given.now in
     let i = c.loop-g.g-index in
     let within : i < length given = omega arith in
-    let known : has_known_name names c.g-item.result ≡ is_some c.place.result = ap (is_one_of names) (sym c.bytes.ensures) ∙ known_as names c.bytes.result.now c.place.result c.place.ensures in
+    let known : has_known_name names c.g-item.result ≡ is_some c.place.result = ap (is_one_of names) (sym c.bytes.ensures) ∙ known_as names c.bytes.result.now c.place.result c.place.ensures.place in
     sym (all_stops (has_known_name names) given i c.g-item.result within c.g-item.is (known ∙ c.if-is_none.ensures)) ∙ c.loop-g.invariant
 
 pub loop-g-preserved : goal.loop-g-preserved
@@ -20,7 +20,7 @@ loop-g-preserved c =
     let given = c.args.given.now in
     let i = c.loop-g.g-index in
     let within : i < length given = omega arith in
-    let known : has_known_name names c.g-item.result ≡ is_some c.place.result = ap (is_one_of names) (sym c.bytes.ensures) ∙ known_as names c.bytes.result.now c.place.result c.place.ensures in
+    let known : has_known_name names c.g-item.result ≡ is_some c.place.result = ap (is_one_of names) (sym c.bytes.ensures) ∙ known_as names c.bytes.result.now c.place.result c.place.ensures.place in
     sym (all_goes (has_known_name names) given i c.g-item.result within c.g-item.is (known ∙ c.if-is_none.ensures)) ∙ c.loop-g.invariant
 
 pub returns : goal.returns

@@ -1,0 +1,7 @@
+use Rattle.std.proofs.Common.{◌≡◌, ◌++◌, drop}
+use Rattle.stim_read.specs.CycleRules.{input_targets}
+use Rattle.stim_read.specs.TxEvents.{ports_after}
+use Rattle.stim_read.proofs.events.widths_after.Given as goal
+
+abbrev pub invariant-loop-port : goal.invariant-loop-port
+invariant-loop-port l = l.widths.items ++ (input_targets (ports_after l.event (drop l.port-index l.ins))).widths ≡ (input_targets (ports_after l.event l.ins)).widths
