@@ -1,6 +1,6 @@
 -- A Filament text gives a design or is refused, not both.
-use Rattle.std.proofs.Common.{◌≡◌, ℕ, zero, suc, get_or, ap₂, ◌∷◌, ◌<◌, List, [], length, take, None, Some, refl, sym, ap, subst, ◌∙◌, arith}
-use Rattle.std.specs.Prelude.{All, slice_get}
+use Rattle.std.proofs.Common.{◌≡◌, ℕ, zero, suc, get_or, codes, ◌∷◌, ◌<◌, ◌≤◌, List, [], length, take, None, Some, refl, sym, ap, subst, ◌∙◌, arith}
+use Rattle.std.specs.Prelude.{All, slice_get, Result, Ok, Err, IfErr}
 use Rattle.std.specs.List.{AllByRecursion}
 use Rattle.std.proofs.lemmas.Option.{get_or_from_slice_get, slice_get_within}
 use Rattle.hw_names.specs.Name.{Text, text_of}
@@ -13,21 +13,29 @@ use Rattle.hw_lex.proofs.Cuts.{tokens_unique, tokens-no_fault}
 use Rattle.hw_grammar.specs.declared.terminal.Terminal.{Terminal}
 use Rattle.hw_grammar.proofs.Alike.{IsAlike, lexed_alike}
 use Rattle.hw_grammar.proofs.Passing.{ArePairs}
-use Rattle.fil_ast.specs.Rules.{Keeps, KeepsRules, IsFirstBroken, first_five}
-use Rattle.fil_ast.specs.Tree.{Design, design_of}
+use Rattle.fil_ast.specs.Evidence.{Evidence}
+use Rattle.fil_ast.specs.Refusal.{IsRefusal}
+use Rattle.fil_ast.specs.Refusal as refusal
+use Rattle.fil_ast.specs.Rules.{Keeps, FilRules, all_rules}
+use Rattle.fil_ast.specs.Top.{IsTop}
+use Rattle.fil_ast.specs.Tree.{Component, Design, design_of}
+use Rattle.fil_ast.specs.Weight.{told_weight}
 use Rattle.fil_ast.specs.declared.tree.FilDesign.{FilDesign}
 use Rattle.fil_parse.specs.Grammar.{IsFile}
 use Rattle.fil_parse.specs.Spelling.{SpellsDesign, IsNested, IsRefusedAt, first_large}
 use Rattle.fil_parse.proofs.Designs.{one_tree}
 use Rattle.fil_parse.proofs.Passages.{passes-file}
 use Rattle.fil_parse.specs.Written.{IsFilName, ComponentIsWritten, DesignIsWritten}
-use Rattle.fil_check.specs.First.{IsRefusal}
 use Rattle.fil_ast.specs.Numbers.{IsNumberOf}
-use Rattle.filc_core.specs.Lines.{rule_name, rule_line}
-use Rattle.filc_core.specs.FilFile.{GivesFil, IsFilTextOf, IsRefused, HasNoTokens, NestsTooDeep, HasNoGrammar, HasLargeOffset, BreaksRule}
+use Rattle.filc_core.proofs.TopLemmas.{has_top, one_top}
+use Rattle.filc_core.specs.Built.{IsUnfitDesign, IsOverweightDesign}
+use Rattle.filc_core.specs.Lines.{limit_line, rule_name, rule_line}
+use Rattle.filc_core.specs.FilFile.{GivesFil, HasTop, IsLight, IsFilTextOf, IsAcceptedFilTextOf, IsRefused, HasNoTokens, NestsTooDeep, HasNoGrammar, HasLargeOffset, BreaksRule, IsTooHeavy}
 use Rattle.filc_core.specs.declared.ended.Ended.{Ended}
-use Rattle.filc_core.specs.declared.ended.Ended.TheVariants.{Refused}
+use Rattle.filc_core.specs.declared.ended.Ended.TheVariants.{Refused, Limit}
 use Rattle.filc_core.specs.declared.language.Language.TheVariants.{Filament}
+use Rattle.filc_core.specs.declared.limits.TheConstants.{MOST_WEIGHT}
+use Rattle.filc_core.specs.declared.stop.Stop.{Stop}
 
 no_more : (R : Terminal → Terminal → Type 0) (others : List Terminal) → ArePairs R [] others → others ≡ []
 no_more R [] p = refl
@@ -52,21 +60,29 @@ same_nesting text a b (tokens, are, is) (others, are', is') =
 all_at : {X : Type 0} (P : X → Type 0) (xs : List X) (k : ℕ) (x : X) → All P xs → slice_get xs k ≡ Some x → P x
 all_at P xs k x all found = subst P (get_or_from_slice_get xs k x x found) (all k x (slice_get_within xs k x found))
 
--- a design that keeps the rules has no first broken rule
-kept_not_broken : (design : Design) (n item place : ℕ) → KeepsRules first_five design → IsFirstBroken first_five design n item place → ⊥
-kept_not_broken design n item place kept first =
-    first.broken (all_at (Keeps (take n design) first.c first.item) first_five place first.rule (kept n first.c first.at item first.item first.here) first.numbered)
+-- a design that keeps the rules is not refused by one
+kept_not_refused : (design : Design) (rule : ℕ) (name : Text) (item : ℕ) (evidence : Evidence) → FilRules design → IsRefusal design name item evidence rule → ⊥
+kept_not_refused design _ name item evidence kept (refusal.BreaksRule n place first named shows) =
+    first.broken (all_at (Keeps (take n design) first.c first.item) all_rules place first.rule (kept.keeps n first.c first.at item first.item first.here) first.numbered)
+kept_not_refused design _ name item evidence kept (refusal.HasLoop n port others loop named here told) =
+    kept.no_loop n loop.c loop.at port others loop.loop.is_loop
 
 pub given_fil_not_refused : (text : Text) (design : Design) (ended : Ended) (line : Text) → GivesFil text design → IsRefused text ended line → ⊥
-given_fil_not_refused text design ended line gives (HasNoTokens at fault is tells) = spelled_no_fault text design at gives.text_of.spells fault
+given_fil_not_refused text design ended line gives (HasNoTokens at fault is tells) = spelled_no_fault text design at gives.accepted.text_of.spells fault
 given_fil_not_refused text design ended line gives (NestsTooDeep depth nested deep is tells) =
-    let shallow = gives.text_of.shallow in
+    let shallow = gives.accepted.text_of.shallow in
     omega (arith, deep, shallow.2, same_nesting text depth shallow.0 nested shallow.1)
-given_fil_not_refused text design ended line gives (HasNoGrammar at shallow refused is tells) = spelled_not_refused text design at gives.text_of.spells refused
+given_fil_not_refused text design ended line gives (HasNoGrammar at shallow refused is tells) = spelled_not_refused text design at gives.accepted.text_of.spells refused
 given_fil_not_refused text design ended line gives (HasLargeOffset other offset shallow spells large is tells) =
-    let none : None ≡ Some offset = sym gives.text_of.small ∙ ap first_large (one_tree text design other gives.text_of.spells spells) ∙ large in cc none
-given_fil_not_refused text design ended line gives (BreaksRule other n item place of first is tells) =
-    kept_not_broken other n item place (subst (KeepsRules first_five) (one_tree text design other gives.text_of.spells of.spells) gives.keeps) first
+    let none : None ≡ Some offset = sym gives.accepted.text_of.small ∙ ap first_large (one_tree text design other gives.accepted.text_of.spells spells) ∙ large in cc none
+given_fil_not_refused text design ended line gives (BreaksRule other rule name item evidence of refused is tells) =
+    kept_not_refused other rule name item evidence (subst FilRules (one_tree text design other gives.accepted.text_of.spells of.spells) gives.accepted.rules) refused
+given_fil_not_refused text design ended line gives (IsTooHeavy other number top of has heavy is tells) =
+    let same = one_tree text other design of.text_of.spells gives.accepted.text_of.spells in
+    let over : MOST_WEIGHT < told_weight design top = subst (λ (d : Design). MOST_WEIGHT < told_weight d top) same heavy in
+    let one = one_top design number gives.light.number top gives.light.top (subst (λ (d : Design). HasTop d number top) same has) gives.light.has_top in
+    let over' : MOST_WEIGHT < told_weight design gives.light.top = subst (λ (c : Component). MOST_WEIGHT < told_weight design c) one over in
+    omega (arith, over', gives.light.light)
 
 -- ---- the refusal of a design
 
@@ -81,13 +97,35 @@ number_in [] k named = absurd named.0
 number_in (x ∷ names) zero named = omega arith
 number_in (x ∷ names) (suc k) named = let rest = number_in names k named in omega arith
 
-pub refusal_number : (d : FilDesign) (rule : ℕ) (comp : NameId) (item : ℕ) → DesignIsWritten (design_of d) → IsRefusal d rule comp item → IsNumberOf d.names comp
-refusal_number d rule comp item written refusal =
-    let of_component = each_at ComponentIsWritten (design_of d) refusal.n refusal.first.c written.1 refusal.first.at in
-    number_in d.names comp.0 (subst IsFilName refusal.named of_component.name)
+-- the name of a component of such a design is one of its names
+component_number : (d : FilDesign) (comp : NameId) (n : ℕ) (c : Component) → DesignIsWritten (design_of d) → slice_get (design_of d) n ≡ Some c → c.name ≡ text_of d.names comp → IsNumberOf d.names comp
+component_number d comp n c written at named =
+    let of_component = each_at ComponentIsWritten (design_of d) n c written.1 at in
+    number_in d.names comp.0 (subst IsFilName named of_component.name)
+
+pub refusal_number : (d : FilDesign) (rule : ℕ) (comp : NameId) (item : ℕ) (evidence : Evidence) → DesignIsWritten (design_of d) → IsRefusal (design_of d) (text_of d.names comp) item evidence rule → IsNumberOf d.names comp
+refusal_number d _ comp item evidence written (refusal.BreaksRule n place first named shows) = component_number d comp n first.c written first.at named
+refusal_number d _ comp item evidence written (refusal.HasLoop n port others loop named here told) = component_number d comp n loop.c written loop.at named
 
 -- the first broken rule is told
-pub design_refused : (d : FilDesign) (rule : ℕ) (comp : NameId) (item : ℕ) (name : Text) → IsRefusal d rule comp item → text_of d.names comp ≡ name → (text : Text) → IsFilTextOf (design_of d) text → IsRefused text Refused (rule_line (rule_name Filament rule) name item)
-design_refused d rule comp item name refusal named text of =
-    BreaksRule (design_of d) refusal.n item refusal.place of refusal.first refl
-    (ap₂ (λ (number : ℕ) (text : Text). rule_line (rule_name Filament number) text item) (sym refusal.counted) (sym (refusal.named ∙ named)))
+pub design_refused : (d : FilDesign) (rule : ℕ) (comp : NameId) (item : ℕ) (evidence : Evidence) (name : Text) → IsRefusal (design_of d) (text_of d.names comp) item evidence rule → text_of d.names comp ≡ name → (text : Text) → IsFilTextOf (design_of d) text → IsRefused text Refused (rule_line (rule_name Filament rule) name item evidence)
+design_refused d rule comp item evidence name refused named text of =
+    BreaksRule (design_of d) rule name item evidence of (subst (λ (t : Text). IsRefusal (design_of d) t item evidence rule) named refused) refl refl
+
+-- why a design that keeps the rules is too heavy stands against each text of it
+pub unfit_where_heavy : {T : Type 0} (d e : FilDesign) (answer : Result T Stop) → e ≡ d → FilRules (design_of d) → IfErr answer (IsOverweightDesign e) → IfErr answer (IsUnfitDesign d)
+unfit_where_heavy d e (Ok value) same kept heavy = tt
+unfit_where_heavy d e (Err why) same kept heavy = λ text of. subst (λ (o : FilDesign). IsOverweightDesign o why) same heavy text (record { text_of = of; rules = kept })
+
+-- a design whose top component weighs no more than the limit
+pub light_top : (design : Design) (n weight : ℕ) → IsTop design n → ((c : Component) → slice_get design n ≡ Some c → weight ≡ told_weight design c) → weight ≤ MOST_WEIGHT → IsLight design
+light_top design n weight is weighs few =
+    let top = has_top design n is in
+    record { number = n; top = top.0; has_top = top.1; light = omega (arith, few, weighs top.0 top.1.at) }
+
+-- a design whose top component weighs more is refused
+pub heavy_refused : (d : FilDesign) (n weight : ℕ) → IsTop (design_of d) n → ((c : Component) → slice_get (design_of d) n ≡ Some c → weight ≡ told_weight (design_of d) c) → MOST_WEIGHT < weight → (text : Text) → IsAcceptedFilTextOf (design_of d) text → IsRefused text Limit (limit_line (codes "weight") weight MOST_WEIGHT)
+heavy_refused d n weight is weighs many text accepted =
+    let top = has_top (design_of d) n is in
+    let weighed = weighs top.0 top.1.at in
+    IsTooHeavy (design_of d) n top.0 accepted top.1 (omega (arith, many, weighed)) refl (ap (λ (count : ℕ). limit_line (codes "weight") count MOST_WEIGHT) weighed)

@@ -5,6 +5,7 @@ pub mod RowLemmas
 pub mod PortLemmas
 pub mod NetLaws
 pub mod MemoryLemmas
+pub mod TopLemmas
 mod FilLemmas
 pub mod VerdictLemmas
 pub mod EndingLemmas

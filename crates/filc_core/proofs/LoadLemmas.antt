@@ -7,16 +7,15 @@ use Rattle.std.specs.Result.{IsErrAnd}
 use Rattle.hw_io.proofs.WritingLemmas.{appends_none}
 use Rattle.hw_names.specs.Name.{Text}
 use Rattle.fil_ast.specs.Tree.{design_of}
-use Rattle.fil_ast.specs.declared.tree.FilDesign.{FilDesign}
+use Rattle.fil_check.specs.Least.{loop_of}
 use Rattle.net_core.specs.Netlist.{Netlist, netlist_of}
 use Rattle.net_core.specs.Rules.{PortLine, ports_of, port_names, IsValid}
 use Rattle.net_sim.specs.Layout.{name_of}
 use Rattle.net_sim.specs.Order.{IsLeastLoopOf}
 use Rattle.filc_core.proofs.SinkLemmas.{keeps_all}
-use Rattle.filc_core.specs.Built.{AsksFor, IsBuiltFrom, IsRefusedIn, IsUnbuilt, IsUnread, AreNamesOf}
+use Rattle.filc_core.specs.Built.{AsksFor, IsBuiltFrom, IsFilBuiltFrom, IsRefusedIn, IsUnbuilt, IsUnread, AreNamesOf}
 use Rattle.filc_core.specs.Ending.{HasPartOfReport}
-use Rattle.filc_core.specs.Lines.{limit_line, rule_name, loop_line}
-use Rattle.filc_core.specs.FilFile.{GivesFil}
+use Rattle.filc_core.specs.Lines.{limit_line, rule_name, rule_line}
 use Rattle.filc_core.specs.Language.{most_bytes}
 use Rattle.filc_core.specs.NetFile.{IsTextOf, IsRefused, HasLoop}
 use Rattle.filc_core.specs.Report.{Leaves, LeavesAt}
@@ -27,6 +26,7 @@ use Rattle.filc_core.specs.declared.ended.Ended.{Ended}
 use Rattle.filc_core.specs.declared.ended.Ended.TheVariants.{Refused}
 use Rattle.filc_core.specs.declared.language.Language.{Language}
 use Rattle.filc_core.specs.declared.language.Language.TheVariants.{Netlists, Filament}
+use Rattle.filc_core.specs.declared.fil_file.FilBuilt.{FilBuilt}
 use Rattle.filc_core.specs.declared.net_file.Built.{Built}
 use Rattle.filc_core.specs.declared.refusal.Refusal.TheVariants as refusal
 use Rattle.filc_core.specs.declared.stop.Stop.{Stop}
@@ -83,9 +83,9 @@ read_net words contents r bytes (Ok b) reads built = record { bytes = bytes; rea
 read_net words contents r bytes (Err why) reads built = tt
 
 -- a text that gives a Filament design
-pub read_fil : (words : List Text) (contents : Text → Option Text) (r : Request) (bytes : Text) (answer : Result FilDesign Stop) → Reads words contents r Filament bytes → IfOk answer (λ (d : FilDesign). GivesFil bytes (design_of d)) → IfOk answer (λ (d : FilDesign). ReadsFil words contents r (design_of d))
-read_fil words contents r bytes (Ok d) reads gives = record { bytes = bytes; reads = reads; gives = gives }
-read_fil words contents r bytes (Err why) reads gives = tt
+pub read_fil : (words : List Text) (contents : Text → Option Text) (r : Request) (bytes : Text) (answer : Result FilBuilt Stop) → Reads words contents r Filament bytes → IfOk answer (IsFilBuiltFrom bytes) → IfOk answer (λ (b : FilBuilt). ReadsFil words contents r (design_of b.design))
+read_fil words contents r bytes (Ok b) reads built = record { bytes = bytes; reads = reads; gives = built.gives }
+read_fil words contents r bytes (Err why) reads built = tt
 
 -- an error that is passed on
 pub passed_on : {T : Type 0} (claim : Stop → Type 0) (answer : Result T Stop) (why : Stop) → IsErrAnd answer (λ other. other ≡ why) → claim why → IfErr answer claim
@@ -124,8 +124,8 @@ loop_within n names (port ∷ ports) all least = λ k d inside.
     let within = least.0 k d inside in omega (arith, within, ap length all, length-map (ports_of n) (λ (p : PortLine). p.name))
 
 -- a netlist with a loop is refused by its least
-pub loop_refused : (n : Netlist) (names : List Text) (ports : List ℕ) (name : Text) (texts : List Text) → IsValid n → names ≡ port_names (ports_of n) → IsLeastLoopOf n ports → name ≡ n.name → AreNamesOf names ports texts → (text : Text) → IsTextOf n text → IsRefused text Refused (loop_line (rule_name Netlists 6) name texts)
+pub loop_refused : (n : Netlist) (names : List Text) (ports : List ℕ) (name : Text) (texts : List Text) → IsValid n → names ≡ port_names (ports_of n) → IsLeastLoopOf n ports → name ≡ n.name → AreNamesOf names ports texts → (text : Text) → IsTextOf n text → IsRefused text Refused (rule_line (rule_name Netlists 6) name 0 (loop_of texts))
 loop_refused n names [] name texts valid all least named are text of = absurd least
 loop_refused n names (port ∷ ports) name texts valid all least named are text of =
     HasLoop n (name_of n port) (map (name_of n) ports) of valid least.1 refl
-    (ap₂ (λ (t : Text) (ts : List Text). loop_line (rule_name Netlists 6) t ts) named (are ∙ ap (λ (ns : List Text). map (λ (p : ℕ). get_or ns p []) (port ∷ ports)) all))
+    (ap₂ (λ (t : Text) (ts : List Text). rule_line (rule_name Netlists 6) t 0 (loop_of ts)) named (are ∙ ap (λ (ns : List Text). map (λ (p : ℕ). get_or ns p []) (port ∷ ports)) all))

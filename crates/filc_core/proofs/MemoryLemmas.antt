@@ -19,7 +19,7 @@ use Rattle.net_core.specs.Rules.{IsValid}
 use Rattle.net_core.specs.declared.net.NetCell.{NetCell}
 use Rattle.net_sim.specs.Layout.{port_names}
 use Rattle.net_sim.specs.Shown.{is_shown, shown_cells, IsShown}
-use Rattle.net_sim.proofs.MemberLemmas.{in_at, contains_of}
+use Rattle.hw_graph.proofs.MemberLemmas.{in_at, contains_of}
 use Rattle.net_sim.proofs.OneRunLemmas.{input_number}
 use Rattle.net_sim.proofs.PlaceLemmas.{named_at}
 use Rattle.net_sim.proofs.ValidLemmas.{cell_has_prim}

@@ -30,9 +30,9 @@ use Rattle.filc_core.specs.Language.{ending_of, most_bytes}
 use Rattle.filc_core.specs.NetFile.{GivesNet}
 use Rattle.filc_core.specs.NetFile
 use Rattle.filc_core.specs.Request.{Request, CheckOf, RowsOf, file_of, language_of, Asks, AskNothing, IsCount, IsFileName}
-use Rattle.filc_core.specs.Rows.{accepted_text, accepted_so_far_text, rows_text, memories_text, outputs_of_net}
+use Rattle.filc_core.specs.Rows.{accepted_text, rows_text, memories_text, outputs_of_net}
 use Rattle.filc_core.specs.Streams.{RunsCleanly}
-use Rattle.filc_core.specs.Verdict.{Verdict, NotAsked, SourceTooLong, NetRefused, FilRefused, Accepts, AcceptsSoFar, TooManyCycles, Clashes, Runs, Reads, ReadsNet, ReadsFil, AsksForRun, no_inputs, no_loads, run_text}
+use Rattle.filc_core.specs.Verdict.{Verdict, NotAsked, SourceTooLong, NetRefused, FilRefused, Accepts, AcceptsDesign, TooManyCycles, Clashes, Runs, Reads, ReadsNet, ReadsFil, AsksForRun, no_inputs, no_loads, run_text}
 use Rattle.filc_core.specs.declared.ended.Ended.{Ended}
 use Rattle.filc_core.specs.declared.ended.Ended.TheVariants.{Done, Conflict}
 use Rattle.filc_core.specs.declared.language.Language.{Language}
@@ -156,7 +156,7 @@ module _ (words : List Text) (contents : Text → Option Text) (r : Request) (n 
   verdict_on ended report line (NetRefused r' bytes reads' refused none) = absurd (not_refused r' bytes ended line reads' refused)
   verdict_on ended report line (FilRefused r' bytes reads' refused none) = absurd (no_filament r' bytes reads')
   verdict_on ended report line (Accepts file m reads' is says none) = on_request (CheckOf Netlists file) m ended report reads' (is, says)
-  verdict_on ended report line (AcceptsSoFar file design reads' is says none) = absurd (no_filament (CheckOf Filament file) reads'.bytes reads'.reads)
+  verdict_on ended report line (AcceptsDesign file design reads' is says none) = absurd (no_filament (CheckOf Filament file) reads'.bytes reads'.reads)
   verdict_on ended report line (TooManyCycles file cycles m reads' many is none tells) = on_request (RowsOf file cycles) m ended report reads' (inl many)
   verdict_on ended report line (Clashes m cycles t trace port asked run reported is says tells) =
       on_request (RowsOf asked.file cycles) m ended report asked.reads_net (inr (InConflict t trace port run reported is says))
@@ -173,13 +173,13 @@ module _ (words : List Text) (contents : Text → Option Text) (r : Request) (de
   no_netlist : (r' : Request) (bytes : Text) → Reads words contents r' Netlists bytes → ⊥
   no_netlist r' bytes reads' = let same : Netlists ≡ Filament = spoken_in words contents r Filament reads.bytes reads.reads r' Netlists bytes reads' in cc same
 
-  pub verdict_on_fil : (ended : Ended) (report line : Text) → Verdict words contents ended report line → (ended ≡ Done) × (report ≡ accepted_so_far_text)
+  pub verdict_on_fil : (ended : Ended) (report line : Text) → Verdict words contents ended report line → (ended ≡ Done) × (report ≡ accepted_text)
   verdict_on_fil ended report line (NotAsked nothing is none tells) = absurd (something words contents r Filament reads.bytes reads.reads nothing)
   verdict_on_fil ended report line (SourceTooLong r' bytes asks told long is none tells) = absurd (not_long words contents r Filament reads.bytes reads.reads r' bytes asks told long)
   verdict_on_fil ended report line (NetRefused r' bytes reads' refused none) = absurd (no_netlist r' bytes reads')
   verdict_on_fil ended report line (FilRefused r' bytes reads' refused none) = absurd (fil_not_refused r' bytes ended line reads' refused)
   verdict_on_fil ended report line (Accepts file m reads' is says none) = absurd (no_netlist (CheckOf Netlists file) reads'.bytes reads'.reads)
-  verdict_on_fil ended report line (AcceptsSoFar file other reads' is says none) = (is, says)
+  verdict_on_fil ended report line (AcceptsDesign file other reads' is says none) = (is, says)
   verdict_on_fil ended report line (TooManyCycles file cycles m reads' many is none tells) = absurd (no_netlist (RowsOf file cycles) reads'.bytes reads'.reads)
   verdict_on_fil ended report line (Clashes m cycles t trace port asked run reported is says tells) =
       absurd (no_netlist (RowsOf asked.file cycles) asked.reads_net.bytes asked.reads_net.reads)
@@ -216,8 +216,8 @@ pub part_of_accepted : (words : List Text) (contents : Text → Option Text) (fi
 part_of_accepted words contents file n out out' reads prefix ended report line verdict =
     subst (λ text. AppendsPrefix out out' text) (sym (verdict_on words contents (CheckOf Netlists file) n reads ended report line verdict).1) prefix
 
-pub part_of_accepted_so_far : (words : List Text) (contents : Text → Option Text) (file : Text) (design : Design) (out out' : Option Text) → ReadsFil words contents (CheckOf Filament file) design → AppendsPrefix out out' accepted_so_far_text → HasPartOfReport words contents out out'
-part_of_accepted_so_far words contents file design out out' reads prefix ended report line verdict =
+pub part_of_accepted_design : (words : List Text) (contents : Text → Option Text) (file : Text) (design : Design) (out out' : Option Text) → ReadsFil words contents (CheckOf Filament file) design → AppendsPrefix out out' accepted_text → HasPartOfReport words contents out out'
+part_of_accepted_design words contents file design out out' reads prefix ended report line verdict =
     subst (λ text. AppendsPrefix out out' text) (sym (verdict_on_fil words contents (CheckOf Filament file) design reads ended report line verdict).1) prefix
 
 module _ (words : List Text) (contents : Text → Option Text) (n : Netlist) (cycles t : ℕ) (trace : Trace) (asks : AsksForRun words contents n cycles) (order : List ℕ) (ordered : IsOrderOf n order) (few : t ≤ cycles) (runs : RunsCleanly n t no_inputs no_loads trace) where

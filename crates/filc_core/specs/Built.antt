@@ -3,6 +3,8 @@ use Rattle.std.specs.Prelude.{◌≡◌, ℕ, List, [], map, slice_index_or, Opt
 use Rattle.hw_names.specs.Name.{Text}
 use Rattle.fil_ast.specs.Limits.{HasSmallOffsets}
 use Rattle.fil_ast.specs.Numbers.{HasNumbers as HasNumbersOfNames}
+use Rattle.fil_ast.specs.Rules.{FilRules}
+use Rattle.fil_ast.specs.Top.{IsTop}
 use Rattle.fil_ast.specs.Tree.{design_of}
 use Rattle.fil_ast.specs.declared.tree.FilDesign.{FilDesign}
 use Rattle.net_core.specs.Netlist.{Netlist, netlist_of}
@@ -11,7 +13,7 @@ use Rattle.net_core.specs.Rules.{IsValid}
 use Rattle.net_core.specs.Table.{IsTableOf}
 use Rattle.net_core.specs.declared.net.Net.{Net}
 use Rattle.net_sim.specs.PortOrder.{IsPortOrderOf}
-use Rattle.filc_core.specs.FilFile.{IsFilTextOf}
+use Rattle.filc_core.specs.FilFile.{GivesFil, IsFilTextOf, IsAcceptedFilTextOf}
 use Rattle.filc_core.specs.FilFile
 use Rattle.filc_core.specs.NetFile.{GivesNet, IsTextOf, IsAcceptedTextOf}
 use Rattle.filc_core.specs.NetFile
@@ -21,6 +23,7 @@ use Rattle.filc_core.specs.Verdict.{Verdict}
 use Rattle.filc_core.specs.declared.ended.Ended.{Ended}
 use Rattle.filc_core.specs.declared.language.Language.{Language}
 use Rattle.filc_core.specs.declared.language.Language.TheVariants.{Netlists, Filament}
+use Rattle.filc_core.specs.declared.fil_file.FilBuilt.{FilBuilt}
 use Rattle.filc_core.specs.declared.net_file.Built.{Built}
 use Rattle.filc_core.specs.declared.stop.Stop.{Stop}
 use Rattle.filc_core.specs.declared.stop.Stop.TheVariants as stop
@@ -73,9 +76,25 @@ pub record IsDesignOf (text : Text) (d : FilDesign) : Type 0 where
   pub numbers : HasNumbersOfNames d
   pub small : HasSmallOffsets d
 
+-- the design keeps F1 to F14, and this is the number of its top component
+pub record IsFilReady (b : FilBuilt) : Type 0 where
+  pub numbers : HasNumbersOfNames b.design
+  pub small : HasSmallOffsets b.design
+  pub rules : FilRules (design_of b.design)
+  pub top : IsTop (design_of b.design) b.top
+
+-- the text gives this design, which later commands may take
+pub record IsFilBuiltFrom (text : Text) (b : FilBuilt) : Type 0 where
+  pub gives : GivesFil text (design_of b.design)
+  pub ready : IsFilReady b
+
 -- whichever text spells the design is refused so, or there was no memory
 abbrev pub IsUnfitDesign : FilDesign → Stop → Type 0
 IsUnfitDesign d why = (text : Text) → IsFilTextOf (design_of d) text → IsUnbuilt Filament text why
+
+-- the same for a design that keeps the rules
+abbrev pub IsOverweightDesign : FilDesign → Stop → Type 0
+IsOverweightDesign d why = (text : Text) → IsAcceptedFilTextOf (design_of d) text → IsUnbuilt Filament text why
 
 -- why the file that the words name gives nothing: it couldn't be read, or that is the verdict, or there was no memory
 abbrev pub IsUnread : List Text → (Text → Option Text) → Stop → Type 0

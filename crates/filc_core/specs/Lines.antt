@@ -1,6 +1,7 @@
 -- The line of each refusal, without its line feed. This project's.
 use Rattle.std.specs.Prelude.{ℕ, List, [], ◌∷◌, ◌++◌, codes, decimal, flat_map}
 use Rattle.hw_names.specs.Name.{Text}
+use Rattle.fil_ast.specs.Evidence.{Evidence, Nothing, AnOffset, ACycle, AGap, ALoop}
 use Rattle.filc_core.specs.Language.{letter_of}
 use Rattle.filc_core.specs.declared.language.Language.{Language}
 
@@ -29,17 +30,29 @@ grammar_line place = codes "refused grammar at byte " ++ decimal place
 abbrev pub rule_name : Language → ℕ → Text
 rule_name language number = letter_of language ++ decimal number
 
--- the first broken rule, in the design with this name and at this item
-abbrev pub rule_line : Text → Text → ℕ → Text
-rule_line rule name item = codes "refused " ++ rule ++ codes " " ++ name ++ codes " item " ++ decimal item
-
 -- a space before each port
 abbrev pub spaced : List Text → Text
 spaced ports = flat_map (λ port. codes " " ++ port) ports
 
--- the rule against loops is broken at item 0, by this cycle of ports
-abbrev pub loop_line : Text → Text → List Text → Text
-loop_line rule name ports = rule_line rule name 0 ++ codes " loop" ++ spaced ports
+-- a space, what is counted, a space and the count
+abbrev pub count_text : Text → ℕ → Text
+count_text name count = codes " " ++ name ++ codes " " ++ decimal count
+
+-- what a broken rule shows besides itself
+abbrev pub evidence_text : Evidence → Text
+evidence_text Nothing = []
+evidence_text (AnOffset offset) = count_text (codes "offset") offset
+evidence_text (ACycle cycle) = count_text (codes "cycle") cycle
+evidence_text (AGap gap cycle) = count_text (codes "gap") gap ++ count_text (codes "cycle") cycle
+evidence_text (ALoop first others) = codes " loop" ++ spaced (first ∷ others)
+
+-- a rule that is broken in the netlist or component of this name, at this item
+abbrev pub place_text : Text → Text → ℕ → Text
+place_text rule name item = codes "refused " ++ rule ++ codes " " ++ name ++ codes " item " ++ decimal item
+
+-- the first broken rule, with what it shows
+abbrev pub rule_line : Text → Text → ℕ → Evidence → Text
+rule_line rule name item evidence = place_text rule name item ++ evidence_text evidence
 
 abbrev pub conflict_line : ℕ → Text → Text
 conflict_line cycle port = codes "conflict cycle " ++ decimal cycle ++ codes " port " ++ port

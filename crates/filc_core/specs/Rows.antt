@@ -49,10 +49,6 @@ shown_text states c = if c.shown then memory_text c.name (cell_words states c.na
 abbrev pub memories_text : Netlist → (Text → Primitive → State) → Text
 memories_text n states = flat_map (shown_text states) n.cells
 
--- a netlist that keeps the rules
+-- a netlist or a design that keeps the rules
 abbrev pub accepted_text : Text
 accepted_text = codes "accepted" ++ 10 ∷ []
-
--- a Filament design that keeps the rules that are judged so far
-abbrev pub accepted_so_far_text : Text
-accepted_so_far_text = codes "accepted so far" ++ 10 ∷ []

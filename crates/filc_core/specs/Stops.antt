@@ -5,11 +5,11 @@ use Rattle.std.specs.Io.KnownBytes.{Appends}
 use Rattle.hw_io.specs.Writing.{AppendsPrefix}
 use Rattle.hw_names.specs.Name.{Text}
 use Rattle.fil_ast.specs.declared.tree.TheConstants.{MOST_OFFSET}
+use Rattle.fil_check.specs.Least.{evidence_of}
 use Rattle.filc_core.specs.Language.{most_bytes, most_nesting}
-use Rattle.filc_core.specs.Lines.{as_line, read_fault_line, limit_line, token_line, grammar_line, rule_name, rule_line, loop_line, conflict_line, memory_line}
+use Rattle.filc_core.specs.Lines.{as_line, read_fault_line, limit_line, token_line, grammar_line, rule_name, rule_line, conflict_line, memory_line}
 use Rattle.filc_core.specs.declared.ended.Ended.{Ended}
 use Rattle.filc_core.specs.declared.ended.Ended.TheVariants.{Refused, ReadFault, WriteFault, Memory, Conflict, Limit}
-use Rattle.filc_core.specs.declared.language.Language.TheVariants.{Netlists}
 use Rattle.filc_core.specs.declared.limits.TheConstants.{MOST_WEIGHT, MOST_WORDS, MOST_CYCLES}
 use Rattle.filc_core.specs.declared.refusal.Refusal.{Refusal}
 use Rattle.filc_core.specs.declared.refusal.Refusal.TheVariants as refusal
@@ -26,8 +26,7 @@ answer_of (refusal.HasNoTokens at) = Refused
 answer_of (refusal.NestsTooDeep language depth) = Limit
 answer_of (refusal.HasNoGrammar at) = Refused
 answer_of (refusal.HasLargeOffset offset) = Limit
-answer_of (refusal.BreaksRule language rule name item) = Refused
-answer_of (refusal.HasLoop name ports) = Refused
+answer_of (refusal.BreaksRule language rule name item evidence) = Refused
 answer_of (refusal.IsTooHeavy weight) = Limit
 answer_of (refusal.HasTooManyWords words) = Limit
 answer_of (refusal.TooManyCycles cycles) = Limit
@@ -39,8 +38,7 @@ refusal_line (refusal.HasNoTokens at) = token_line at
 refusal_line (refusal.NestsTooDeep language depth) = limit_line (codes "nesting") depth (most_nesting language)
 refusal_line (refusal.HasNoGrammar at) = grammar_line at
 refusal_line (refusal.HasLargeOffset offset) = limit_line (codes "offset") offset MOST_OFFSET
-refusal_line (refusal.BreaksRule language rule name item) = rule_line (rule_name language rule) name item
-refusal_line (refusal.HasLoop name ports) = loop_line (rule_name Netlists 6) name ports.items
+refusal_line (refusal.BreaksRule language rule name item evidence) = rule_line (rule_name language rule) name item (evidence_of evidence)
 refusal_line (refusal.IsTooHeavy weight) = limit_line (codes "weight") weight MOST_WEIGHT
 refusal_line (refusal.HasTooManyWords words) = limit_line (codes "words") words MOST_WORDS
 refusal_line (refusal.TooManyCycles cycles) = limit_line (codes "cycles") cycles MOST_CYCLES

@@ -13,7 +13,7 @@ use Rattle.filc_core.specs.Language.{most_bytes}
 use Rattle.filc_core.specs.NetFile.{GivesNet}
 use Rattle.filc_core.specs.NetFile
 use Rattle.filc_core.specs.Request.{Request, CheckOf, RowsOf, file_of, language_of, Asks, AskNothing}
-use Rattle.filc_core.specs.Rows.{accepted_text, accepted_so_far_text, rows_text, memories_text, outputs_of_net}
+use Rattle.filc_core.specs.Rows.{accepted_text, rows_text, memories_text, outputs_of_net}
 use Rattle.filc_core.specs.declared.ended.Ended.{Ended}
 use Rattle.filc_core.specs.declared.ended.Ended.TheVariants.{Done, Usage, Conflict, Limit}
 use Rattle.filc_core.specs.declared.limits.TheConstants.{MOST_CYCLES}
@@ -62,7 +62,7 @@ pub data Verdict (words : List Text) (contents : Text → Option Text) (ended : 
   NetRefused : (r : Request) (bytes : Text) → Reads words contents r Netlists bytes → NetFile.IsRefused bytes ended line → report ≡ [] → Verdict words contents ended report line
   FilRefused : (r : Request) (bytes : Text) → Reads words contents r Filament bytes → FilFile.IsRefused bytes ended line → report ≡ [] → Verdict words contents ended report line
   Accepts : (file : Text) (n : Netlist) → ReadsNet words contents (CheckOf Netlists file) n → ended ≡ Done → report ≡ accepted_text → line ≡ [] → Verdict words contents ended report line
-  AcceptsSoFar : (file : Text) (design : Design) → ReadsFil words contents (CheckOf Filament file) design → ended ≡ Done → report ≡ accepted_so_far_text → line ≡ [] → Verdict words contents ended report line
+  AcceptsDesign : (file : Text) (design : Design) → ReadsFil words contents (CheckOf Filament file) design → ended ≡ Done → report ≡ accepted_text → line ≡ [] → Verdict words contents ended report line
   TooManyCycles : (file : Text) (cycles : ℕ) (n : Netlist) → ReadsNet words contents (RowsOf file cycles) n → MOST_CYCLES < cycles → ended ≡ Limit → report ≡ [] → line ≡ limit_line (codes "cycles") cycles MOST_CYCLES → Verdict words contents ended report line
   Clashes : (n : Netlist) (cycles t : ℕ) (trace : Trace) (port : Text) → AsksForRun words contents n cycles → NetRun n cycles no_inputs no_loads (suc t) trace → IsReported (net_circuit n) t (trace t) port → ended ≡ Conflict → report ≡ rows_text (outputs_of_net n) trace t → line ≡ conflict_line t port → Verdict words contents ended report line
   Runs : (n : Netlist) (cycles : ℕ) (trace : Trace) → AsksForRun words contents n cycles → NetRun n cycles no_inputs no_loads cycles trace → ((t : ℕ) (port : Text) → t < cycles → HasConflict (net_circuit n) t (trace t) port → ⊥) → ended ≡ Done → report ≡ run_text n cycles trace → line ≡ [] → Verdict words contents ended report line

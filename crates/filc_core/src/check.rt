@@ -1,16 +1,28 @@
 //! The command `check`: whether a design keeps the rules.
-ghost use Rattle.std.specs.Prelude.{◌≡◌, ◌≤◌, List, ℕ, IsSome, IsErrOf};
-ghost use Rattle.std.specs.Io.KnownBytes.{Keeps};
+ghost use Rattle.std.specs.Prelude.{◌≡◌, ◌≤◌, List, ℕ, IsSome, IsErrOf, OnOk, OnErr};
+ghost use Rattle.std.specs.Io.KnownBytes.{Appends, Keeps};
 ghost use Rattle.hw_io.specs.Faults.{Rose};
 ghost use Rattle.hw_io.specs.Reading.{KeepsFiles, IsReadFault};
+ghost use Rattle.hw_io.specs.Writing.{AppendsPrefix};
 ghost use Rattle.filc_core.specs.Report.{Leaves};
 ghost use Rattle.filc_core.specs.Request.{CheckOf, Asks};
+ghost use Rattle.filc_core.specs.Rows.{accepted_text};
 ghost use Rattle.filc_core.specs.declared.language.Language.TheVariants.{Netlists, Filament};
 
 use crate::stop::Stop;
 use crate::{fil_file, net_file};
-use hw_io::{Files, Sink, write_whole};
+use hw_io::{Failed, Files, Sink, write_whole};
 use std::alloc::Global;
+
+/// Writes that what was read is accepted.
+fn write_accepted<O: Sink>(out: &mut O) -> Result<(), Failed>
+    ensures appended { OnOk result (Appends (O.written out.old) (O.written out.new) accepted_text) }
+    ensures prefix { OnErr result (AppendsPrefix (O.written out.old) (O.written out.new) accepted_text) }
+    ensures failed { OnErr result (Rose (O.faults out.old) (O.faults out.new)) }
+    ensures never_falls { O.faults out.old ≤ O.faults out.new }
+{
+    write_whole(out, "accepted\n".as_bytes())
+}
 
 /// Writes that the netlist in this file is accepted, if it is.
 pub(crate) fn check_netlist<F: Files, O: Sink>(
@@ -29,11 +41,11 @@ pub(crate) fn check_netlist<F: Files, O: Sink>(
     ensures never_falls { O.faults out.old ≤ O.faults out.new }
 {
     net_file::load(alloc, file, files)?;
-    write_whole(out, "accepted\n".as_bytes())?;
+    write_accepted(out)?;
     Ok(())
 }
 
-/// Writes that the Filament design in this file keeps the rules that are judged so far, if it does.
+/// Writes that the Filament design in this file is accepted, if it is.
 pub(crate) fn check_filament<F: Files, O: Sink>(
     alloc: Global,
     file: &str,
@@ -50,6 +62,6 @@ pub(crate) fn check_filament<F: Files, O: Sink>(
     ensures never_falls { O.faults out.old ≤ O.faults out.new }
 {
     fil_file::load(alloc, file, files)?;
-    write_whole(out, "accepted so far\n".as_bytes())?;
+    write_accepted(out)?;
     Ok(())
 }

@@ -2,34 +2,48 @@
 ghost use Rattle.std.specs.Prelude.{List, ℕ, IfOk, IfErr, OnOk, IsErrOf, IsSome};
 ghost use Rattle.hw_io.specs.Reading.{KeepsFiles, IsReadFault};
 ghost use Rattle.fil_ast.specs.Limits.{HasSmallOffsets};
+ghost use Rattle.hw_names.specs.Name.{text_of};
 ghost use Rattle.fil_ast.specs.Numbers.{HasNumbers, IsNumberOf};
-ghost use Rattle.fil_ast.specs.Rules.{KeepsRules, first_five};
+ghost use Rattle.fil_ast.specs.Refusal.{IsRefusal};
+ghost use Rattle.fil_ast.specs.Rules.{FilRules};
+ghost use Rattle.fil_ast.specs.Top.{IsTop};
 ghost use Rattle.fil_ast.specs.Tree.{design_of};
-ghost use Rattle.fil_check.specs.First.{IsRefusal};
+ghost use Rattle.fil_check.specs.First.{TellsFirst};
+ghost use Rattle.fil_check.specs.Least.{evidence_of};
 ghost use Rattle.fil_parse.specs.Spelling.{EndsBy};
 ghost use Rattle.fil_parse.specs.Written.{DesignIsWritten};
-ghost use Rattle.filc_core.specs.Built.{AsksFor, IsDesignOf, IsUnbuilt, IsUnfitDesign, IsUnread};
-ghost use Rattle.filc_core.specs.FilFile.{GivesFil};
+ghost use Rattle.filc_core.specs.Built.{AsksFor, IsDesignOf, IsFilBuiltFrom, IsFilReady, IsOverweightDesign, IsUnbuilt, IsUnfitDesign, IsUnread};
+ghost use Rattle.filc_core.specs.FilFile.{IsLight};
 ghost use Rattle.filc_core.specs.Request.{Request};
 ghost use Rattle.filc_core.specs.Verdict.{ReadsFil};
 
 use crate::language::Language;
+use crate::limits::MOST_WEIGHT;
 use crate::refusal::Refusal;
 use crate::source::read_source;
 use crate::stop::Stop;
-use fil_ast::FilDesign;
-use fil_check::{FilEnd, check_fil};
+use crate::top::top_of;
+use fil_ast::{FilDesign, FilOk};
+use fil_check::{Evidence, FilEnd, check_fil, fil_weight};
 use fil_parse::{FilTextEnd, parse_fil};
 use hw_bits::Memory;
 use hw_io::Files;
 use hw_names::{NameId, Word};
 use std::alloc::Global;
 
-/// The design of this file, which keeps the rules that are judged so far.
-pub(crate) fn load<F: Files>(alloc: Global, file: &str, files: &mut F) -> Result<FilDesign, Stop>
+/// A design that keeps the rules, and the number of its top component.
+#[derive(Drop)]
+pub(crate) struct FilBuilt {
+    pub design: FilDesign,
+    pub top: usize,
+}
+
+/// The design of this file, which is accepted.
+pub(crate) fn load<F: Files>(alloc: Global, file: &str, files: &mut F) -> Result<FilBuilt, Stop>
     ensures files { KeepsFiles F.names F.content F.faults file.now files.old files.new }
     ensures read { (words : List (List ℕ)) (r : Request) → AsksFor words r Language.Filament file.now → IsSome (F.content files.old file.now)
-        → IfOk result (λ d. ReadsFil words (F.content files.old) r (design_of d)) }
+        → IfOk result (λ b. ReadsFil words (F.content files.old) r (design_of b.design)) }
+    ensures ready { IfOk result IsFilReady }
     ensures unread { (words : List (List ℕ)) (r : Request) → AsksFor words r Language.Filament file.now → IsSome (F.content files.old file.now)
         → IfErr result (IsUnread words (F.content files.old)) }
     ensures read_fault { IsErrOf result Stop.ReadFault
@@ -41,13 +55,13 @@ pub(crate) fn load<F: Files>(alloc: Global, file: &str, files: &mut F) -> Result
 }
 
 /// The design that a text gives.
-fn build(alloc: Global, text: &[u8]) -> Result<FilDesign, Stop>
-    ensures built { IfOk result (λ d. GivesFil text.now (design_of d)) }
+fn build(alloc: Global, text: &[u8]) -> Result<FilBuilt, Stop>
+    ensures built { IfOk result (IsFilBuiltFrom text.now) }
     ensures refused { IfErr result (IsUnbuilt Language.Filament text.now) }
 {
     let design = read(alloc, text)?;
-    judge(alloc, &design)?;
-    Ok(design)
+    let top = judge(alloc, &design)?;
+    Ok(FilBuilt { design, top })
 }
 
 /// The design that a text spells, within the limits.
@@ -78,25 +92,50 @@ fn stop_of(end: FilTextEnd) -> Stop
     }
 }
 
-/// Judges a design by the rules.
-fn judge(alloc: Global, design: &FilDesign) -> Result<(), Stop>
+/// Judges a design by the rules and by its weight, and answers the number of its top component.
+fn judge(alloc: Global, design: &FilDesign) -> Result<usize, Stop>
     requires numbers { HasNumbers design.now }
     requires small { HasSmallOffsets design.now }
     requires written { DesignIsWritten (design_of design.now) }
-    ensures kept { OnOk result (KeepsRules first_five (design_of design.now)) }
+    ensures kept { OnOk result (FilRules (design_of design.now)) }
+    ensures light { OnOk result (IsLight (design_of design.now)) }
+    ensures top { IfOk result (IsTop (design_of design.now)) }
     ensures refused { IfErr result (IsUnfitDesign design.now) }
 {
     match check_fil(alloc, design) {
-        Ok(()) => Ok(()),
-        Err(FilEnd::Refused { rule, comp, item }) => Err(broken(alloc, design, rule, comp, item)),
-        Err(FilEnd::Memory) => Err(Stop::Memory),
+        Ok(ok) => weigh(alloc, &ok),
+        Err(end) => Err(unfit(alloc, design, end)),
+    }
+}
+
+/// Why a design of which judging ends so isn't accepted.
+fn unfit(alloc: Global, design: &FilDesign, end: FilEnd) -> Stop
+    requires written { DesignIsWritten (design_of design.now) }
+    requires first { TellsFirst design.now end }
+    ensures { IsUnfitDesign design.now result }
+{
+    match end {
+        FilEnd::Refused {
+            rule,
+            comp,
+            item,
+            evidence,
+        } => broken(alloc, design, rule, comp, item, evidence),
+        FilEnd::Memory => Stop::Memory,
     }
 }
 
 /// The refusal of a design that breaks this rule first, at this item of this component.
-fn broken(alloc: Global, design: &FilDesign, rule: u8, comp: NameId, item: u64) -> Stop
+fn broken(
+    alloc: Global,
+    design: &FilDesign,
+    rule: u8,
+    comp: NameId,
+    item: u64,
+    evidence: Evidence,
+) -> Stop
     requires numbered { IsNumberOf design.now.names comp }
-    requires first { IsRefusal design.now rule comp item }
+    requires first { IsRefusal (design_of design.now) (text_of design.now.names comp) item (evidence_of evidence) rule }
     ensures { IsUnfitDesign design.now result }
 {
     match Word::make(alloc, design.names.text(comp)) {
@@ -105,7 +144,23 @@ fn broken(alloc: Global, design: &FilDesign, rule: u8, comp: NameId, item: u64) 
             rule,
             name,
             item,
+            evidence,
         }),
         Err(Memory) => Stop::Memory,
     }
+}
+
+/// Judges what a run of a design costs, and answers the number of its top component.
+fn weigh(alloc: Global, ok: &FilOk) -> Result<usize, Stop>
+    requires { DesignIsWritten (design_of ok.now) }
+    ensures light { OnOk result (IsLight (design_of ok.now)) }
+    ensures top { IfOk result (IsTop (design_of ok.now)) }
+    ensures refused { IfErr result (IsOverweightDesign ok.now) }
+{
+    let top = top_of(ok.design());
+    let weight = fil_weight(alloc, ok, top)?;
+    if weight > MOST_WEIGHT {
+        return Err(Stop::Refused(Refusal::IsTooHeavy { weight }));
+    }
+    Ok(top)
 }

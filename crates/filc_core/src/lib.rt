@@ -18,6 +18,7 @@ mod rows;
 mod source;
 mod stop;
 mod stream;
+mod top;
 
 pub use command::filc;
 pub use ended::Ended;

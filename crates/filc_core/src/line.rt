@@ -3,10 +3,14 @@ ghost use Rattle.std.specs.Prelude.{◌≤◌, OnOk, OnErr, map};
 ghost use Rattle.std.specs.Io.KnownBytes.{Appends};
 ghost use Rattle.hw_io.specs.Faults.{Rose};
 ghost use Rattle.hw_io.specs.Writing.{AppendsPrefix};
-ghost use Rattle.filc_core.specs.Lines.{as_line, read_fault_line, limit_line, token_line, grammar_line, rule_name, rule_line, spaced, loop_line, conflict_line};
+ghost use Rattle.fil_ast.specs.Evidence.{AGap};
+ghost use Rattle.fil_check.specs.Least.{evidence_of, loop_of};
+ghost use Rattle.filc_core.specs.Lines.{as_line, read_fault_line, limit_line, token_line, grammar_line, rule_name, place_text, rule_line, spaced, count_text, evidence_text, conflict_line};
 ghost use Rattle.filc_core.specs.Stops.{joined};
 
 use crate::language::Language;
+use fil_check::Evidence;
+use fil_share::Meet;
 use hw_io::{Failed, Sink, write_whole};
 use hw_names::Word;
 use itoa::Buffer;
@@ -93,16 +97,16 @@ pub(crate) fn write_grammar<S: Sink>(sink: &mut S, place: u64) -> Result<(), Fai
     write_texts(sink, &texts)
 }
 
-/// Writes the line of a broken rule.
-pub(crate) fn write_rule<S: Sink>(
+/// Writes which rule is broken, in which netlist or component and at which item.
+fn write_place<S: Sink>(
     sink: &mut S,
     language: Language,
     rule: u8,
     name: &[u8],
     item: u64,
 ) -> Result<(), Failed>
-    ensures appended { OnOk result (Appends (S.written sink.old) (S.written sink.new) (as_line (rule_line (rule_name language rule) name.now item))) }
-    ensures prefix { OnErr result (AppendsPrefix (S.written sink.old) (S.written sink.new) (as_line (rule_line (rule_name language rule) name.now item))) }
+    ensures appended { OnOk result (Appends (S.written sink.old) (S.written sink.new) (place_text (rule_name language rule) name.now item)) }
+    ensures prefix { OnErr result (AppendsPrefix (S.written sink.old) (S.written sink.new) (place_text (rule_name language rule) name.now item)) }
     ensures failed { OnErr result (Rose (S.faults sink.old) (S.faults sink.new)) }
     ensures never_falls { S.faults sink.old ≤ S.faults sink.new }
 {
@@ -116,7 +120,6 @@ pub(crate) fn write_rule<S: Sink>(
         name,
         " item ".as_bytes(),
         place.format(item).as_bytes(),
-        "\n".as_bytes(),
     ];
     write_texts(sink, &texts)
 }
@@ -134,16 +137,87 @@ fn write_ports<S: Sink>(sink: &mut S, ports: &[Word]) -> Result<(), Failed>
     Ok(())
 }
 
-/// Writes the line of a netlist with a loop.
-pub(crate) fn write_loop<S: Sink>(sink: &mut S, name: &[u8], ports: &[Word]) -> Result<(), Failed>
-    ensures appended { OnOk result (Appends (S.written sink.old) (S.written sink.new) (as_line (loop_line (rule_name Language.Netlists 6) name.now ports.now))) }
-    ensures prefix { OnErr result (AppendsPrefix (S.written sink.old) (S.written sink.new) (as_line (loop_line (rule_name Language.Netlists 6) name.now ports.now))) }
+/// Writes a loop of ports; where there are none, nothing.
+fn write_loop<S: Sink>(sink: &mut S, ports: &[Word]) -> Result<(), Failed>
+    ensures appended { OnOk result (Appends (S.written sink.old) (S.written sink.new) (evidence_text (loop_of ports.now))) }
+    ensures prefix { OnErr result (AppendsPrefix (S.written sink.old) (S.written sink.new) (evidence_text (loop_of ports.now))) }
     ensures failed { OnErr result (Rose (S.faults sink.old) (S.faults sink.new)) }
     ensures never_falls { S.faults sink.old ≤ S.faults sink.new }
 {
-    let front = ["refused N6 ".as_bytes(), name, " item 0 loop".as_bytes()];
-    write_texts(sink, &front)?;
-    write_ports(sink, ports)?;
+    if ports.is_empty() {
+        return Ok(());
+    }
+    write_whole(sink, " loop".as_bytes())?;
+    write_ports(sink, ports)
+}
+
+/// Writes a space, a name, a space and a count.
+fn write_count<S: Sink>(sink: &mut S, name: &str, count: u64) -> Result<(), Failed>
+    ensures appended { OnOk result (Appends (S.written sink.old) (S.written sink.new) (count_text name.now count)) }
+    ensures prefix { OnErr result (AppendsPrefix (S.written sink.old) (S.written sink.new) (count_text name.now count)) }
+    ensures failed { OnErr result (Rose (S.faults sink.old) (S.faults sink.new)) }
+    ensures never_falls { S.faults sink.old ≤ S.faults sink.new }
+{
+    let mut digits = Buffer::new();
+    let texts = [
+        " ".as_bytes(),
+        name.as_bytes(),
+        " ".as_bytes(),
+        digits.format(count).as_bytes(),
+    ];
+    write_texts(sink, &texts)
+}
+
+/// Writes the gap of two transactions, and the row in which they meet.
+fn write_gap<S: Sink>(sink: &mut S, meet: &Meet) -> Result<(), Failed>
+    ensures appended { OnOk result (Appends (S.written sink.old) (S.written sink.new) (evidence_text (AGap meet.now.gap meet.now.cycle))) }
+    ensures prefix { OnErr result (AppendsPrefix (S.written sink.old) (S.written sink.new) (evidence_text (AGap meet.now.gap meet.now.cycle))) }
+    ensures failed { OnErr result (Rose (S.faults sink.old) (S.faults sink.new)) }
+    ensures never_falls { S.faults sink.old ≤ S.faults sink.new }
+{
+    let mut gap = Buffer::new();
+    let mut cycle = Buffer::new();
+    let texts = [
+        " gap ".as_bytes(),
+        gap.format(meet.gap).as_bytes(),
+        " cycle ".as_bytes(),
+        cycle.format(meet.cycle).as_bytes(),
+    ];
+    write_texts(sink, &texts)
+}
+
+/// Writes what a broken rule shows besides itself.
+fn write_evidence<S: Sink>(sink: &mut S, evidence: &Evidence) -> Result<(), Failed>
+    ensures appended { OnOk result (Appends (S.written sink.old) (S.written sink.new) (evidence_text (evidence_of evidence.now))) }
+    ensures prefix { OnErr result (AppendsPrefix (S.written sink.old) (S.written sink.new) (evidence_text (evidence_of evidence.now))) }
+    ensures failed { OnErr result (Rose (S.faults sink.old) (S.faults sink.new)) }
+    ensures never_falls { S.faults sink.old ≤ S.faults sink.new }
+{
+    match evidence {
+        Evidence::Nothing => Ok(()),
+        Evidence::Offset(offset) => write_count(sink, "offset", *offset),
+        Evidence::Cycle(cycle) => write_count(sink, "cycle", *cycle),
+        Evidence::Gap(meet) => write_gap(sink, meet),
+        Evidence::Loop(ports) => write_loop(sink, ports),
+    }
+}
+
+/// Writes the line of a broken rule, with what it shows.
+pub(crate) fn write_rule<S: Sink>(
+    sink: &mut S,
+    language: Language,
+    rule: u8,
+    name: &[u8],
+    item: u64,
+    evidence: &Evidence,
+) -> Result<(), Failed>
+    ensures appended { OnOk result (Appends (S.written sink.old) (S.written sink.new) (as_line (rule_line (rule_name language rule) name.now item (evidence_of evidence.now)))) }
+    ensures prefix { OnErr result (AppendsPrefix (S.written sink.old) (S.written sink.new) (as_line (rule_line (rule_name language rule) name.now item (evidence_of evidence.now)))) }
+    ensures failed { OnErr result (Rose (S.faults sink.old) (S.faults sink.new)) }
+    ensures never_falls { S.faults sink.old ≤ S.faults sink.new }
+{
+    write_place(sink, language, rule, name, item)?;
+    write_evidence(sink, evidence)?;
     write_whole(sink, "\n".as_bytes())
 }
 

@@ -21,6 +21,7 @@ use crate::refusal::Refusal;
 use crate::report::name_of;
 use crate::source::read_source;
 use crate::stop::Stop;
+use fil_check::Evidence;
 use hw_bits::Memory;
 use hw_io::Files;
 use hw_lex::nesting_of_bytes;
@@ -115,6 +116,7 @@ fn broken(alloc: Global, net: &Net, rule: u8, item: u64) -> Stop
             rule,
             name,
             item,
+            evidence: Evidence::Nothing,
         }),
         Err(Memory) => Stop::Memory,
     }
@@ -145,7 +147,13 @@ fn looped(alloc: Global, net: &Net, table: &Table, ports: &[usize]) -> Stop
     ensures { IsUnfit (netlist_of net.now) result }
 {
     match loop_names(alloc, net, table, ports) {
-        Ok((name, ports)) => Stop::Refused(Refusal::HasLoop { name, ports }),
+        Ok((name, ports)) => Stop::Refused(Refusal::BreaksRule {
+            language: Language::Netlists,
+            rule: 6,
+            name,
+            item: 0,
+            evidence: Evidence::Loop(ports),
+        }),
         Err(Memory) => Stop::Memory,
     }
 }

@@ -9,10 +9,9 @@ ghost use Rattle.filc_core.specs.Stops.{answer_of, refusal_line};
 use crate::ended::Ended;
 use crate::language::Language;
 use crate::limits::{MOST_CYCLES, MOST_WEIGHT, MOST_WORDS};
-use crate::line::{
-    write_conflict, write_grammar, write_limit, write_loop, write_rule, write_token,
-};
+use crate::line::{write_conflict, write_grammar, write_limit, write_rule, write_token};
 use fil_ast::MOST_OFFSET;
+use fil_check::Evidence;
 use hw_io::{Failed, Sink};
 use hw_names::Word;
 
@@ -46,11 +45,7 @@ pub(crate) enum Refusal {
         rule: u8,
         name: Word,
         item: u64,
-    },
-    /// The netlist of this name has this loop of ports, which starts with the least port on one.
-    HasLoop {
-        name: Word,
-        ports: Vec<Word>,
+        evidence: Evidence,
     },
     /// The weight is over the limit.
     IsTooHeavy {
@@ -79,8 +74,7 @@ impl Refusal {
         match self {
             Refusal::HasNoTokens { .. }
             | Refusal::HasNoGrammar { .. }
-            | Refusal::BreaksRule { .. }
-            | Refusal::HasLoop { .. } => Ended::Refused,
+            | Refusal::BreaksRule { .. } => Ended::Refused,
             Refusal::Conflict { .. } => Ended::Conflict,
             _ => Ended::Limit,
         }
@@ -112,8 +106,8 @@ impl Refusal {
                 rule,
                 name,
                 item,
-            } => write_rule(err, *language, *rule, name.bytes(), *item),
-            Refusal::HasLoop { name, ports } => write_loop(err, name.bytes(), ports),
+                evidence,
+            } => write_rule(err, *language, *rule, name.bytes(), *item, evidence),
             Refusal::IsTooHeavy { weight } => {
                 write_limit(err, "weight", *weight as u128, MOST_WEIGHT as u128)
             }

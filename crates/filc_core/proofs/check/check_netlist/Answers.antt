@@ -13,10 +13,10 @@ returns-in_err-load-clause-leaves g c words asks told =
     unread_report words (g.F.Files.content c.args.files.now) c.args.file.now c.from_residual.result c.in_err-load.field-0.0 (g.O.Sink.written c.args.out.now) c.from_residual.ensures.1
     (c.in_err-load.ensures.unread words (CheckOf Netlists c.args.file.now) (asks_for words (CheckOf Netlists c.args.file.now) asks) told)
 
-pub returns-in_err-write_whole-clause-leaves : goal.returns-in_err-write_whole-clause-leaves
-returns-in_err-write_whole-clause-leaves g c words asks told =
+pub returns-in_err-write_accepted-clause-leaves : goal.returns-in_err-write_accepted-clause-leaves
+returns-in_err-write_accepted-clause-leaves g c words asks told =
     let reads = c.in_ok-load.ensures.read words (CheckOf Netlists c.args.file.now) (asks_for words (CheckOf Netlists c.args.file.now) asks) told in
-    let part = part_of_accepted words (g.F.Files.content c.args.files.now) c.args.file.now (netlist_of c.in_ok-load.field-0.net) (g.O.Sink.written c.args.out.now) (g.O.Sink.written c.write_whole.new.sink) reads (rw c.as_bytes.ensures.value at c.in_err-write_whole.ensures.prefix) in
+    let part = part_of_accepted words (g.F.Files.content c.args.files.now) c.args.file.now (netlist_of c.in_ok-load.field-0.net) (g.O.Sink.written c.args.out.now) (g.O.Sink.written c.write_accepted.new.out) reads c.in_err-write_accepted.ensures.prefix in
     search (rules, part)
 
 pub returns-clause-leaves : goal.returns-clause-leaves
@@ -24,5 +24,5 @@ returns-clause-leaves g c words asks told =
     record {
       report = accepted_text;
       verdict = Accepts c.args.file.now (netlist_of c.in_ok-load.field-0.net) (c.in_ok-load.ensures.read words (CheckOf Netlists c.args.file.now) (asks_for words (CheckOf Netlists c.args.file.now) asks) told) refl refl refl;
-      reported = rw c.as_bytes.ensures.value at c.in_ok-write_whole.ensures.appended;
+      reported = c.in_ok-write_accepted.ensures.appended;
     }

@@ -1,14 +1,5 @@
-use Rattle.std.proofs.Common.{subst}
-use Rattle.fil_check.specs.First.{TellsFirst}
-use Rattle.fil_check.specs.declared.rules.FilEnd.{FilEnd}
-use Rattle.filc_core.proofs.FilLemmas.{refusal_number}
+use Rattle.filc_core.proofs.FilLemmas.{unfit_where_heavy}
 use Rattle.filc_core.proofs.fil_file.judge.Goals as goal
 
-pub broken-requires-clause-first : goal.broken-requires-clause-first
-broken-requires-clause-first c =
-    subst (λ (e : FilEnd). TellsFirst c.args.design.now e) c.in-Err-Refused.field-0-is c.in-Err-Refused.ensures.refused
-
-pub broken-requires-clause-numbered : goal.broken-requires-clause-numbered
-broken-requires-clause-numbered c =
-    refusal_number c.args.design.now c.in-Err-Refused.rule c.in-Err-Refused.comp c.in-Err-Refused.item c.requires.written
-    (subst (λ (e : FilEnd). TellsFirst c.args.design.now e) c.in-Err-Refused.field-0-is c.in-Err-Refused.ensures.refused)
+pub returns-in-Ok-clause-refused : goal.returns-in-Ok-clause-refused
+returns-in-Ok-clause-refused c = unfit_where_heavy c.args.design.now c.in-Ok.ok c.weigh.result c.in-Ok.ensures.design c.in-Ok.ensures.kept c.weigh.ensures.refused

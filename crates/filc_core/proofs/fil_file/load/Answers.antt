@@ -1,10 +1,7 @@
 use Rattle.std.proofs.Common.{subst}
 use Rattle.std.specs.Prelude.{IfOk, IfErr}
 use Rattle.hw_names.specs.Name.{Text}
-use Rattle.fil_ast.specs.Tree.{design_of}
-use Rattle.fil_ast.specs.declared.tree.FilDesign.{FilDesign}
-use Rattle.filc_core.specs.Built.{IsUnbuilt}
-use Rattle.filc_core.specs.FilFile.{GivesFil}
+use Rattle.filc_core.specs.Built.{IsFilBuiltFrom, IsUnbuilt}
 use Rattle.filc_core.specs.declared.language.Language.TheVariants.{Filament}
 use Rattle.filc_core.proofs.LoadLemmas.{read_fil, unread_text}
 use Rattle.filc_core.proofs.fil_file.load.Goals as goal
@@ -12,7 +9,7 @@ use Rattle.filc_core.proofs.fil_file.load.Goals as goal
 pub returns-clause-read : goal.returns-clause-read
 returns-clause-read g c words r asks told =
     read_fil words (g.F.Files.content c.args.files.now) r c.in_ok-text.text.items c.build.result (c.in_ok-text.ensures.read words r asks told)
-    (subst (λ (text : Text). IfOk c.build.result (λ (d : FilDesign). GivesFil text (design_of d))) c.deref.ensures.value c.build.ensures.built)
+    (subst (λ (text : Text). IfOk c.build.result (IsFilBuiltFrom text)) c.deref.ensures.value c.build.ensures.built)
 
 pub returns-clause-unread : goal.returns-clause-unread
 returns-clause-unread g c words r asks told =
