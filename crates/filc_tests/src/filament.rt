@@ -1,4 +1,4 @@
-//! Filament designs: each cause of a refusal, and designs that keep the rules so far.
+//! Filament designs: each cause of a refusal, and designs that keep the rules.
 use crate::case::ask;
 use crate::guards::push_times;
 use filc_core::Ended;
@@ -198,21 +198,21 @@ fn try_checked(
     Ok(())
 }
 
-/// The text is accepted so far.
-fn try_accepted_so_far(rt: &impl Abort, alloc: Global, text: &str) -> Result<(), Fail> {
-    try_checked(rt, alloc, text, Ended::Done, "accepted so far\n", "")
+/// The text is accepted.
+fn try_accepted_design(rt: &impl Abort, alloc: Global, text: &str) -> Result<(), Fail> {
+    try_checked(rt, alloc, text, Ended::Done, "accepted\n", "")
 }
 
 #[test]
-fn a_design_is_accepted_so_far(rt: HostRuntime) -> Result<(), Fail> {
+fn a_design_is_accepted(rt: HostRuntime) -> Result<(), Fail> {
     let alloc = rt.alloc();
-    try_accepted_so_far(&rt, alloc, MAC)?;
+    try_accepted_design(&rt, alloc, MAC)?;
     let most = with(alloc, "<G: 1>", "<G: 4096>")?;
-    try_accepted_so_far(&rt, alloc, most.as_str())?;
+    try_accepted_design(&rt, alloc, most.as_str())?;
     let mut two = String::from_str(alloc, MAC)?;
     two.push_str("comp Two<G: 1>(@interface[G] go: 1, @[G, G+1] a: 8) -> (@[G+2, G+3] o: 8) {\n")?;
     two.push_str("  m := new Mac<G>(a, a, 8'd1);\n  o = m.out;\n}\n")?;
-    try_accepted_so_far(&rt, alloc, two.as_str())?;
+    try_accepted_design(&rt, alloc, two.as_str())?;
     two.push_str("comp One<G: 1>(@interface[G] go: 1, @[G, G+1] a: 8) -> (@[G, G+1] o: 8) {\n")?;
     two.push_str("  d := new Add[0];\n  o = a;\n}\n")?;
     let line = "refused F3 One item 1\n";
@@ -241,7 +241,7 @@ fn the_source_has_a_limit(rt: HostRuntime) -> Result<(), Fail> {
         " ",
         1_048_576u64.saturating_sub(MAC.len() as u64),
     )?;
-    try_accepted_so_far(&rt, alloc, text.as_str())?;
+    try_accepted_design(&rt, alloc, text.as_str())?;
     text.push_str("#")?;
     let line = "limit source 1048577 over 1048576\n";
     try_checked(&rt, alloc, text.as_str(), Ended::Limit, "", line)

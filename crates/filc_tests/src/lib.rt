@@ -21,3 +21,5 @@ mod memories;
 mod primitives;
 #[cfg(test)]
 mod rules;
+#[cfg(test)]
+mod timeline;
