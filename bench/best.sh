@@ -1,4 +1,7 @@
-# Read by the scripts beside it, which say what `program` is.
+# Read by the scripts beside it, which say where `top` is and have built the program.
+program=$top/crates/filc/out/filc
+work=$(mktemp -d) || exit
+trap 'rm -rf "$work"' EXIT
 
 # milliseconds that the program takes for the words, the best of five; a refusal counts as an answer, a crash does not
 best() {

@@ -3,9 +3,6 @@
 # at half of it, with their ratio. Each is to take under 3 s, and twice the size at most 2.3 times as long.
 top=$(cd "$(dirname "$0")/.." && pwd) || exit
 "$top/filc" check "$top/examples/mac.fil" || exit
-program=$top/crates/filc/out/filc
-work=$(mktemp -d) || exit
-trap 'rm -rf "$work"' EXIT
 . "$top/bench/best.sh"
 
 # $1 components of ten statements, each of which uses the one before.

@@ -4,9 +4,6 @@
 # `rows` of 2,000 cells and 6,000 guarded assignments, with the port evaluations a second: 25 million or more.
 top=$(cd "$(dirname "$0")/.." && pwd) || exit
 "$top/filc" rows "$top/examples/counter.net" 0 || exit
-program=$top/crates/filc/out/filc
-work=$(mktemp -d) || exit
-trap 'rm -rf "$work"' EXIT
 . "$top/bench/best.sh"
 
 # $1 wires with long names, each driven from the one before under a guard; the forms of guards take turns.

@@ -2,7 +2,6 @@
 # The time of `rows` of the counter for N and 2 N cycles, N = 500,000, the best of five each, and their ratio.
 top=$(cd "$(dirname "$0")/.." && pwd) || exit
 "$top/filc" rows "$top/examples/counter.net" 0 || exit
-program=$top/crates/filc/out/filc
 . "$top/bench/best.sh"
 
 half=$(best rows "$top/examples/counter.net" 500000)
