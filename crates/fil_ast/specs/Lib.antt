@@ -18,3 +18,5 @@ pub mod Refusal
 pub mod Holds
 pub mod Top
 pub mod Weight
+pub mod Flow
+pub mod Transactions
