@@ -43,9 +43,17 @@ abbrev pub shown_hold : List Text → shown.Hold → Hold
 shown_hold names h =
     record { inst = text_of names h.inst; event = h.event; from = h.from; to = h.to; call = text_of names h.call; tx = h.tx }
 
--- the use is of an event with a number, and within few rows after it
+-- the event, the instance and the invocation are numbers of the names
+abbrev pub UseHasNumbers : List Text → Use → Type 0
+UseHasNumbers names u = IsNumberOf names u.on × IsNumberOf names u.inst × IsNumberOf names u.call
+
+-- the instance and the invocation are numbers of the names
+abbrev pub HoldHasNumbers : List Text → shown.Hold → Type 0
+HoldHasNumbers names h = IsNumberOf names h.inst × IsNumberOf names h.call
+
+-- the use has numbers of the names, and is within few rows after its event
 pub record IsGoodUse (names : List Text) (u : Use) : Type 0 where
-  pub numbered : IsNumberOf names u.on
+  pub numbered : UseHasNumbers names u
   pub ordered : u.from ≤ u.to
   pub small : u.to ≤ MOST_ROWS
 

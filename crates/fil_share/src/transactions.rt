@@ -6,7 +6,7 @@ ghost use Rattle.fil_ast.specs.Scope.{Scope};
 ghost use Rattle.fil_ast.specs.Tree.{Component, component_tree, design_of};
 ghost use Rattle.fil_ast.specs.Wires.{whole_scope};
 ghost use Rattle.fil_ast.specs.declared.tree.FilComp.{FilComp};
-ghost use Rattle.fil_share.specs.Uses.{IsGoodUse, LATEST, held_by, is_on, moved, shown_hold, shown_use, starts_of};
+ghost use Rattle.fil_share.specs.Uses.{HoldHasNumbers, IsGoodUse, LATEST, held_by, is_on, moved, shown_hold, shown_use, starts_of};
 
 use crate::callees::component_names;
 use crate::hold::Hold;
@@ -28,8 +28,9 @@ fn push_holds(
 ) -> Result<(), Memory>
     requires uses { All (IsGoodUse names.now) uses.now }
     requires row { row ≤ LATEST }
-    ensures { OnOk result (map (shown_hold names.now) holds.new.items ≡ map (shown_hold names.now) holds.old.items
+    ensures shown { OnOk result (map (shown_hold names.now) holds.new.items ≡ map (shown_hold names.now) holds.old.items
         ++ map (moved tx row) (filter (is_on event.now) (map (shown_use names.now) uses.now))) }
+    ensures numbered { All (HoldHasNumbers names.now) holds.old.items → All (HoldHasNumbers names.now) holds.new.items }
 {
     for used in uses {
         if names.text(used.on) == event {
@@ -58,8 +59,9 @@ fn all_holds(
     requires uses { All (IsGoodUse names.now) uses.now }
     requires events { All (λ tx. tx.event < length comp.now.events.items) txs.now }
     requires rows { All (λ tx. tx.start ≤ LATEST) txs.now }
-    ensures { (scope : Scope) → map (shown_use names.now) uses.now ≡ flat_map (held_by scope) scope.invocations
+    ensures shown { (scope : Scope) → map (shown_use names.now) uses.now ≡ flat_map (held_by scope) scope.invocations
         → IfOk result (λ holds. map (shown_hold names.now) holds.items ≡ holds_of scope (starts_of (component_tree names.now comp.now) txs.now)) }
+    ensures numbered { IfOk result (λ holds. All (HoldHasNumbers names.now) holds.items) }
 {
     let mut holds = Vec::new(alloc);
     for (number, tx) in txs.iter().enumerate() {
@@ -75,8 +77,9 @@ pub fn holds(alloc: Global, ok: &FilOk, comp: usize, txs: &[Tx]) -> Result<Vec<H
     requires comp { comp < length ok.now.comps.items }
     requires events { (c : FilComp) → slice_get ok.now.comps.items comp ≡ Some c → All (λ tx. tx.event < length c.events.items) txs.now }
     requires rows { All (λ tx. tx.start ≤ LATEST) txs.now }
-    ensures { (c : Component) → slice_get (design_of ok.now) comp ≡ Some c
+    ensures shown { (c : Component) → slice_get (design_of ok.now) comp ≡ Some c
         → IfOk result (λ holds. map (shown_hold ok.now.names) holds.items ≡ holds_of (whole_scope (take comp (design_of ok.now)) c) (starts_of c txs.now)) }
+    ensures numbered { IfOk result (λ holds. All (HoldHasNumbers ok.now.names) holds.items) }
 {
     let design = ok.design();
     let known = component_names(alloc, &design.names, &design.comps[..comp])?;

@@ -57,7 +57,8 @@ fn use_of(call: NameId, inst: NameId, at: &[Time], number: u8, delay: Delay) -> 
     requires delay { IsSmallDelay (seen_delay delay) }
     ensures meaning { (names : List Text) (e : tree.SigEvent) → e.delay ≡ seen_delay delay
         → option_map (shown_use names) result ≡ option_map (held (text_of names call)) (use_of number e (text_of names inst) (map (time_tree names) at.now)) }
-    ensures good { (names : List Text) → All (TimeHasNumber names) at.now → IfSome result (IsGoodUse names) }
+    ensures good { (names : List Text) → IsNumberOf names call → IsNumberOf names inst → All (TimeHasNumber names) at.now
+        → IfSome result (IsGoodUse names) }
 {
     let start = *at.get(number as usize)?;
     let rows = rows_held(delay, start, at.get(number as usize + 1))?;
@@ -86,7 +87,7 @@ fn push_events(
     ensures meaning { (names : List Text) → OnOk result (map (shown_use names) uses.new.items
         ≡ map (shown_use names) uses.old.items
         ++ map (held (text_of names call)) (uses_from 0 (map seen_event events.now) (text_of names inst) (map (time_tree names) at.now))) }
-    ensures good { (names : List Text) → All (TimeHasNumber names) at.now
+    ensures good { (names : List Text) → IsNumberOf names call → IsNumberOf names inst → All (TimeHasNumber names) at.now
         → All (IsGoodUse names) uses.old.items → All (IsGoodUse names) uses.new.items }
 {
     let mut number = 0;
@@ -108,6 +109,7 @@ fn push_uses(
     at: &[Time],
     uses: &mut Vec<Use>,
 ) -> Result<(), Memory>
+    requires call { IsNumberOf names.now call }
     requires inst { IsNumberOf names.now inst }
     requires numbers { All (TimeHasNumber names.now) at.now }
     requires times { All KeepsTimeLimit at.now }

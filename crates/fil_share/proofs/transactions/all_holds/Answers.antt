@@ -11,7 +11,7 @@ use Rattle.fil_share.proofs.TransactionLemmas.{next_tx}
 use Rattle.fil_share.proofs.transactions.all_holds.Goals as goal
 
 pub loop-number-preserved : goal.loop-number-preserved
-loop-number-preserved c scope is_uses =
+loop-number-preserved c =
     let names = c.args.names.now in
     let comp = c.args.comp.now in
     let txs = c.args.txs.now in
@@ -25,7 +25,11 @@ loop-number-preserved c scope is_uses =
     let at_event = at_mapped (event_tree names) events events tx.event d refl inside c.index.ensures in
     let named = text_of-slice_get names d.name c.text-event.result.now c.text-event.ensures in
     let old = map (shown_hold names) c.loop-number.holds.items in
-    next_tx scope (component_tree names comp) names c.args.uses.now txs i tx (event_tree names d) old (map (shown_hold names) c.push_holds.new.holds.items) (holds_of scope (starts_of (component_tree names comp) txs))
-    is_uses at at_event
-    (c.in_ok-push_holds.ensures ∙ ap (λ (t : Text). old ++ map (moved i tx.start) (filter (is_on t) (map (shown_use names) c.args.uses.now))) (sym named))
-    (c.loop-number.invariant scope is_uses)
+    record {
+      shown = λ scope is_uses.
+          next_tx scope (component_tree names comp) names c.args.uses.now txs i tx (event_tree names d) old (map (shown_hold names) c.push_holds.new.holds.items) (holds_of scope (starts_of (component_tree names comp) txs))
+          is_uses at at_event
+          (c.in_ok-push_holds.ensures.shown ∙ ap (λ (t : Text). old ++ map (moved i tx.start) (filter (is_on t) (map (shown_use names) c.args.uses.now))) (sym named))
+          (c.loop-number.invariant.shown scope is_uses);
+      numbered = c.push_holds.ensures.numbered c.loop-number.invariant.numbered;
+    }

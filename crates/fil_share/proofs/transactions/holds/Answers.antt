@@ -1,4 +1,4 @@
-use Rattle.std.proofs.Common.{◌≡◌, ◌<◌, ◌≤◌, List, Vec, Global, length, map, flat_map, take, slice_get, Some, refl, sym, ap, subst, ◌∙◌, arith}
+use Rattle.std.proofs.Common.{◌≡◌, ◌<◌, ◌≤◌, List, All, Vec, Global, length, map, flat_map, take, slice_get, Some, refl, sym, ap, subst, ◌∙◌, arith}
 use Rattle.std.specs.Prelude.{IfOk}
 use Rattle.std.proofs.lemmas.List.{length-map}
 use Rattle.std.proofs.lemmas.Option.{same_Some, slice_get_read}
@@ -11,7 +11,7 @@ use Rattle.fil_ast.specs.Tree.{Component, component_tree, design_of}
 use Rattle.fil_ast.specs.Wires.{whole_scope}
 use Rattle.fil_ast.specs.declared.tree.FilComp.{FilComp}
 use Rattle.fil_ast.specs.declared.tree.FilDesign.{FilDesign}
-use Rattle.fil_share.specs.Uses.{held_by, shown_hold, shown_use, starts_of}
+use Rattle.fil_share.specs.Uses.{HoldHasNumbers, held_by, shown_hold, shown_use, starts_of}
 use Rattle.fil_share.specs.declared.hold.Hold.{Hold}
 use Rattle.fil_share.proofs.Lookup.{at_mapped}
 use Rattle.fil_share.proofs.MakesLemmas.{map_take, names_differ}
@@ -62,8 +62,13 @@ all_holds-requires-clause-events c =
     let within : n < length d.comps.items = subst (λ (e : FilDesign). n < length e.comps.items) (sym c.design-design.ensures.same) c.requires.comp in
     c.requires.events x (ap (λ (e : FilDesign). slice_get e.comps.items n) (sym c.design-design.ensures.same) ∙ slice_get_read d.comps.items (length d.comps.items) n x refl within c.index-2.ensures)
 
-pub returns : goal.returns
-returns c tree there =
+pub returns-clause-numbered : goal.returns-clause-numbered
+returns-clause-numbered c =
+    let N : FilDesign → Type 0 = λ e. IfOk c.all_holds.result (λ (hs : Vec Hold Global). All (HoldHasNumbers e.names) hs.items) in
+    subst N c.design-design.ensures.same c.all_holds.ensures.numbered
+
+pub returns-clause-shown : goal.returns-clause-shown
+returns-clause-shown c tree there =
     let d = c.design-design.result.now in
     let n = c.args.comp in
     let x = c.index.result.now in
@@ -81,4 +86,4 @@ returns c tree there =
     ap (map (shown_use d.names)) c.deref-2.ensures.value ∙ c.in_ok-uses.ensures.meaning scope (c.in_ok-instances.ensures tree there)
     ∙ ap (λ (k : Component). flat_map (held_by scope) (flat_map invocations_at k.body)) is_x in
     let Q : FilDesign → Component → Type 0 = λ e k. IfOk c.all_holds.result (λ (hs : Vec Hold Global). map (shown_hold e.names) hs.items ≡ holds_of scope (starts_of k c.args.txs.now)) in
-    subst (λ (e : FilDesign). Q e tree) same (subst (λ (k : Component). Q d k) is_y (c.all_holds.ensures scope uses))
+    subst (λ (e : FilDesign). Q e tree) same (subst (λ (k : Component). Q d k) is_y (c.all_holds.ensures.shown scope uses))

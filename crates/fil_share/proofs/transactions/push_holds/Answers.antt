@@ -1,7 +1,8 @@
 use Rattle.std.proofs.Common.{◌+◌, ◌<◌, length, map, get_or, bytes_eq, refl, sym, ap, ◌∙◌}
+use Rattle.std.proofs.lemmas.List.Elements.{All-push}
 use Rattle.hw_names.specs.Name.{Text}
 use Rattle.hw_names.proofs.NameLemmas.{text_of-slice_get}
-use Rattle.fil_share.specs.Uses.{shown_hold}
+use Rattle.fil_share.specs.Uses.{HoldHasNumbers, shown_hold}
 use Rattle.fil_share.specs.declared.hold.Hold.{Hold}
 use Rattle.fil_share.specs.declared.uses.Use.{Use}
 use Rattle.fil_share.proofs.TransactionLemmas.{pushed, skipped}
@@ -24,9 +25,17 @@ loop-used-preserved c =
     let same = ap (λ (t : Text). bytes_eq t event) named ∙ sym c.eq.ensures in
     let old = map (shown_hold names) c.args.holds.now.items in
     let h : Hold = record { inst = x.inst; event = x.event; from = c.args.row + x.from; to = c.args.row + x.to; call = x.call; tx = c.args.tx } in
+    let numbers = (c.requires.uses i no_use within).numbered in
+    let so_far = c.loop-used.invariant in
     elim c.if-eq.branch [
       | then-eq+in_ok-push w ↦
-          rw (w.holds-is, w.in_ok-push.ensures.items)
-          (pushed names c.args.tx c.args.row event uses i no_use within old c.loop-used.holds.items h (same ∙ w.if-eq.true) refl c.loop-used.invariant)
-      | else-eq w ↦ rw w.holds-is (skipped names c.args.tx c.args.row event uses i no_use within old c.loop-used.holds.items (same ∙ w.if-eq.false) c.loop-used.invariant)
+          rw (w.holds-is, w.in_ok-push.ensures.items) (record {
+            shown = pushed names c.args.tx c.args.row event uses i no_use within old c.loop-used.holds.items h (same ∙ w.if-eq.true) refl so_far.shown;
+            numbered = λ numbered. All-push (HoldHasNumbers names) c.loop-used.holds.items h (so_far.numbered numbered) (numbers.1, numbers.2);
+          })
+      | else-eq w ↦
+          rw w.holds-is (record {
+            shown = skipped names c.args.tx c.args.row event uses i no_use within old c.loop-used.holds.items (same ∙ w.if-eq.false) so_far.shown;
+            numbered = so_far.numbered;
+          })
     ]

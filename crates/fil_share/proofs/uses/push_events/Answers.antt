@@ -12,9 +12,9 @@ use Rattle.fil_share.proofs.uses.push_events.Goals.{in-Some+in_ok-push, in_defau
 use Rattle.fil_share.proofs.uses.push_events.Goals as goal
 
 pub returns-in_err-push-clause-good : goal.returns-in_err-push-clause-good
-returns-in_err-push-clause-good c names numbers good =
+returns-in_err-push-clause-good c names call inst numbers good =
     let G : List Use → Type 0 = All (IsGoodUse names) in
-    subst G (sym c.in_err-push.ensures.items) (c.loop-event.invariant.good names numbers good)
+    subst G (sym c.in_err-push.ensures.items) (c.loop-event.invariant.good names call inst numbers good)
 
 pub loop-event-preserved : goal.loop-event-preserved
 loop-event-preserved c =
@@ -37,7 +37,8 @@ loop-event-preserved c =
                 (w.in-Some.ensures.meaning names e refl
                 ∙ ap (λ k. option_map (held (text_of names c.args.call)) (use_of k e (text_of names c.args.inst) (map (time_tree names) at))) count)
                 (c.loop-event.invariant.shown names);
-            good = λ names numbers good. All-push (IsGoodUse names) c.loop-event.uses.items w.in-Some.used (c.loop-event.invariant.good names numbers good) (w.in-Some.ensures.good names numbers);
+            good = λ names call inst numbers good.
+                All-push (IsGoodUse names) c.loop-event.uses.items w.in-Some.used (c.loop-event.invariant.good names call inst numbers good) (w.in-Some.ensures.good names call inst numbers);
           })
       | in_default w ↦
           rw w.uses-is (record {
