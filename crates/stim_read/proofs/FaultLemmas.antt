@@ -56,6 +56,15 @@ broken kept e is = rw is refl
 pub kept_so : (kept : Bool) (e : StimEnd) → kept ≡ true → unless kept e ≡ None
 kept_so kept e is = rw is refl
 
+-- there is no first of two faults, so there is neither
+pub neither_there : (fault later : Option StimEnd) → or_else fault later ≡ None → (fault ≡ None) × (later ≡ None)
+neither_there None later none = (refl, none)
+neither_there (Some f) later none = let bad : ◌≡◌ {A = Option StimEnd} (Some f) None = none in absurd cc
+
+pub kept_by : (kept : Bool) (f : StimEnd) → unless kept f ≡ None → kept ≡ true
+kept_by true f none = refl
+kept_by false f none = let bad : ◌≡◌ {A = Option StimEnd} (Some f) None = none in absurd cc
+
 -- an answer that is this end, which is the first fault
 pub told_of : (end e : StimEnd) (fault : Option StimEnd) → end ≡ e → fault ≡ Some e → IsTold end fault
 told_of (Refused rule entry first second delay) e fault is h = h ∙ ap (λ (x : StimEnd). Some x) (sym is)

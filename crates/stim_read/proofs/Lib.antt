@@ -4,6 +4,7 @@ pub mod GivenLemmas
 pub mod WalkLemmas
 pub mod FaultLemmas
 pub mod FitLemmas
+pub mod RunFitLemmas
 pub mod MeaningLemmas
 pub mod PlaceLemmas
 pub mod SeenLemmas
@@ -14,3 +15,4 @@ pub mod TxSaidLemmas
 pub mod TxStartLemmas
 pub mod TxValueLemmas
 pub mod TxMeaningLemmas
+pub mod TxFitLemmas

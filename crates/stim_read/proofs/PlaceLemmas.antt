@@ -1,12 +1,13 @@
 -- Places of names in a list of names that differ.
-use Rattle.std.proofs.Common.{◌≡◌, ℕ, ◌<◌, Bool, true, false, List, [], ◌∷◌, ◌++◌, ◌+◌, map, length, get_or, slice_get, take, Contains, Option, Some, None, IsSome, IfSome, MatchOption, All, is_some, slice_index, ◌↔◌, refl, subst, sym, ap, ◌∙◌, arith}
+use Rattle.std.proofs.Common.{◌≡◌, ℕ, ◌<◌, ◌≤◌, nat_lt, Bool, true, false, List, [], ◌∷◌, ◌++◌, ◌+◌, map, length, get_or, slice_get, take, Contains, Option, Some, None, IsSome, IfSome, MatchOption, All, is_some, slice_index, ◌↔◌, refl, subst, sym, ap, ◌∙◌, arith}
 use Rattle.std.specs.Str.{bytes_eq}
 use Rattle.std.specs.Cmp.Lexicographic.{nat_list_eq_equiv}
-use Rattle.std.proofs.lemmas.List.Sums.{position_or_len_is}
+use Rattle.std.proofs.lemmas.List.Folds.{list_any_none}
+use Rattle.std.proofs.lemmas.List.Sums.{position_or_len_is, fails_before_first}
 use Rattle.std.proofs.lemmas.Map.Views.{Contains-from_any, list_any-from_Contains}
 use Rattle.std.proofs.lemmas.Option.{slice_get_within, get_or_from_slice_get}
 use Rattle.std.proofs.lemmas.Slice.Eq.{bytes_eq-Decides}
-use Rattle.std.proofs.lemmas.Bool.{false≢true}
+use Rattle.std.proofs.lemmas.Bool.{false≢true, ltb-true, ltb-false}
 use Rattle.std.proofs.lemmas.List.{length-take-le, get_or-take, get_or-map, length-map, take_more}
 use Rattle.hw_names.specs.Name.{Text, AreDistinct}
 use Rattle.hw_names.specs.declared.names.NameId.{NameId}
@@ -95,3 +96,12 @@ place_past names name missing =
     position_or_len_is (bytes_eq name) names (length names) name (omega arith)
     (λ k below. by_false _ (λ same. false≢true (sym missing ∙ is_there names name (k, below, sym ((bytes_eq-Decides name (get_or names k name)).0 same)))))
     (λ within. absurd (omega arith))
+
+-- a known name has a place among the names
+pub place_known : (names : List Text) (name : Text) → is_one_of names name ≡ true → place_in names name < length names
+place_known names name known = by (nat_lt (place_in names name) (length names)) refl where
+  by : (b : Bool) → nat_lt (place_in names name) (length names) ≡ b → place_in names name < length names
+  by true is = ltb-true (place_in names name) (length names) is
+  by false is =
+      let past : length names ≤ place_in names name = ltb-false (place_in names name) (length names) is in
+      absurd (false≢true (sym (list_any_none (bytes_eq name) names (λ k d within. fails_before_first (bytes_eq name) names k d (omega (arith, within, past)))) ∙ known))

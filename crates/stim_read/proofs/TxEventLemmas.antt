@@ -1,15 +1,19 @@
--- Walks over ports of one event, and over events.
-use Rattle.std.proofs.Common.{◌≡◌, ◌≢◌, ℕ, ◌+◌, ◌<◌, ◌==◌, max, true, false, List, [], ◌∷◌, ◌++◌, length, map, drop, get_or, slice_get, Contains, cond, Option, Some, None, MatchOption, refl, sym, ap, subst, ◌∙◌, arith, append_assoc, eq-eqb}
+-- Walks over ports of one event, as they are seen, and over events.
+use mathlib.Core.List.{map-map}
+use Rattle.std.proofs.Common.{◌≡◌, ◌≢◌, ℕ, suc, ◌+◌, ◌<◌, ◌==◌, max, true, false, List, [], ◌∷◌, ◌++◌, length, map, drop, get_or, slice_get, Contains, cond, Option, Some, None, MatchOption, refl, sym, ap, subst, ◌∙◌, arith, append_assoc, eq-eqb}
 use Rattle.std.specs.List.{fold, AllPairs}
 use Rattle.std.proofs.lemmas.List.{get_or-map, length-map, length-append, get_or_append_left, get_or_at}
 use Rattle.std.proofs.lemmas.List.Kept.{AllPairs-filter}
 use Rattle.std.proofs.lemmas.Option.{slice_get_past, slice_get-get_or}
 use Rattle.hw_names.specs.Name.{Text, AreDistinct}
+use Rattle.fil_ast.specs.Signature as tree
+use Rattle.fil_sig.specs.Seen.{seen_event, seen_port}
+use Rattle.fil_sig.specs.declared.time_sig.SigEvent.{SigEvent}
 use Rattle.fil_sig.specs.declared.time_sig.SigPort.{SigPort}
 use Rattle.stim_read.specs.Parts.{is_one_of}
 use Rattle.stim_read.specs.CycleRules.{input_targets, place_in}
 use Rattle.stim_read.specs.TxRules.{event_number, event_by}
-use Rattle.stim_read.specs.TxEvents.{Event, EventList, ports_after, event_seen, events_seen}
+use Rattle.stim_read.specs.TxEvents.{Event, EventList, ports_after, port_targets, events_from, event_seen, events_seen}
 use Rattle.stim_read.specs.declared.events.EventInputs.{EventInputs}
 use Rattle.stim_read.specs.declared.events.Events.{Events}
 use Rattle.stim_read.specs.declared.tx_text.EventName.{EventName}
@@ -17,20 +21,34 @@ use Rattle.stim_read.specs.declared.tx_text.EventName.TheVariants.{Named}
 use Rattle.stim_read.proofs.EachLemmas.{cut_at}
 use Rattle.stim_read.proofs.PlaceLemmas.{place_past}
 
--- the greatest end among these ports' intervals, and this number
-abbrev pub greatest_from : ℕ → ℕ → List SigPort → ℕ
-greatest_from greatest event ports = fold (λ n (p : SigPort). max n p.to.plus) greatest (ports_after event ports)
+-- what may get values is the same at ports as they are seen
+pub targets_agree : (ins : List SigPort) → input_targets ins ≡ port_targets (map seen_port ins)
+targets_agree ins = λ i. record {
+  names = sym (map-map (λ (p : tree.SigPort). p.name) seen_port ins) i;
+  widths = sym (map-map (λ (p : tree.SigPort). p.width) seen_port ins) i;
+}
 
-pub ports_here : (event : ℕ) (ports : List SigPort) (i : ℕ) (p : SigPort) → i < length ports → p ≡ get_or ports i p → p.from.event ≡ event → ports_after event (drop i ports) ≡ p ∷ ports_after event (drop (i + 1) ports)
+-- the greatest end among these ports' intervals, and this number
+abbrev pub greatest_from : ℕ → ℕ → List tree.SigPort → ℕ
+greatest_from greatest event ports = fold (λ n (p : tree.SigPort). max n p.to.plus) greatest (ports_after event ports)
+
+-- the ports of the event from a place on, as they are seen
+abbrev pub ports_from : ℕ → List SigPort → ℕ → List tree.SigPort
+ports_from event ports i = ports_after event (map seen_port (drop i ports))
+
+pub ports_here : (event : ℕ) (ports : List SigPort) (i : ℕ) (p : SigPort) → i < length ports → p ≡ get_or ports i p → p.from.event ≡ event
+    → ports_from event ports i ≡ seen_port p ∷ ports_from event ports (i + 1)
 ports_here event ports i p within is same =
-    ap (ports_after event) (cut_at ports i p within is) ∙ ap (λ b. cond b (p ∷ ports_after event (drop (i + 1) ports)) (ports_after event (drop (i + 1) ports))) (eq-eqb p.from.event event same)
+    let rest = ports_from event ports (i + 1) in
+    ap (λ ps. ports_after event (map seen_port ps)) (cut_at ports i p within is) ∙ ap (λ b. cond b (seen_port p ∷ rest) rest) (eq-eqb p.from.event event same)
 
 -- what is pushed for a port
-pub pushed : {Y : Type 0} (f : SigPort → Y) (done : List Y) (event : ℕ) (ports : List SigPort) (i : ℕ) (p : SigPort) (y : Y) → i < length ports → p ≡ get_or ports i p → p.from.event ≡ event → y ≡ f p
-    → done ++ map f (ports_after event (drop i ports)) ≡ (done ++ y ∷ []) ++ map f (ports_after event (drop (i + 1) ports))
+pub pushed : {Y : Type 0} (f : tree.SigPort → Y) (done : List Y) (event : ℕ) (ports : List SigPort) (i : ℕ) (p : SigPort) (y : Y)
+    → i < length ports → p ≡ get_or ports i p → p.from.event ≡ event → y ≡ f (seen_port p)
+    → done ++ map f (ports_from event ports i) ≡ (done ++ y ∷ []) ++ map f (ports_from event ports (i + 1))
 pushed f done event ports i p y within is same e =
-    ap (λ ps. done ++ map f ps) (ports_here event ports i p within is same) ∙ ap (λ z. done ++ z ∷ map f (ports_after event (drop (i + 1) ports))) (sym e)
-    ∙ sym (append_assoc done (y ∷ []) (map f (ports_after event (drop (i + 1) ports))))
+    ap (λ ps. done ++ map f ps) (ports_here event ports i p within is same) ∙ ap (λ z. done ++ z ∷ map f (ports_from event ports (i + 1))) (sym e)
+    ∙ sym (append_assoc done (y ∷ []) (map f (ports_from event ports (i + 1))))
 
 -- the names of some of the ports differ
 apart_mapped : {X : Type 0} (f : X → Text) (xs : List X) → AreDistinct (map f xs) → AllPairs (λ a b. f a ≢ f b) xs
@@ -49,16 +67,27 @@ not_before names name after distinct (k, below, same) =
     distinct k (length names) name below (omega (arith, length-append names (name ∷ after)))
     (get_or_append_left names (name ∷ after) name k below ∙ same ∙ sym (get_or_at names name after name (length names) refl))
 
-pub names_clash : (event : ℕ) (ports : List SigPort) (i : ℕ) (p : SigPort) (names : List Text) (name : Text) → AreDistinct (input_targets ports).names → i < length ports → p ≡ get_or ports i p → p.from.event ≡ event → name ≡ p.name
-    → names ++ (input_targets (ports_after event (drop i ports))).names ≡ (input_targets (ports_after event ports)).names → Contains names name → ⊥
+pub names_clash : (event : ℕ) (ports : List SigPort) (i : ℕ) (p : SigPort) (names : List Text) (name : Text) → AreDistinct (port_targets (map seen_port ports)).names
+    → i < length ports → p ≡ get_or ports i p → p.from.event ≡ event → name ≡ p.name
+    → names ++ (port_targets (ports_from event ports i)).names ≡ (port_targets (ports_after event (map seen_port ports))).names → Contains names name → ⊥
 names_clash event ports i p names name distinct within is same spelled so_far there =
-    let f = λ (q : SigPort). q.name in
+    let f = λ (q : tree.SigPort). q.name in
+    let all = map seen_port ports in
     let D : List Text → Type 0 = AreDistinct in
-    let few = mapped_apart f p (ports_after event ports) (AllPairs-filter (λ (a b : SigPort). f a ≢ f b) (λ (q : SigPort). q.from.event == event) ports (apart_mapped f ports distinct)) in
-    not_before names name (map f (ports_after event (drop (i + 1) ports)))
-    (subst D (sym so_far ∙ pushed f names event ports i p name within is same spelled ∙ append_assoc names (name ∷ []) (map f (ports_after event (drop (i + 1) ports)))) few) there
+    let few =
+    mapped_apart f (seen_port p) (ports_after event all) (AllPairs-filter (λ (a b : tree.SigPort). f a ≢ f b) (λ (q : tree.SigPort). q.from.event == event) all (apart_mapped f all distinct)) in
+    not_before names name (map f (ports_from event ports (i + 1)))
+    (subst D (sym so_far ∙ pushed f names event ports i p name within is same spelled ∙ append_assoc names (name ∷ []) (map f (ports_from event ports (i + 1)))) few) there
 
 -- ---- events
+
+-- events have the same names as they are seen
+pub names_seen : (events : List SigEvent) → map (λ (e : SigEvent). e.name) events ≡ map (λ (e : tree.SigEvent). e.name) (map seen_event events)
+names_seen events = sym (map-map (λ (e : tree.SigEvent). e.name) seen_event events)
+
+pub length_events : (sig : tree.Signature) (first : ℕ) (es : List tree.SigEvent) → length (events_from sig first es) ≡ length es
+length_events sig first [] = refl
+length_events sig first (e ∷ es) = ap suc (length_events sig (first + 1) es)
 
 -- the number of an event by the place of its name
 pub number_by_place : (ev : EventList) (n : ℕ) (e : EventName) (name read : Text) (o : Option ℕ) → e ≡ Named name → read ≡ name → length ev.names ≡ n → length ev.events ≡ n

@@ -1,5 +1,5 @@
 -- What a text of transactions says of its entries, and what the events of a signature are.
-use Rattle.std.proofs.Common.{◌≡◌, ℕ, zero, suc, ◌+◌, ◌-◌, ◌*◌, ◌^◌, ◌<◌, ◌≤◌, ◌==◌, ◌&&◌, Bool, true, false, nat_lt, List, [], ◌∷◌, length, map, get_or, All, codes, Option, Some, None, Result, Ok, Err, IfErr, refl, sym, ap, subst, ◌∙◌, arith}
+use Rattle.std.proofs.Common.{◌≡◌, ℕ, zero, suc, ◌+◌, ◌-◌, ◌*◌, ◌^◌, ◌<◌, ◌≤◌, ◌==◌, ◌&&◌, Bool, true, false, nat_lt, List, [], ◌∷◌, length, map, get_or, All, codes, Option, Some, None, Result, Ok, Err, IfOk, IfErr, refl, sym, ap, subst, ◌∙◌, arith}
 use Rattle.std.proofs.lemmas.Bool.{ltb-true, and_parts}
 use Rattle.std.proofs.lemmas.List.{length-map, get_or-map}
 use Rattle.std.proofs.lemmas.List.Elements.{All-map, All-filter}
@@ -7,21 +7,20 @@ use Rattle.std.proofs.lemmas.Option.{same_Some}
 use Rattle.hw_bits.specs.declared.bits.TheConstants.{MAX_WIDTH}
 use Rattle.serde_json.specs.Data.{Data}
 use Rattle.serde_json.specs.Find.{get}
+use Rattle.fil_ast.specs.Signature.{SigEvent, SigPort, Signature}
 use Rattle.fil_ast.specs.declared.tx.TxList.{TxList}
-use Rattle.fil_sig.specs.declared.time_sig.SigPort.{SigPort}
-use Rattle.fil_sig.specs.declared.time_sig.SigEvent.{SigEvent}
-use Rattle.fil_sig.specs.declared.time_sig.TimeSig.{TimeSig}
 use Rattle.stim_read.specs.Parts.{◌>>=◌, provided, each, items_in, is_object_of, number_at}
 use Rattle.stim_read.specs.Amounts.{version_in}
 use Rattle.stim_read.specs.CycleText.{givens_at}
 use Rattle.stim_read.specs.CycleRun.{IsTold, Tells}
 use Rattle.stim_read.specs.TxText.{Starts, Transactions, once, repeat_keys, repeat_in, repeat_at, event_at, tx_keys, starts_fit, tx_entry_in, entries_in, idle_at, transactions_keys, transactions_in}
 use Rattle.stim_read.specs.TxEvents.{EventList, ports_after, event_of, events_from, events_of}
-use Rattle.stim_read.specs.TxRun.{transactions_fault, SayTransactions, IsTxCause, BrokenRule}
+use Rattle.stim_read.specs.TxRun.{tx_run_of, tx_run_seen, transactions_fault, SayTransactions, GiveTransactions, IsTxCause, BrokenRule}
 use Rattle.stim_read.specs.TxWalk.{IsEntry, HasWidths, AreUsable}
 use Rattle.stim_read.specs.declared.amounts.Version.{Version}
 use Rattle.stim_read.specs.declared.stim_end.StimEnd.{StimEnd}
 use Rattle.stim_read.specs.declared.tx_text.Repeat.{Repeat}
+use Rattle.stim_read.proofs.TxEventLemmas.{length_events}
 
 bind_some : {A B : Type 0} (o : Option A) (f : A → Option B) (y : B) → (o >>= f) ≡ Some y → (x : A) × (o ≡ Some x) × (f x ≡ Some y)
 bind_some {A} {B} None f y h = let bad : ◌≡◌ {A = Option B} None (Some y) = h in absurd cc
@@ -82,29 +81,31 @@ mapped_hold f P xs i x all within is = subst P (get_or-map f xs i x (f x) within
 abbrev HasWidth : SigPort → Type 0
 HasWidth p = (1 ≤ p.width) × (p.width ≤ MAX_WIDTH)
 
-module _ (sig : TimeSig) (widths : All HasWidth sig.ins.items) where
+module _ (sig : Signature) (widths : All HasWidth sig.ins) where
   event_widths : (n : ℕ) (e : SigEvent) → HasWidths (event_of sig n e)
   event_widths n e =
-      let ports = ports_after n sig.ins.items in
+      let ports = ports_after n sig.ins in
       record {
         paired = length-map ports (λ (p : SigPort). p.name) ∙ sym (length-map ports (λ (p : SigPort). p.width));
-        widths = All-map (λ (w : ℕ). (1 ≤ w) × (w ≤ MAX_WIDTH)) (λ (p : SigPort). p.width) ports (All-filter (λ (p : SigPort). p.from.event == n) HasWidth sig.ins.items widths);
+        widths = All-map (λ (w : ℕ). (1 ≤ w) × (w ≤ MAX_WIDTH)) (λ (p : SigPort). p.width) ports (All-filter (λ (p : SigPort). p.from.event == n) HasWidth sig.ins widths);
       }
 
   events_widths : (n : ℕ) (es : List SigEvent) → All HasWidths (events_from sig n es)
   events_widths n [] = all_nil HasWidths
   events_widths n (e ∷ es) = all_cons HasWidths (event_of sig n e) (events_from sig (n + 1) es) (event_widths n e) (events_widths (n + 1) es)
 
-  length_events : (n : ℕ) (es : List SigEvent) → length (events_from sig n es) ≡ length es
-  length_events n [] = refl
-  length_events n (e ∷ es) = ap suc (length_events (n + 1) es)
-
-  pub usable : length sig.events.items ≤ 256 → AreUsable (events_of sig)
+  pub usable : length sig.events ≤ 256 → AreUsable (events_of sig)
   usable few = record {
-    paired = length-map sig.events.items (λ (e : SigEvent). e.name) ∙ sym (length_events 0 sig.events.items);
-    few = omega (arith, length_events 0 sig.events.items, few);
-    widths = events_widths 0 sig.events.items;
+    paired = length-map sig.events (λ (e : SigEvent). e.name) ∙ sym (length_events sig 0 sig.events);
+    few = omega (arith, length_events sig 0 sig.events, few);
+    widths = events_widths 0 sig.events;
   }
+
+pub gives_transactions : (bytes : List ℕ) (ev wanted : EventList) (t : Transactions) (r : Result TxList StimEnd) → ev ≡ wanted → SayTransactions bytes t → Tells r (transactions_fault ev t) → IfOk r (λ list. tx_run_seen list ≡ tx_run_of ev t)
+    → IfOk r (λ list. GiveTransactions bytes wanted (tx_run_seen list))
+gives_transactions bytes ev wanted t (Ok list) same said told run =
+    record { stimulus = t; said = said; kept = subst (λ (v : EventList). transactions_fault v t ≡ None) same told; gives = run ∙ ap (λ v. tx_run_of v t) same }
+gives_transactions bytes ev wanted t (Err e) same said told run = tt
 
 pub tells_tx_cause : (bytes : List ℕ) (ev wanted : EventList) (t : Transactions) (r : Result TxList StimEnd) → ev ≡ wanted → SayTransactions bytes t → Tells r (transactions_fault ev t) → IfErr r (IsTxCause bytes wanted)
 tells_tx_cause bytes ev wanted t (Ok list) same said told = tt

@@ -6,6 +6,7 @@ pub mod CycleRules
 pub mod CycleRun
 pub mod TxText
 pub mod TxEvents
+pub mod Fits
 pub mod TxRules
 pub mod TxRun
 pub mod TxWalk

@@ -2,12 +2,8 @@
 use Rattle.std.specs.Prelude.{ℕ, ◌+◌, ◌==◌, max, map, List, [], ◌∷◌, Option, Some, None}
 use Rattle.std.specs.List.{filter, fold}
 use Rattle.hw_names.specs.Name.{Text}
-use Rattle.fil_sig.specs.declared.time_sig.Delay.{Delay}
-use Rattle.fil_sig.specs.declared.time_sig.Delay.TheVariants.{Fixed, Gap, End}
-use Rattle.fil_sig.specs.declared.time_sig.SigEvent.{SigEvent}
-use Rattle.fil_sig.specs.declared.time_sig.SigPort.{SigPort}
-use Rattle.fil_sig.specs.declared.time_sig.TimeSig.{TimeSig}
-use Rattle.stim_read.specs.CycleRules.{Targets, input_targets}
+use Rattle.fil_ast.specs.Signature.{Delay, Fixed, Gap, End, SigEvent, SigPort, Signature}
+use Rattle.stim_read.specs.CycleRules.{Targets}
 use Rattle.stim_read.specs.declared.events.EventInputs.{EventInputs}
 use Rattle.stim_read.specs.declared.events.Events.{Events}
 
@@ -22,9 +18,15 @@ pub record EventList : Type 0 where
   pub names : List Text
   pub events : List Event
 
-abbrev pub event_names : TimeSig → List Text
-event_names sig = map (λ (e : SigEvent). e.name) sig.events.items
+-- the names of the events, in order
+abbrev pub event_names : Signature → List Text
+event_names sig = map (λ (e : SigEvent). e.name) sig.events
 
+-- what may get values at data ports
+abbrev pub port_targets : List SigPort → Targets
+port_targets ports = record { names = map (λ (p : SigPort). p.name) ports; widths = map (λ (p : SigPort). p.width) ports }
+
+-- how many rows a delay keeps starts apart; 0 where it is not fixed
 abbrev pub rows_of : Delay → ℕ
 rows_of (Fixed rows) = rows
 rows_of Gap = 0
@@ -44,21 +46,22 @@ interface_end None = 0
 interface_end (Some name) = 1
 
 -- the event with this number
-abbrev pub event_of : TimeSig → ℕ → SigEvent → Event
+abbrev pub event_of : Signature → ℕ → SigEvent → Event
 event_of sig number e =
     record {
       delay = rows_of e.delay;
-      end = max (max (greatest_end (ports_after number sig.ins.items)) (greatest_end (ports_after number sig.outs.items))) (interface_end e.go);
-      inputs = input_targets (ports_after number sig.ins.items);
+      end = max (max (greatest_end (ports_after number sig.ins)) (greatest_end (ports_after number sig.outs))) (interface_end e.go);
+      inputs = port_targets (ports_after number sig.ins);
     }
 
 -- these events, numbered from here on
-abbrev pub events_from : TimeSig → ℕ → List SigEvent → List Event
+abbrev pub events_from : Signature → ℕ → List SigEvent → List Event
 events_from sig number [] = []
 events_from sig number (e ∷ others) = event_of sig number e ∷ events_from sig (number + 1) others
 
-abbrev pub events_of : TimeSig → EventList
-events_of sig = record { names = event_names sig; events = events_from sig 0 sig.events.items }
+-- the events of a signature
+abbrev pub events_of : Signature → EventList
+events_of sig = record { names = event_names sig; events = events_from sig 0 sig.events }
 
 -- a delay of a component's event is fixed
 abbrev pub IsFixed : Delay → Type 0
@@ -66,6 +69,7 @@ IsFixed (Fixed rows) = Unit {0}
 IsFixed Gap = ⊥
 IsFixed End = ⊥
 
+-- the event's delay is fixed
 abbrev pub HasFixedDelay : SigEvent → Type 0
 HasFixedDelay e = IsFixed e.delay
 

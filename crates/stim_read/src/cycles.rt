@@ -8,6 +8,7 @@ ghost use Rattle.serde_json.specs.View.{view};
 ghost use Rattle.stim_read.specs.CycleText.{cycles_seen};
 ghost use Rattle.stim_read.specs.CycleRules.{input_targets, memory_targets, limit_fault, cycles_fault};
 ghost use Rattle.stim_read.specs.CycleRun.{run_of, run_seen, IsJson, SayCycles, GiveRun, IsCause, IsNoJson, IsUnsaid, Tells};
+ghost use Rattle.stim_read.specs.Fits.{FitsRun};
 
 use crate::cycle_inputs::settings;
 use crate::cycle_memories::loads;
@@ -103,6 +104,7 @@ pub fn read_cycles(
     requires input_widths { All (λ (p : SigPort). (1 ≤ p.width) × (p.width ≤ MAX_WIDTH)) ins.now }
     requires memory_widths { All (λ (m : MemShape). (1 ≤ m.width) × (m.width ≤ MAX_WIDTH)) mems.now }
     ensures run { IfOk result (λ list. GiveRun bytes.now ins.now mems.now (run_seen list)) }
+    ensures fits { IfOk result (FitsRun ins.now mems.now) }
     ensures cause { IfErr result (IsCause bytes.now ins.now mems.now) }
 {
     let text = read_text(alloc, bytes)?;

@@ -1,9 +1,9 @@
 //! The events of a signature, each with its data inputs.
 ghost use Rattle.std.specs.Prelude.{◌≡◌, ◌<◌, None, length, map, IfOk, MatchOption};
+ghost use Rattle.fil_sig.specs.Seen.{seen, seen_delay, seen_event, seen_port};
 ghost use Rattle.fil_sig.specs.declared.time_sig.SigEvent.{SigEvent};
 ghost use Rattle.hw_names.specs.Name.{AreDistinct};
-ghost use Rattle.stim_read.specs.CycleRules.{input_targets};
-ghost use Rattle.stim_read.specs.TxEvents.{rows_of, ports_after, greatest_end, interface_end, event_of, events_of, event_names, event_seen, events_seen};
+ghost use Rattle.stim_read.specs.TxEvents.{rows_of, ports_after, port_targets, greatest_end, interface_end, event_of, events_of, event_names, event_seen, events_seen};
 ghost use Rattle.stim_read.specs.TxRules.{event_number, event_by};
 
 use crate::places::place;
@@ -32,7 +32,7 @@ pub(crate) struct Events {
 
 /// How many rows starts of the event are apart at least.
 fn rows_of(delay: Delay) -> u64
-    ensures { result ≡ rows_of delay }
+    ensures { result ≡ rows_of (seen_delay delay) }
 {
     match delay {
         Delay::Fixed(rows) => rows,
@@ -42,7 +42,7 @@ fn rows_of(delay: Delay) -> u64
 
 /// The greatest end among the intervals of these ports that go by the event with this number.
 fn greatest_end(ports: &[SigPort], event: usize) -> u64
-    ensures { result ≡ greatest_end (ports_after event ports.now) }
+    ensures { result ≡ greatest_end (ports_after event (map seen_port ports.now)) }
 {
     let mut greatest = 0;
     for port in ports {
@@ -65,8 +65,8 @@ fn interface_end(go: &Option<Word>) -> u64
 
 /// The names of the data inputs whose intervals go by the event with this number.
 fn names_after(alloc: Global, ins: &[SigPort], event: usize) -> Result<Names, Memory>
-    requires { AreDistinct (input_targets ins.now).names }
-    ensures { IfOk result (λ names. names ≡ (input_targets (ports_after event ins.now)).names) }
+    requires { AreDistinct (port_targets (map seen_port ins.now)).names }
+    ensures { IfOk result (λ names. names ≡ (port_targets (ports_after event (map seen_port ins.now))).names) }
 {
     let mut names = Names::new(alloc);
     for port in ins {
@@ -80,7 +80,7 @@ fn names_after(alloc: Global, ins: &[SigPort], event: usize) -> Result<Names, Me
 
 /// The widths of the data inputs whose intervals go by the event with this number.
 fn widths_after(alloc: Global, ins: &[SigPort], event: usize) -> Result<Vec<u8>, Memory>
-    ensures { IfOk result (λ widths. widths.items ≡ (input_targets (ports_after event ins.now)).widths) }
+    ensures { IfOk result (λ widths. widths.items ≡ (port_targets (ports_after event (map seen_port ins.now))).widths) }
 {
     let mut widths = Vec::new(alloc);
     for port in ins {
@@ -98,8 +98,8 @@ fn event_inputs(
     number: usize,
     event: &SigEvent,
 ) -> Result<EventInputs, Memory>
-    requires { AreDistinct (input_targets sig.now.ins.items).names }
-    ensures { IfOk result (λ e. event_seen e ≡ event_of sig.now number event.now) }
+    requires { AreDistinct (port_targets (seen sig.now).ins).names }
+    ensures { IfOk result (λ e. event_seen e ≡ event_of (seen sig.now) number (seen_event event.now)) }
 {
     let end = greatest_end(&sig.ins, number)
         .max(greatest_end(&sig.outs, number))
@@ -129,8 +129,8 @@ fn names_of(alloc: Global, events: &[SigEvent]) -> Result<Names, Memory>
 
 /// What a stimulus has to know of each event.
 fn inputs_of(alloc: Global, sig: &TimeSig) -> Result<Vec<EventInputs>, Memory>
-    requires { AreDistinct (input_targets sig.now.ins.items).names }
-    ensures { IfOk result (λ inputs. map event_seen inputs.items ≡ (events_of sig.now).events) }
+    requires { AreDistinct (port_targets (seen sig.now).ins).names }
+    ensures { IfOk result (λ inputs. map event_seen inputs.items ≡ (events_of (seen sig.now)).events) }
 {
     let mut inputs = Vec::new(alloc);
     for (number, event) in sig.events.iter().enumerate() {
@@ -142,9 +142,9 @@ fn inputs_of(alloc: Global, sig: &TimeSig) -> Result<Vec<EventInputs>, Memory>
 impl Events {
     /// The events of a signature.
     pub fn of(alloc: Global, sig: &TimeSig) -> Result<Events, Memory>
-        requires events { AreDistinct (event_names sig.now) }
-        requires inputs { AreDistinct (input_targets sig.now.ins.items).names }
-        ensures { IfOk result (λ events. events_seen events ≡ events_of sig.now) }
+        requires events { AreDistinct (event_names (seen sig.now)) }
+        requires inputs { AreDistinct (port_targets (seen sig.now).ins).names }
+        ensures { IfOk result (λ events. events_seen events ≡ events_of (seen sig.now)) }
     {
         let names = names_of(alloc, &sig.events)?;
         let inputs = inputs_of(alloc, sig)?;

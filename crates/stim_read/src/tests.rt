@@ -2,9 +2,9 @@
 ghost use Rattle.std.specs.Prelude.{◌≡◌, ◌≤◌, [], ◌∷◌, length, All, IfOk};
 ghost use Rattle.hw_bits.specs.declared.bits.TheConstants.{MAX_WIDTH};
 ghost use Rattle.hw_names.specs.Name.{AreDistinct};
-ghost use Rattle.fil_sig.specs.declared.time_sig.SigPort.{SigPort};
-ghost use Rattle.stim_read.specs.CycleRules.{input_targets};
-ghost use Rattle.stim_read.specs.TxEvents.{event_names, HasFixedDelay};
+ghost use Rattle.fil_ast.specs.Signature as tree;
+ghost use Rattle.fil_sig.specs.Seen.{seen, seen_event};
+ghost use Rattle.stim_read.specs.TxEvents.{event_names, port_targets, HasFixedDelay};
 
 use super::*;
 use fil_ast::TxList;
@@ -337,7 +337,7 @@ const TX_CASES: &[TxCase] = &[
 
 /// An event with this name and this delay, with an interface port.
 fn event(alloc: Global, name: u8, delay: u64) -> Result<SigEvent, Memory>
-    ensures { IfOk result (λ event. HasFixedDelay event × (event.name ≡ name ∷ [])) }
+    ensures { IfOk result (λ event. HasFixedDelay (seen_event event) × (event.name ≡ name ∷ [])) }
 {
     let name = Word::make(alloc, std::slice::from_ref(&name))?;
     let go = Word::make(alloc, b"go".as_slice())?;
@@ -350,11 +350,11 @@ fn event(alloc: Global, name: u8, delay: u64) -> Result<SigEvent, Memory>
 
 /// A signature with an event `G` of delay 6 and an event `H` of delay 2, whose inputs are `a` and `b`.
 fn signature(alloc: Global) -> Result<TimeSig, Memory>
-    ensures events { IfOk result (λ sig. AreDistinct (event_names sig)) }
-    ensures inputs { IfOk result (λ sig. AreDistinct (input_targets sig.ins.items).names) }
-    ensures fixed { IfOk result (λ sig. All HasFixedDelay sig.events.items) }
-    ensures few { IfOk result (λ sig. length sig.events.items ≤ 256) }
-    ensures widths { IfOk result (λ sig. All (λ (p : SigPort). (1 ≤ p.width) × (p.width ≤ MAX_WIDTH)) sig.ins.items) }
+    ensures events { IfOk result (λ sig. AreDistinct (event_names (seen sig))) }
+    ensures inputs { IfOk result (λ sig. AreDistinct (port_targets (seen sig).ins).names) }
+    ensures fixed { IfOk result (λ sig. All HasFixedDelay (seen sig).events) }
+    ensures few { IfOk result (λ sig. length (seen sig).events ≤ 256) }
+    ensures widths { IfOk result (λ sig. All (λ (p : tree.SigPort). (1 ≤ p.width) × (p.width ≤ MAX_WIDTH)) (seen sig).ins) }
 {
     let first = event(alloc, b'G', 6)?;
     let second = event(alloc, b'H', 2)?;

@@ -2,14 +2,15 @@
 ghost use Rattle.std.specs.Prelude.{◌≡◌, ◌≤◌, ◌++◌, [], None, length, map, set, replicate, slice_get, All, IfOk, IfErr, OnOk};
 ghost use Rattle.hw_bits.specs.declared.bits.TheConstants.{MAX_WIDTH};
 ghost use Rattle.hw_names.specs.Name.{AreDistinct};
-ghost use Rattle.fil_sig.specs.declared.time_sig.SigPort.{SigPort};
-ghost use Rattle.stim_read.specs.CycleRules.{input_targets};
+ghost use Rattle.fil_ast.specs.Signature.{SigPort};
+ghost use Rattle.fil_sig.specs.Seen.{seen};
 ghost use Rattle.stim_read.specs.CycleRun.{Tells};
 ghost use Rattle.stim_read.specs.TxText.{tx_entry_seen, transactions_seen};
-ghost use Rattle.stim_read.specs.TxEvents.{event_names, events_of, event_seen, events_seen, HasFixedDelay};
+ghost use Rattle.stim_read.specs.TxEvents.{event_names, port_targets, events_of, event_seen, events_seen, HasFixedDelay};
 ghost use Rattle.stim_read.specs.TxRules.{starts_of, starts_in, event_number, txs_fault};
 ghost use Rattle.stim_read.specs.TxWalk.{IsEntry, HasWidths, AreUsable, start_rows, last_after, last_by, entry_fault};
 ghost use Rattle.stim_read.specs.TxRun.{count_of, count_fault, end_of, run_rows, rows_fault, transaction_of, tx_run_of, transactions_fault, transaction_seen, tx_run_seen, SayTransactions, GiveTransactions, IsNoTransactions, IsTxCause};
+ghost use Rattle.stim_read.specs.Fits.{FitsSignature};
 
 use crate::cycles::read_value;
 use crate::events::{EventInputs, Events};
@@ -176,13 +177,14 @@ fn judge(alloc: Global, events: &Events, text: TxText) -> Result<TxList, StimEnd
 /// events' and inputs' names differ, and whose widths are 1 to 128 bits. It refuses a text that breaks one of
 /// the rules S1 to S6, or that has more transactions or rows than the limits; any call may find no memory.
 pub fn read_txs(alloc: Global, bytes: &[u8], sig: &TimeSig) -> Result<TxList, StimEnd>
-    requires events { AreDistinct (event_names sig.now) }
-    requires inputs { AreDistinct (input_targets sig.now.ins.items).names }
-    requires fixed { All HasFixedDelay sig.now.events.items }
-    requires few { length sig.now.events.items ≤ 256 }
-    requires widths { All (λ (p : SigPort). (1 ≤ p.width) × (p.width ≤ MAX_WIDTH)) sig.now.ins.items }
-    ensures run { IfOk result (λ list. GiveTransactions bytes.now (events_of sig.now) (tx_run_seen list)) }
-    ensures cause { IfErr result (IsTxCause bytes.now (events_of sig.now)) }
+    requires events { AreDistinct (event_names (seen sig.now)) }
+    requires inputs { AreDistinct (port_targets (seen sig.now).ins).names }
+    requires fixed { All HasFixedDelay (seen sig.now).events }
+    requires few { length (seen sig.now).events ≤ 256 }
+    requires widths { All (λ (p : SigPort). (1 ≤ p.width) × (p.width ≤ MAX_WIDTH)) (seen sig.now).ins }
+    ensures run { IfOk result (λ list. GiveTransactions bytes.now (events_of (seen sig.now)) (tx_run_seen list)) }
+    ensures fits { IfOk result (λ list. All (FitsSignature (seen sig.now)) list.txs.items) }
+    ensures cause { IfErr result (IsTxCause bytes.now (events_of (seen sig.now))) }
 {
     let text = read_text(alloc, bytes)?;
     let events = Events::of(alloc, sig)?;

@@ -1,7 +1,8 @@
-use Rattle.std.proofs.Common.{◌≡◌, ◌++◌, drop}
-use Rattle.stim_read.specs.CycleRules.{input_targets}
-use Rattle.stim_read.specs.TxEvents.{ports_after}
+use Rattle.std.proofs.Common.{◌≡◌, ◌++◌, map}
+use Rattle.fil_sig.specs.Seen.{seen_port}
+use Rattle.stim_read.specs.TxEvents.{ports_after, port_targets}
+use Rattle.stim_read.proofs.TxEventLemmas.{ports_from}
 use Rattle.stim_read.proofs.events.widths_after.Given as goal
 
 abbrev pub invariant-loop-port : goal.invariant-loop-port
-invariant-loop-port l = l.widths.items ++ (input_targets (ports_after l.event (drop l.port-index l.ins))).widths ≡ (input_targets (ports_after l.event l.ins)).widths
+invariant-loop-port l = l.widths.items ++ (port_targets (ports_from l.event l.ins l.port-index)).widths ≡ (port_targets (ports_after l.event (map seen_port l.ins))).widths

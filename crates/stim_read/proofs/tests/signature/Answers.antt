@@ -1,8 +1,8 @@
-use Rattle.std.proofs.Common.{◌≡◌, ℕ, zero, suc, ◌<◌, ◌≤◌, List, [], ◌∷◌, map, All, sym, ap, subst, ◌∙◌, arith}
+use Rattle.std.proofs.Common.{◌≡◌, ℕ, zero, suc, ◌≤◌, List, [], ◌∷◌, map, All, sym, ap, subst, ◌∙◌, arith}
 use Rattle.hw_bits.specs.declared.bits.TheConstants.{MAX_WIDTH}
 use Rattle.hw_names.specs.Name.{Text, AreDistinct}
-use Rattle.fil_sig.specs.declared.time_sig.SigEvent.{SigEvent}
-use Rattle.fil_sig.specs.declared.time_sig.SigPort.{SigPort}
+use Rattle.fil_ast.specs.Signature.{SigEvent, SigPort}
+use Rattle.fil_sig.specs.Seen.{seen_event, seen_port}
 use Rattle.stim_read.specs.TxEvents.{HasFixedDelay}
 use Rattle.stim_read.proofs.tests.signature.Goals as goal
 
@@ -29,16 +29,21 @@ HasWidth p = (1 ≤ p.width) × (p.width ≤ MAX_WIDTH)
 
 pub returns-clause-events : goal.returns-clause-events
 returns-clause-events c =
-    pair_differs (λ (e : SigEvent). e.name) c.in_ok-events.events.items c.in_ok-first.first c.in_ok-second.second 71 72 c.in_ok-events.ensures.items c.in_ok-first.ensures.1 c.in_ok-second.ensures.1 (λ same. absurd (omega arith))
+    pair_differs (λ (e : SigEvent). e.name) (map seen_event c.in_ok-events.events.items) (seen_event c.in_ok-first.first) (seen_event c.in_ok-second.second) 71 72
+    (ap (map seen_event) c.in_ok-events.ensures.items) c.in_ok-first.ensures.1 c.in_ok-second.ensures.1 (λ same. absurd (omega arith))
 
 pub returns-clause-inputs : goal.returns-clause-inputs
 returns-clause-inputs c =
-    pair_differs (λ (p : SigPort). p.name) c.in_ok-ins.ins.items c.in_ok-a.a c.in_ok-b.b 97 98 c.in_ok-ins.ensures.items c.in_ok-a.ensures.1 c.in_ok-b.ensures.1 (λ same. absurd (omega arith))
+    pair_differs (λ (p : SigPort). p.name) (map seen_port c.in_ok-ins.ins.items) (seen_port c.in_ok-a.a) (seen_port c.in_ok-b.b) 97 98
+    (ap (map seen_port) c.in_ok-ins.ensures.items) c.in_ok-a.ensures.1 c.in_ok-b.ensures.1 (λ same. absurd (omega arith))
 
 pub returns-clause-fixed : goal.returns-clause-fixed
-returns-clause-fixed c = pair_holds HasFixedDelay c.in_ok-events.events.items c.in_ok-first.first c.in_ok-second.second c.in_ok-events.ensures.items c.in_ok-first.ensures.0 c.in_ok-second.ensures.0
+returns-clause-fixed c =
+    pair_holds HasFixedDelay (map seen_event c.in_ok-events.events.items) (seen_event c.in_ok-first.first) (seen_event c.in_ok-second.second)
+    (ap (map seen_event) c.in_ok-events.ensures.items) c.in_ok-first.ensures.0 c.in_ok-second.ensures.0
 
 pub returns-clause-widths : goal.returns-clause-widths
 returns-clause-widths c =
     let wide : (p : SigPort) → p.width ≡ 8 → HasWidth p = λ p is. (omega arith, omega arith) in
-    pair_holds HasWidth c.in_ok-ins.ins.items c.in_ok-a.a c.in_ok-b.b c.in_ok-ins.ensures.items (wide c.in_ok-a.a c.in_ok-a.ensures.0) (wide c.in_ok-b.b c.in_ok-b.ensures.0)
+    pair_holds HasWidth (map seen_port c.in_ok-ins.ins.items) (seen_port c.in_ok-a.a) (seen_port c.in_ok-b.b) (ap (map seen_port) c.in_ok-ins.ensures.items)
+    (wide (seen_port c.in_ok-a.a) c.in_ok-a.ensures.0) (wide (seen_port c.in_ok-b.b) c.in_ok-b.ensures.0)
