@@ -24,7 +24,7 @@ third_rule true true false d e h = cc
 third_rule true false c d e h = cc
 third_rule false b c d e h = cc
 
-input_wide : (n : Netlist) → IsValid n → (k : ℕ) (pin : Pin) → slice_get n.ins k ≡ Some pin → is_width pin.width ≡ true
+pub input_wide : (n : Netlist) → IsValid n → (k : ℕ) (pin : Pin) → slice_get n.ins k ≡ Some pin → is_width pin.width ≡ true
 input_wide n valid k pin at =
     let line = slice_get-append_left (map InLine n.ins ++ map OutLine n.outs ++ map WireLine n.wires ++ map CellOf n.cells) (map SetOf n.sets) k (InLine pin)
     (slice_get-append_left (map InLine n.ins ++ map OutLine n.outs ++ map WireLine n.wires) (map CellOf n.cells) k (InLine pin)
@@ -33,14 +33,14 @@ input_wide n valid k pin at =
     (slice_get-map InLine n.ins k ∙ ap (option_map InLine) at)))) in
     third_rule (has_new_names (flat_map ports_at (take k (lines_of n))) (flat_map cell_names_at (take k (lines_of n))) (InLine pin)) (has_known_names (ports_of n) (InLine pin)) (has_good_widths (ports_of n) (InLine pin)) (has_good_sides (ports_of n) (InLine pin)) (has_good_parameters (InLine pin)) (valid k (InLine pin) line)
 
-wide_parts : (w : ℕ) → is_width w ≡ true → (1 ≤ w) × (w ≤ 128)
+pub wide_parts : (w : ℕ) → is_width w ≡ true → (1 ≤ w) × (w ≤ 128)
 wide_parts w e = grind (arith, nat_tests)
 
 -- what comes after the inputs
-later_ports : Netlist → List PortLine
+pub later_ports : Netlist → List PortLine
 later_ports n = map (own_port false true) n.outs ++ (map (own_port true true) n.wires ++ flat_map ports_of_cell n.cells)
 
-inputs_first : (n : Netlist) → ports_of n ≡ map (own_port true false) n.ins ++ later_ports n
+pub inputs_first : (n : Netlist) → ports_of n ≡ map (own_port true false) n.ins ++ later_ports n
 unfolding later_ports
 inputs_first n = ports_of-parts n ∙ simp append_assoc
 

@@ -7,11 +7,25 @@ pub mod NetLaws
 pub mod MemoryLemmas
 pub mod TopLemmas
 mod FilLemmas
+pub mod StimulusLemmas
+pub mod AskLemmas
 pub mod VerdictLemmas
 pub mod EndingLemmas
+pub mod FileLemmas
 pub mod InputLemmas
 pub mod StandLemmas
 pub mod StreamLemmas
 pub mod InputPortLemmas
 mod LoadLemmas
 pub mod RunLemmas
+pub mod GivenLemmas
+pub mod SimulateLemmas
+pub mod CauseLemmas
+pub mod LoadedLemmas
+pub mod SettableLemmas
+pub mod FitLemmas
+pub mod TransactionLemmas
+pub mod PassingLemmas
+pub mod FlowLemmas
+pub mod HoldLemmas
+pub mod TellLemmas

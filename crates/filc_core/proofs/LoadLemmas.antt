@@ -13,22 +13,28 @@ use Rattle.net_core.specs.Rules.{PortLine, ports_of, port_names, IsValid}
 use Rattle.net_sim.specs.Layout.{name_of}
 use Rattle.net_sim.specs.Order.{IsLeastLoopOf}
 use Rattle.filc_core.proofs.SinkLemmas.{keeps_all}
-use Rattle.filc_core.specs.Built.{AsksFor, IsBuiltFrom, IsFilBuiltFrom, IsRefusedIn, IsUnbuilt, IsUnread, AreNamesOf}
+use Rattle.filc_core.specs.Built.{AsksFor, IsBuiltFrom, IsFilBuiltFrom, IsRefusedIn, IsUnbuilt, IsUnread, IsToldOf, GivesNothing, IsNotGiven, AreNamesOf}
 use Rattle.filc_core.specs.Ending.{HasPartOfReport}
-use Rattle.filc_core.specs.Lines.{limit_line, rule_name, rule_line}
+use Rattle.filc_core.specs.Lines.{limit_line, rule_name, rule_line, stimulus_line}
 use Rattle.filc_core.specs.Language.{most_bytes}
 use Rattle.filc_core.specs.NetFile.{IsTextOf, IsRefused, HasLoop}
 use Rattle.filc_core.specs.Report.{Leaves, LeavesAt}
 use Rattle.filc_core.specs.Request.{Request, file_of, language_of, Asks}
-use Rattle.filc_core.specs.Stops.{answer_of, refusal_line}
-use Rattle.filc_core.specs.Verdict.{Verdict, SourceTooLong, NetRefused, FilRefused, Reads, ReadsNet, ReadsFil}
+use Rattle.filc_core.specs.Stops.{answer_of, refusal_line, IsOfDesign}
+use Rattle.filc_core.specs.StimulusFile.{IsRefusedBy, TooLong}
+use Rattle.filc_core.specs.FilFile
+use Rattle.filc_core.specs.NetFile
+use Rattle.filc_core.specs.Reads.{Reads, ReadsNet, ReadsFil}
+use Rattle.filc_core.specs.Verdict.{Verdict, SourceTooLong, NetRefused, FilRefused}
 use Rattle.filc_core.specs.declared.ended.Ended.{Ended}
-use Rattle.filc_core.specs.declared.ended.Ended.TheVariants.{Refused}
+use Rattle.filc_core.specs.declared.ended.Ended.TheVariants.{Refused, Stimulus, Limit}
 use Rattle.filc_core.specs.declared.language.Language.{Language}
 use Rattle.filc_core.specs.declared.language.Language.TheVariants.{Netlists, Filament}
 use Rattle.filc_core.specs.declared.fil_file.FilBuilt.{FilBuilt}
 use Rattle.filc_core.specs.declared.net_file.Built.{Built}
+use Rattle.filc_core.specs.declared.limits.TheConstants.{MOST_STIMULUS_BYTES}
 use Rattle.filc_core.specs.declared.refusal.Refusal.TheVariants as refusal
+use Rattle.stim_read.specs.declared.stim_end.StimEnd.{StimEnd}
 use Rattle.filc_core.specs.declared.stop.Stop.{Stop}
 use Rattle.filc_core.specs.declared.stop.Stop.TheVariants as stop
 
@@ -68,6 +74,7 @@ refused_text words contents Filament r bytes ended line reads refused = FilRefus
 
 unread : (words : List Text) (contents : Text → Option Text) (language : Language) (r : Request) (bytes : Text) (why : Stop) → Reads words contents r language bytes → IsUnbuilt language bytes why → IsUnread words contents why
 unread words contents language r bytes stop.ReadFault reads unbuilt = absurd unbuilt
+unread words contents language r bytes stop.StimulusReadFault reads unbuilt = unbuilt
 unread words contents language r bytes (stop.Refused why) reads unbuilt = refused_text words contents language r bytes (answer_of why) (refusal_line why) reads unbuilt
 unread words contents language r bytes stop.WriteFault reads unbuilt = unbuilt
 unread words contents language r bytes stop.Memory reads unbuilt = tt
@@ -87,6 +94,44 @@ pub read_fil : (words : List Text) (contents : Text → Option Text) (r : Reques
 read_fil words contents r bytes (Ok b) reads built = record { bytes = bytes; reads = reads; gives = built.gives }
 read_fil words contents r bytes (Err why) reads built = tt
 
+-- no text of a design is refused for a stimulus
+no_stimulus_rule : (language : Language) (text line : Text) → IsRefusedIn language text Stimulus line → ⊥
+no_stimulus_rule Netlists text line (NetFile.NestsTooDeep deep is tells) = cc is
+no_stimulus_rule Netlists text line (NetFile.HasNoGrammar place shallow refused is tells) = cc is
+no_stimulus_rule Netlists text line (NetFile.BreaksRule n rule item of broken is tells) = cc is
+no_stimulus_rule Netlists text line (NetFile.HasLoop n first others of valid least is tells) = cc is
+no_stimulus_rule Netlists text line (NetFile.IsTooHeavy n of heavy is tells) = cc is
+no_stimulus_rule Netlists text line (NetFile.HasTooManyWords n of light many is tells) = cc is
+no_stimulus_rule Filament text line (FilFile.HasNoTokens at faults is tells) = cc is
+no_stimulus_rule Filament text line (FilFile.NestsTooDeep depth nested deep is tells) = cc is
+no_stimulus_rule Filament text line (FilFile.HasNoGrammar at shallow refused is tells) = cc is
+no_stimulus_rule Filament text line (FilFile.HasLargeOffset design offset shallow spells large is tells) = cc is
+no_stimulus_rule Filament text line (FilFile.BreaksRule design rule name item evidence of first is tells) = cc is
+no_stimulus_rule Filament text line (FilFile.IsTooHeavy design number top of has heavy is tells) = cc is
+
+of_design : (language : Language) (text : Text) (why : Stop) → IsUnbuilt language text why → IsOfDesign why
+of_design language text stop.ReadFault unbuilt = tt
+of_design language text stop.StimulusReadFault unbuilt = unbuilt
+of_design language text (stop.Refused (refusal.BreaksStimulusRule rule entry first second delay)) unbuilt = no_stimulus_rule language text (stimulus_line rule entry first second delay) unbuilt
+of_design language text (stop.Refused (refusal.SourceTooLong l)) unbuilt = tt
+of_design language text (stop.Refused (refusal.HasNoTokens at)) unbuilt = tt
+of_design language text (stop.Refused (refusal.NestsTooDeep l depth)) unbuilt = tt
+of_design language text (stop.Refused (refusal.HasNoGrammar at)) unbuilt = tt
+of_design language text (stop.Refused (refusal.HasLargeOffset offset)) unbuilt = tt
+of_design language text (stop.Refused (refusal.BreaksRule l rule name item evidence)) unbuilt = tt
+of_design language text (stop.Refused (refusal.IsTooHeavy weight)) unbuilt = tt
+of_design language text (stop.Refused (refusal.HasTooManyWords words)) unbuilt = tt
+of_design language text (stop.Refused (refusal.TooManyCycles cycles)) unbuilt = tt
+of_design language text (stop.Refused refusal.StimulusTooLong) unbuilt = tt
+of_design language text (stop.Refused (refusal.StimulusTooLarge count limit cycles)) unbuilt = tt
+of_design language text (stop.Refused (refusal.Conflict cycle port)) unbuilt = tt
+of_design language text stop.WriteFault unbuilt = tt
+of_design language text stop.Memory unbuilt = tt
+
+pub stops_of_design : {T : Type 0} (language : Language) (text : Text) (answer : Result T Stop) → IfErr answer (IsUnbuilt language text) → IfErr answer IsOfDesign
+stops_of_design language text (Ok value) unbuilt = tt
+stops_of_design language text (Err why) unbuilt = of_design language text why unbuilt
+
 -- an error that is passed on
 pub passed_on : {T : Type 0} (claim : Stop → Type 0) (answer : Result T Stop) (why : Stop) → IsErrAnd answer (λ other. other ≡ why) → claim why → IfErr answer claim
 passed_on claim (Ok value) why is holds = tt
@@ -99,6 +144,7 @@ nothing_written words contents out ended report line verdict = record { gained =
 -- a command that stopped before it wrote anything
 unread_leaves : (words : List Text) (contents : Text → Option Text) (file : Text) (why : Stop) (out : Option Text) → IsUnread words contents why → LeavesAt words contents file why out out
 unread_leaves words contents file stop.ReadFault out unread = keeps_all out
+unread_leaves words contents file stop.StimulusReadFault out unread = absurd unread
 unread_leaves words contents file (stop.Refused why) out unread = record { report = []; verdict = unread; reported = appends_none out }
 unread_leaves words contents file stop.WriteFault out unread = absurd unread
 unread_leaves words contents file stop.Memory out unread = nothing_written words contents out
@@ -106,6 +152,36 @@ unread_leaves words contents file stop.Memory out unread = nothing_written words
 pub unread_report : (words : List Text) (contents : Text → Option Text) (file : Text) (answer : Result (Unit {0}) Stop) (why : Stop) (out : Option Text) → IsErrAnd answer (λ other. other ≡ why) → IsUnread words contents why → Leaves words contents file answer out out
 unread_report words contents file (Ok done) why out is unread = absurd is
 unread_report words contents file (Err other) why out is unread = unread_leaves words contents file other out (subst (IsUnread words contents) (sym is) unread)
+
+-- the file of a stimulus, whose content is told
+module _ (contents : Text → Option Text) (file : Text) (told : IsSome (contents file)) where
+  -- what holds of the text that was read, holds of that content
+  told_of_text : (text : Text) (claim : Text → Type 0) → IfSome (contents file) (λ content. text ≡ content) → claim text → IsToldOf contents file claim
+  told_of_text text claim same holds = record { bytes = text; told = told_is (contents file) text told same; holds = holds }
+
+  -- a content that is too long
+  pub too_long_stimulus : (causes : Text → StimEnd → Type 0) → IfSome (contents file) (λ content. MOST_STIMULUS_BYTES < length content) → IsNotGiven contents file causes (stop.Refused refusal.StimulusTooLong)
+  too_long_stimulus causes long =
+      let bytes = some_text (contents file) told in
+      let over : MOST_STIMULUS_BYTES < length bytes.0 = subst (λ (o : Option Text). IfSome o (λ content. MOST_STIMULUS_BYTES < length content)) bytes.1 long in
+      record { bytes = bytes.0; told = bytes.1; holds = TooLong over refl refl }
+
+  -- a text that gives a value
+  pub given_by : {T : Type 0} (text : Text) (claim : Text → T → Type 0) (answer : Result T Stop) → IfSome (contents file) (λ content. text ≡ content) → IfOk answer (claim text) → IfOk answer (λ (v : T). IsToldOf contents file (λ bytes. claim bytes v))
+  given_by text claim (Ok v) same holds = told_of_text text (λ bytes. claim bytes v) same holds
+  given_by text claim (Err why) same holds = tt
+
+  none_given : (text : Text) (causes : Text → StimEnd → Type 0) (why : Stop) → IfSome (contents file) (λ content. text ≡ content) → GivesNothing (causes text) text why → IsNotGiven contents file causes why
+  none_given text causes stop.ReadFault same none = absurd none
+  none_given text causes stop.StimulusReadFault same none = absurd none
+  none_given text causes (stop.Refused why) same none = told_of_text text (λ bytes. IsRefusedBy (causes bytes) bytes (answer_of why) (refusal_line why)) same none
+  none_given text causes stop.WriteFault same none = absurd none
+  none_given text causes stop.Memory same none = tt
+
+  -- a text that gives none
+  pub not_given : {T : Type 0} (text : Text) (causes : Text → StimEnd → Type 0) (answer : Result T Stop) → IfSome (contents file) (λ content. text ≡ content) → IfErr answer (GivesNothing (causes text) text) → IfErr answer (IsNotGiven contents file causes)
+  not_given text causes (Ok v) same none = tt
+  not_given text causes (Err why) same none = none_given text causes why same none
 
 -- the names of ports with one more
 pub names_more : (names : List Text) (ports : List ℕ) (i d : ℕ) (texts : List Text) (text : Text) → i < length ports → slice_get names (get_or ports i d) ≡ Some text → AreNamesOf names (take i ports) texts → AreNamesOf names (take (i + 1) ports) (texts ++ text ∷ [])

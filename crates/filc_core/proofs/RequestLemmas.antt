@@ -7,7 +7,8 @@ use Rattle.std.proofs.lemmas.Str.Parse.{IsNumeralModel, numerals_by_value, tells
 use Rattle.std.proofs.lemmas.Fmt.{first_decimal, decimal_digit, decimal_nonempty, digits_decimal, digits_value-decimal, decimal-digits_value}
 use Rattle.hw_names.specs.Name.{Text}
 use Rattle.filc_core.specs.Language.{ending_of}
-use Rattle.filc_core.specs.Request.{CheckOf, RowsOf, AskNothing, IsFileName, IsNoFileName, IsCount, IsNoCount, HasSignOrZero}
+use Rattle.filc_core.specs.Request.{CheckOf, AskNothing, IsFileName, IsNoFileName, IsCount, IsNoCount, HasSignOrZero}
+use Rattle.filc_core.proofs.AskLemmas.{kind_told}
 
 own : IsNumeralModel (AllDigits 10) (digits_value 10)
 own = numerals_by_value (AllDigits 10) tells_digits
@@ -38,17 +39,6 @@ parsed_count {E} word (Err e) parsed plain = λ n count.
     (digits_decimal own n count.1, decimal_nonempty n count.1, omega (arith, digits_value-decimal own n count.1)))
 
 -- `check` with the name of no language's file asks for nothing
-pub check_of_no_file : (words : List Text) (file : Text) → words ≡ codes "check" ∷ file ∷ [] → IsNoFileName file → AskNothing words
-check_of_no_file words file are none (CheckOf language other) asks =
-    let same : codes "check" ∷ other ∷ [] ≡ codes "check" ∷ file ∷ [] = sym asks.0 ∙ are in
-    let same_file : other ≡ file = cc same in
-    none language (subst (IsFileName (ending_of language)) same_file asks.1)
-check_of_no_file words file are none (RowsOf other cycles) asks =
-    let same : codes "check" ∷ file ∷ [] ≡ codes "rows" ∷ other ∷ asks.0 ∷ [] = sym are ∙ asks.1 in cc same
-
--- two words of which the first is `check`
-pub check_words : (words : List (Bor Text)) (none : Bor Text) → (get_or words 0 none).now ≡ codes "check" → 2 ≤ length words → length words < 3 → map (λ (w : Bor Text). w.now) words ≡ codes "check" ∷ (get_or words 1 none).now ∷ []
-check_words [] none first two few = absurd (omega arith)
-check_words (word ∷ []) none first two few = absurd (omega arith)
-check_words (word ∷ file ∷ []) none first two few = ap (λ (text : Text). text ∷ file.now ∷ []) first
-check_words (word ∷ file ∷ more ∷ others) none first two few = absurd (omega arith)
+pub no_check : (file : Text) → IsNoFileName file → AskNothing (codes "check" ∷ file ∷ [])
+no_check file none (CheckOf language other) asks = none language (subst (IsFileName (ending_of language)) (sym (ap (λ (ws : List Text). get_or ws 1 []) asks.0)) asks.1)
+no_check file none r asks = absurd (omega (arith, kind_told (codes "check" ∷ file ∷ []) r asks))

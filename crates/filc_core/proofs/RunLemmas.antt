@@ -1,10 +1,10 @@
 -- What a run leaves in the sink, at each of its ends.
-use Rattle.std.proofs.Common.{◌≡◌, ℕ, zero, suc, ◌<◌, ◌⊎◌, List, [], ◌∷◌, ◌++◌, Bool, true, false, if◌then◌else◌, Option, Some, length, refl, sym, ap, subst, ◌∙◌, arith, inl, inr}
+use Rattle.std.proofs.Common.{◌≡◌, ℕ, map, zero, suc, ◌<◌, ◌⊎◌, List, [], ◌∷◌, ◌++◌, Bool, true, false, if◌then◌else◌, Option, Some, length, refl, sym, ap, subst, ◌∙◌, arith, inl, inr}
 use mathlib.Core.Path.{fun_ext}
-use Rattle.std.specs.Prelude.{slice_get, replicate, bytes_eq}
+use Rattle.std.specs.Prelude.{slice_get, replicate, bytes_eq, Contains}
 use Rattle.std.specs.Io.KnownBytes.{Appends}
 use Rattle.std.proofs.lemmas.Option.{same_Some, slice_get_within}
-use Rattle.hw_io.proofs.WritingLemmas.{appends_both, prefix_after}
+use Rattle.hw_io.proofs.WritingLemmas.{appends_both, prefix_after, passed_both, passed_prefix}
 use Rattle.hw_io.specs.Writing.{AppendsPrefix, Passes}
 use Rattle.hw_names.specs.Name.{Text}
 use Rattle.hw_prims.specs.Row.{Trace}
@@ -15,23 +15,32 @@ use Rattle.net_core.specs.Netlist.{Netlist, netlist_of}
 use Rattle.net_core.specs.declared.net.Net.{Net}
 use Rattle.net_core.specs.declared.stimulus.InputSet.{InputSet}
 use Rattle.net_sim.proofs.StandsLemmas.{stands_at_start}
-use Rattle.net_sim.specs.Sim.{SimValue, IsNewSim, states_of}
+use Rattle.net_sim.specs.Sim.{SimValue, IsLoadedSim, states_of}
 use Rattle.net_sim.specs.Standing.{StandsAt, StandsOn}
 use Rattle.net_core.specs.Rules.{PortLine, ports_of, port_names}
 use Rattle.net_core.specs.Table.{IsTableOf}
 use Rattle.net_core.specs.declared.table.PortInfo.{PortInfo}
 use Rattle.net_core.specs.declared.table.Table.{Table}
 use Rattle.filc_core.specs.Slots.{NumbersPortsAsNames}
-use Rattle.std.proofs.lemmas.List.{length-map}
+use Rattle.std.proofs.lemmas.List.{length-map, append-nil}
 use Rattle.net_sim.proofs.PlaceLemmas.{named_at}
 use Rattle.net_sim.specs.Order.{IsNamed, IsOrderOf}
 use Rattle.net_sim.specs.Slots.{row_of}
 use Rattle.filc_core.specs.Ending.{HasPartOfReport}
 use Rattle.filc_core.specs.Inputs.{driven}
 use Rattle.filc_core.specs.Report.{HasReport, LeavesAt}
-use Rattle.filc_core.specs.Rows.{rows_text, memories_text, outputs_of_net}
-use Rattle.filc_core.specs.Streams.{RunsCleanly, RunsIntoConflict, StreamsToConflict, IsStreamed}
-use Rattle.filc_core.specs.Verdict.{Clashes, Runs, AsksForRun, no_inputs, no_loads, run_text}
+use Rattle.filc_core.specs.Rows.{rows_text, memories_text}
+use Rattle.filc_core.specs.Streams.{shown_ports, RunsCleanly, RunsIntoConflict, StreamsToConflict, IsStreamed}
+use Rattle.filc_core.specs.Request.{Request}
+use Rattle.filc_core.specs.Runs.{PrintedRun, CallsFor, IsRunOf, run_from, text_to, run_text, no_inputs, no_loads}
+use Rattle.filc_core.specs.Built.{IsReady}
+use Rattle.filc_core.specs.Given.{after_loads}
+use Rattle.filc_core.specs.declared.net_file.Built.{Built}
+use Rattle.net_core.specs.declared.stimulus.CycleList.{CycleList}
+use Rattle.net_core.specs.declared.stimulus.MemLoad.{MemLoad}
+use Rattle.stim_read.specs.CycleRun.{Load, load_seen}
+use Rattle.filc_core.proofs.PortLemmas.{output_is_port}
+use Rattle.filc_core.specs.Verdict.{Clashes, Runs}
 use Rattle.filc_core.specs.declared.ended.Ended.TheVariants.{Done}
 use Rattle.filc_core.specs.declared.refusal.Refusal.TheVariants as refusal
 use Rattle.filc_core.specs.declared.stop.Stop.{Stop}
@@ -41,7 +50,7 @@ use Rattle.filc_core.specs.declared.stream.RowEnd.TheVariants as ends
 use Rattle.filc_core.proofs.SinkLemmas.{whole_prefix}
 use Rattle.filc_core.proofs.MemoryLemmas.{memories_same, states_same, rows_then_written, rows_then_part}
 use Rattle.filc_core.proofs.NetLaws.{IsPort, same_rows}
-use Rattle.filc_core.proofs.VerdictLemmas.{part_of_rows, part_of_run}
+use Rattle.filc_core.proofs.VerdictLemmas.{IsRunnable, part_of_rows, part_of_run}
 
 zero_or : (b : Bool) (x : ℕ) → x ≡ 0 → (if b then 0 else x) ≡ 0
 zero_or true x e = refl
@@ -53,7 +62,7 @@ row_zero (name ∷ names) zero port = refl
 row_zero (name ∷ names) (suc count) port = zero_or (bytes_eq name port) (row_of names (replicate count 0) port) (row_zero names count port)
 
 -- without sets each input is 0 in every row
-no_sets : (n : Netlist) → driven n [] ≡ no_inputs
+pub no_sets : (n : Netlist) → driven n [] ≡ no_inputs
 no_sets n = fun_ext (λ row. fun_ext (λ port. row_zero (pin_names n.ins) (length n.ins) port))
 
 flushed_all : (out mid out' : Option Text) (held text : Text) → Passes out [] mid held text → Appends mid out' held → Appends out out' text
@@ -68,9 +77,9 @@ clean_before n asked t inputs loads port trace r = record {
   clean = λ k at before has. r.run.goes_on k (omega arith) at has;
 }
 
--- a new simulation stands before row 0 of the run
-pub new_stands : (net : Net) (sim : SimValue) (sets : List InputSet) → IsNewSim net sim → StandsAt (netlist_of net) sim 0 (driven (netlist_of net) sets) no_loads
-new_stands net sim sets is = (no_inputs, stands_at_start net no_loads sim (driven (netlist_of net) sets) no_inputs is)
+-- a simulation with loaded words stands before row 0 of the run
+loaded_stands : (net : Net) (n : Netlist) (loads : Text → List ℕ) (sim : SimValue) (inputs : Trace) → netlist_of net ≡ n → IsLoadedSim net loads sim → StandsAt n sim 0 inputs loads
+loaded_stands net n loads sim inputs same is = subst (λ m. StandsAt m sim 0 inputs loads) same (no_inputs, stands_at_start net loads sim inputs no_inputs is)
 
 -- the table of a netlist numbers its names
 pub table_numbers : (n : Netlist) (table : Table) → IsTableOf n table → NumbersPortsAsNames table
@@ -80,72 +89,100 @@ table_numbers n table is = record {
 }
 
 -- the port at which the Conflict is reported is one of the table's
-pub conflict_within : (n : Netlist) (table : Table) (rows : ℕ) (inputs : Trace) (cycle port : ℕ) (out mid : Option Text) (before held : Text) → IsTableOf n table → StreamsToConflict n (outputs_of_net n) rows inputs no_loads cycle port out before mid held → port < length table.names
-conflict_within n table rows inputs cycle port out mid before held is s =
+pub conflict_within : (n : Netlist) (table : Table) (ports : List Text) (rows : ℕ) (inputs : Trace) (loads : Text → List ℕ) (cycle port : ℕ) (out mid : Option Text) (before held : Text) → IsTableOf n table → StreamsToConflict n ports rows inputs loads cycle port out before mid held → port < length table.names
+conflict_within n table ports rows inputs loads cycle port out mid before held is s =
     omega (arith, slice_get_within (ports_of n) port s.named.0 s.named.1, ap length is.names, length-map (ports_of n) (λ (p : PortLine). p.name))
 
 name_is : (n : Netlist) (names : List Text) (port : ℕ) (name name' : Text) → names ≡ port_names (ports_of n) → IsNamed n port name → slice_get names port ≡ Some name' → name ≡ name'
 name_is n names port name name' all (p, at, e) is' =
     sym e ∙ same_Some p.name name' (sym (named_at n port p at) ∙ ap (λ l. slice_get l port) (sym all) ∙ is')
 
-module _ (words : List Text) (contents : Text → Option Text) (n : Netlist) (cycles : ℕ) (asks : AsksForRun words contents n cycles) (order : List ℕ) (ordered : IsOrderOf n order) where
-  abbrev Streamed : RowEnd → Option Text → Option Text → Text → Type 0
-  Streamed end out mid held = IsStreamed n (outputs_of_net n) cycles no_inputs no_loads end out [] mid held
-
-  pub from_driven : (sets : List InputSet) (end : RowEnd) (out mid : Option Text) (before held : Text) → sets ≡ [] → before ≡ [] → IsStreamed n (outputs_of_net n) cycles (driven n sets) no_loads end out before mid held → Streamed end out mid held
-  from_driven sets end out mid before held no_set empty streamed =
-      subst (λ inputs. IsStreamed n (outputs_of_net n) cycles inputs no_loads end out [] mid held) (ap (driven n) no_set ∙ no_sets n)
-      (subst (λ first. IsStreamed n (outputs_of_net n) cycles (driven n sets) no_loads end out first mid held) empty streamed)
+-- a run that words call for, after the text before its rows went into the sink
+module _ (words : List Text) (contents : Text → Option Text) (r : Request) (p : PrintedRun) (calls : CallsFor words contents r p) (runnable : IsRunnable p) (out first : Option Text) (kept : Text) (begun : Passes out [] first kept p.head) where
+  abbrev Streamed : RowEnd → Option Text → Text → Type 0
+  Streamed end mid held = IsStreamed p.net p.ports p.cycles p.inputs p.loads end first kept mid held
 
   -- the lines of the memories of a simulation
   abbrev Memories : SimValue → Text
-  Memories sim = memories_text n (states_of n sim.states)
+  Memories sim = memories_text p.net (states_of p.net sim.states)
 
-  pub stands_undriven : (sim : SimValue) (sets : List InputSet) → sets ≡ [] → StandsAt n sim cycles (driven n sets) no_loads → StandsAt n sim cycles no_inputs no_loads
-  stands_undriven sim sets no_set stands = subst (λ inputs. StandsAt n sim cycles inputs no_loads) (ap (driven n) no_set ∙ no_sets n) stands
-
-  run_of : (sim : SimValue) (trace : Trace) → StandsOn n sim cycles no_inputs no_loads trace → NetRun n cycles no_inputs no_loads cycles trace
+  run_of : (sim : SimValue) (trace : Trace) → StandsOn p.net sim p.cycles p.inputs p.loads trace → IsRunOf p p.cycles trace
   run_of sim trace stands = record { rows = stands.rows; goes_on = λ u more port has. stands.clean u (omega (arith, more)) port has; ends = inl refl }
 
   -- a simulation that stands after all rows has the memories of the rows that were passed on
-  same_memories : (out mid : Option Text) (held : Text) (sim : SimValue) (s : Streamed ends.Done out mid held) → StandsAt n sim cycles no_inputs no_loads → Memories sim ≡ memories_text n (states_before cycles s.trace no_loads)
-  same_memories out mid held sim s stands =
-      let alike : (k : ℕ) → k < cycles → (port : Text) → IsPort n port → s.trace k port ≡ stands.0 k port =
-      λ k before port is. same_rows n asks.reads_net.gives.accepted.valid order ordered cycles cycles cycles no_inputs no_loads s.trace stands.0 s.runs.run (run_of sim stands.0 stands.1) k before before port is in
-      memories_same n (states_of n sim.states) (states_before cycles s.trace no_loads)
-      (λ cell prim is. stands.1.states cell prim is ∙ sym (states_same n no_loads s.trace stands.0 cycles alike cell prim is))
+  same_memories : (mid : Option Text) (held : Text) (sim : SimValue) (s : Streamed ends.Done mid held) → StandsAt p.net sim p.cycles p.inputs p.loads → Memories sim ≡ memories_text p.net (states_before p.cycles s.trace p.loads)
+  same_memories mid held sim s stands =
+      let alike : (k : ℕ) → k < p.cycles → (port : Text) → IsPort p.net port → s.trace k port ≡ stands.0 k port =
+      λ k before port is. same_rows p.net runnable.valid runnable.order runnable.ordered p.cycles p.cycles p.cycles p.inputs p.loads s.trace stands.0 s.runs.run (run_of sim stands.0 stands.1) k before before port is in
+      memories_same p.net (states_of p.net sim.states) (states_before p.cycles s.trace p.loads)
+      (λ cell prim is. stands.1.states cell prim is ∙ sym (states_same p.net p.loads s.trace stands.0 p.cycles alike cell prim is))
 
-  pub all_leaves : (out mid out' : Option Text) (held : Text) (sim : SimValue) → Streamed ends.Done out mid held → StandsAt n sim cycles no_inputs no_loads → Appends mid out' (held ++ Memories sim) → HasReport words contents Done [] out out'
-  all_leaves out mid out' held sim s stands late = record {
-    report = run_text n cycles s.trace;
-    verdict = Runs n cycles s.trace asks s.runs.run (λ t port within has. s.runs.clean t port within has) refl refl refl;
-    reported = subst (λ text. Appends out out' (rows_text (outputs_of_net n) s.trace cycles ++ text)) (same_memories out mid held sim s stands) (rows_then_written out mid out' held (rows_text (outputs_of_net n) s.trace cycles) (Memories sim) s.passed late);
+  pub all_leaves : (mid out' : Option Text) (held : Text) (sim : SimValue) → Streamed ends.Done mid held → StandsAt p.net sim p.cycles p.inputs p.loads → Appends mid out' (held ++ Memories sim) → HasReport words contents Done [] out out'
+  all_leaves mid out' held sim s stands late = record {
+    report = run_text p s.trace;
+    verdict = Runs r p s.trace calls s.runs.run (λ t port within has. s.runs.clean t port within has) refl refl refl;
+    reported = subst (λ text. Appends out out' (text_to p s.trace p.cycles ++ text)) (same_memories mid held sim s stands) (rows_then_written out mid out' held (text_to p s.trace p.cycles) (Memories sim) (passed_both begun s.passed) late);
   }
 
-  pub finish_fails : (out mid out' : Option Text) (held : Text) (sim : SimValue) → Streamed ends.Done out mid held → StandsAt n sim cycles no_inputs no_loads → AppendsPrefix mid out' (held ++ Memories sim) → HasPartOfReport words contents out out'
-  finish_fails out mid out' held sim s stands late =
-      part_of_run words contents n cycles s.trace asks order ordered s.runs out out'
-      (subst (λ text. AppendsPrefix out out' (rows_text (outputs_of_net n) s.trace cycles ++ text)) (same_memories out mid held sim s stands) (rows_then_part out mid out' held (rows_text (outputs_of_net n) s.trace cycles) (Memories sim) s.passed late))
+  pub finish_fails : (mid out' : Option Text) (held : Text) (sim : SimValue) → Streamed ends.Done mid held → StandsAt p.net sim p.cycles p.inputs p.loads → AppendsPrefix mid out' (held ++ Memories sim) → HasPartOfReport words contents out out'
+  finish_fails mid out' held sim s stands late =
+      part_of_run words contents r p calls runnable s.trace s.runs out out'
+      (subst (λ text. AppendsPrefix out out' (text_to p s.trace p.cycles ++ text)) (same_memories mid held sim s stands) (rows_then_part out mid out' held (text_to p s.trace p.cycles) (Memories sim) (passed_both begun s.passed) late))
 
-  pub conflict_part : (cycle port : ℕ) (out mid out' : Option Text) (held : Text) → Streamed (ends.Conflict cycle port) out mid held → AppendsPrefix mid out' held → HasPartOfReport words contents out out'
-  conflict_part cycle port out mid out' held s late =
-      part_of_rows words contents n cycles cycle s.trace asks order ordered (omega (arith, s.runs.within)) (clean_before n cycles cycle no_inputs no_loads s.name s.trace s.runs) out out'
-      (flushed_part out mid out' held (rows_text (outputs_of_net n) s.trace cycle) s.passed late)
+  pub conflict_part : (cycle port : ℕ) (mid out' : Option Text) (held : Text) → Streamed (ends.Conflict cycle port) mid held → AppendsPrefix mid out' held → HasPartOfReport words contents out out'
+  conflict_part cycle port mid out' held s late =
+      part_of_rows words contents r p calls runnable cycle s.trace (omega (arith, s.runs.within)) (clean_before p.net p.cycles cycle p.inputs p.loads s.name s.trace s.runs) out out'
+      (flushed_part out mid out' held (text_to p s.trace cycle) (passed_both begun s.passed) late)
 
-  pub fault_leaves : (out mid : Option Text) (held : Text) → Streamed ends.WriteFault out mid held → HasPartOfReport words contents out mid
-  fault_leaves out mid held s = part_of_rows words contents n cycles s.t s.trace asks order ordered s.within s.runs out mid s.prefix
+  pub fault_leaves : (mid : Option Text) (held : Text) → Streamed ends.WriteFault mid held → HasPartOfReport words contents out mid
+  fault_leaves mid held s = part_of_rows words contents r p calls runnable s.t s.trace s.within s.runs out mid (passed_prefix (rows_text p.ports s.trace s.t) begun s.prefix)
 
-  told_conflict : (cycle port : ℕ) (names : List Text) (name : Text) (out mid out' : Option Text) (held file : Text) → names ≡ port_names (ports_of n) → slice_get names port ≡ Some name → Streamed (ends.Conflict cycle port) out mid held → Appends mid out' held → LeavesAt words contents file (stop.Refused (refusal.Conflict cycle name)) out out'
-  told_conflict cycle port names name out mid out' held file all at s late =
-      let is = name_is n names port s.name name all s.named at in
+  told_conflict : (cycle port : ℕ) (names : List Text) (name : Text) (mid out' : Option Text) (held file : Text) → names ≡ port_names (ports_of p.net) → slice_get names port ≡ Some name → Streamed (ends.Conflict cycle port) mid held → Appends mid out' held → LeavesAt words contents file (stop.Refused (refusal.Conflict cycle name)) out out'
+  told_conflict cycle port names name mid out' held file all at s late =
+      let is = name_is p.net names port s.name name all s.named at in
       subst (λ told. LeavesAt words contents file (stop.Refused (refusal.Conflict cycle told)) out out') is (record {
-        report = rows_text (outputs_of_net n) s.trace cycle;
-        verdict = Clashes n cycles cycle s.trace s.name asks s.runs.run s.runs.reported refl refl refl;
-        reported = flushed_all out mid out' held (rows_text (outputs_of_net n) s.trace cycle) s.passed late;
+        report = text_to p s.trace cycle;
+        verdict = Clashes r p cycle s.trace s.name calls s.runs.run s.runs.reported refl refl refl;
+        reported = flushed_all out mid out' held (text_to p s.trace cycle) (passed_both begun s.passed) late;
       })
 
-  pub conflict_leaves : (cycle port : ℕ) (names : List Text) (why : Stop) (out mid out' : Option Text) (held file : Text) → names ≡ port_names (ports_of n) → (why ≡ stop.Memory) ⊎ ((name : Text) × (slice_get names port ≡ Some name) × (why ≡ stop.Refused (refusal.Conflict cycle name))) → Streamed (ends.Conflict cycle port) out mid held → Appends mid out' held → LeavesAt words contents file why out out'
-  conflict_leaves cycle port names why out mid out' held file all (inl e) s late =
-      subst (λ w. LeavesAt words contents file w out out') (sym e) (conflict_part cycle port out mid out' held s (whole_prefix mid out' held late))
-  conflict_leaves cycle port names why out mid out' held file all (inr (name, at, e)) s late =
-      subst (λ w. LeavesAt words contents file w out out') (sym e) (told_conflict cycle port names name out mid out' held file all at s late)
+  pub conflict_leaves : (cycle port : ℕ) (names : List Text) (why : Stop) (mid out' : Option Text) (held file : Text) → names ≡ port_names (ports_of p.net) → (why ≡ stop.Memory) ⊎ ((name : Text) × (slice_get names port ≡ Some name) × (why ≡ stop.Refused (refusal.Conflict cycle name))) → Streamed (ends.Conflict cycle port) mid held → Appends mid out' held → LeavesAt words contents file why out out'
+  conflict_leaves cycle port names why mid out' held file all (inl e) s late =
+      subst (λ w. LeavesAt words contents file w out out') (sym e) (conflict_part cycle port mid out' held s (whole_prefix mid out' held late))
+  conflict_leaves cycle port names why mid out' held file all (inr (name, at, e)) s late =
+      subst (λ w. LeavesAt words contents file w out out') (sym e) (told_conflict cycle port names name mid out' held file all at s late)
+
+-- the text before the rows is a part of the report
+pub head_part : (words : List Text) (contents : Text → Option Text) (r : Request) (p : PrintedRun) → CallsFor words contents r p → IsRunnable p → (out out' : Option Text) → AppendsPrefix out out' p.head → HasPartOfReport words contents out out'
+head_part words contents r p calls runnable out out' prefix =
+    part_of_rows words contents r p calls runnable 0 (λ t port. 0) (omega arith) (record {
+      run = record { rows = λ u lt. absurd (omega (arith, lt)); goes_on = λ u lt. absurd (omega (arith, lt)); ends = inl refl };
+      clean = λ u port lt. absurd (omega (arith, lt));
+    }) out out' (subst (λ text. AppendsPrefix out out' text) (sym (append-nil p.head)) prefix)
+
+-- what a row shows are ports of the netlist
+pub shown_is_port : (n : Netlist) (all : Bool) (port : Text) → Contains (shown_ports n all) port → IsPort n port
+shown_is_port n true port has = has
+shown_is_port n false port has = output_is_port n port has
+
+-- what is ready can be run
+pub runnable_from : (built : Built) (list : CycleList) (head : Text) (all : Bool) → IsReady built → IsRunnable (run_from (netlist_of built.net) list head all)
+runnable_from built list head all ready = record {
+  valid = ready.valid;
+  order = built.order.ports;
+  ordered = ready.order.ports;
+  ports = λ port has. shown_is_port (netlist_of built.net) all port has;
+}
+
+loads_done : (net : Net) (old new : SimValue) (loads : List Load) → IsLoadedSim net no_loads old → ((before : Text → List ℕ) → IsLoadedSim old.net before old → IsLoadedSim old.net (after_loads (netlist_of old.net) loads before) new) → IsLoadedSim net (after_loads (netlist_of net) loads no_loads) new
+loads_done net old new loads is more =
+    subst (λ (m : Net). IsLoadedSim m (after_loads (netlist_of m) loads no_loads) new) is.net_is
+    (more no_loads (subst (λ (m : Net). IsLoadedSim m no_loads old) (sym is.net_is) is))
+
+-- a new simulation stands before row 0 of the run, once the loads of the list are made
+pub stands_loaded : (net : Net) (list : CycleList) (old new : SimValue) (given : List MemLoad) → given ≡ list.loads.items → IsLoadedSim net no_loads old → ((before : Text → List ℕ) → IsLoadedSim old.net before old → IsLoadedSim old.net (after_loads (netlist_of old.net) (map load_seen given) before) new) → StandsAt (netlist_of net) new 0 (driven (netlist_of net) list.sets.items) (after_loads (netlist_of net) (map load_seen list.loads.items) no_loads)
+stands_loaded net list old new given are is more =
+    let n = netlist_of net in
+    let loaded = loads_done net old new (map load_seen given) is more in
+    loaded_stands net n (after_loads n (map load_seen list.loads.items) no_loads) new (driven n list.sets.items) refl
+    (subst (λ (loads : List MemLoad). IsLoadedSim net (after_loads n (map load_seen loads) no_loads) new) are loaded)

@@ -26,7 +26,7 @@ named_in design n c at =
     Contains-slice_get (component_names design) n c.name (slice_get-map (λ (d : Component). d.name) design n ∙ ap (option_map (λ (d : Component). d.name)) at)
 
 -- two numbers of the top component are one
-one_number : (design : Design) (m n : ℕ) → IsTop design m → IsTop design n → m ≡ n
+pub one_number : (design : Design) (m n : ℕ) → IsTop design m → IsTop design n → m ≡ n
 one_number design m n first second =
     ⊎_elim
     (λ main. ⊎_elim

@@ -1,24 +1,38 @@
 -- What reading a file makes of its text.
-use Rattle.std.specs.Prelude.{◌≡◌, ℕ, List, [], map, slice_index_or, Option}
+use Rattle.std.specs.Prelude.{◌≡◌, ℕ, ◌<◌, ◌≤◌, List, [], filter, length, map, slice_index_or, Option, Some, All}
+use Rattle.hw_bits.specs.Values.{widths_of}
 use Rattle.hw_names.specs.Name.{Text}
 use Rattle.fil_ast.specs.Limits.{HasSmallOffsets}
 use Rattle.fil_ast.specs.Numbers.{HasNumbers as HasNumbersOfNames}
 use Rattle.fil_ast.specs.Rules.{FilRules}
 use Rattle.fil_ast.specs.Top.{IsTop}
-use Rattle.fil_ast.specs.Tree.{design_of}
+use Rattle.fil_ast.specs.Transactions.{is_of_event}
+use Rattle.fil_ast.specs.Tree.{DataPort, Component, design_of}
 use Rattle.fil_ast.specs.declared.tree.FilDesign.{FilDesign}
+use Rattle.fil_ast.specs.declared.tx.Tx.{Tx}
+use Rattle.fil_ast.specs.declared.tx.TxList.{TxList}
+use Rattle.fil_share.specs.Uses.{LATEST}
 use Rattle.net_core.specs.Netlist.{Netlist, netlist_of}
 use Rattle.net_core.specs.Numbers.{HasNumbers}
 use Rattle.net_core.specs.Rules.{IsValid}
 use Rattle.net_core.specs.Table.{IsTableOf}
 use Rattle.net_core.specs.declared.net.Net.{Net}
 use Rattle.net_sim.specs.PortOrder.{IsPortOrderOf}
+use Rattle.net_core.specs.declared.stimulus.CycleList.{CycleList}
+use Rattle.hw_prims.specs.Table.{pin_widths}
+use Rattle.stim_read.specs.CycleRun.{run_seen}
+use Rattle.stim_read.specs.TxRun.{tx_run_seen}
+use Rattle.stim_read.specs.declared.stim_end.StimEnd.{StimEnd}
+use Rattle.filc_core.specs.Given.{FitsMemory}
+use Rattle.filc_core.specs.Inputs.{AreSetsFor}
 use Rattle.filc_core.specs.FilFile.{GivesFil, IsFilTextOf, IsAcceptedFilTextOf}
 use Rattle.filc_core.specs.FilFile
 use Rattle.filc_core.specs.NetFile.{GivesNet, IsTextOf, IsAcceptedTextOf}
 use Rattle.filc_core.specs.NetFile
 use Rattle.filc_core.specs.Request.{Request, Asks, file_of, language_of}
 use Rattle.filc_core.specs.Stops.{answer_of, refusal_line}
+use Rattle.filc_core.specs.StimulusFile.{GivesRun, GivesTransactions, IsRefusedBy}
+use Rattle.filc_core.specs.Transactions.{event_name}
 use Rattle.filc_core.specs.Verdict.{Verdict}
 use Rattle.filc_core.specs.declared.ended.Ended.{Ended}
 use Rattle.filc_core.specs.declared.language.Language.{Language}
@@ -99,9 +113,49 @@ IsOverweightDesign d why = (text : Text) → IsAcceptedFilTextOf (design_of d) t
 -- why the file that the words name gives nothing: it couldn't be read, or that is the verdict, or there was no memory
 abbrev pub IsUnread : List Text → (Text → Option Text) → Stop → Type 0
 IsUnread words contents stop.ReadFault = Unit {0}
+IsUnread words contents stop.StimulusReadFault = ⊥
 IsUnread words contents (stop.Refused why) = Verdict words contents (answer_of why) [] (refusal_line why)
 IsUnread words contents stop.WriteFault = ⊥
 IsUnread words contents stop.Memory = Unit {0}
+
+-- the content of this file is told, and this holds of it
+pub record IsToldOf (contents : Text → Option Text) (file : Text) (claim : Text → Type 0) : Type 0 where
+  pub bytes : Text
+  pub told : contents file ≡ Some bytes
+  pub holds : claim bytes
+
+-- the stimulus of this file gives the netlist this
+abbrev pub IsGivenBy : (Text → Option Text) → Text → Netlist → CycleList → Type 0
+IsGivenBy contents stimulus n list = IsToldOf contents stimulus (λ bytes. GivesRun bytes n (run_seen list))
+
+-- the stimulus of this file gives the component these transactions
+abbrev pub AreGivenBy : (Text → Option Text) → Text → Component → TxList → Type 0
+AreGivenBy contents stimulus c list = IsToldOf contents stimulus (λ bytes. GivesTransactions bytes c (tx_run_seen list))
+
+-- its settings and its loads are for the inputs and the shown memories of the netlist
+pub record FitsNet (n : Netlist) (list : CycleList) : Type 0 where
+  pub sets : AreSetsFor (pin_widths n.ins) list.sets.items
+  pub loads : All (FitsMemory n) list.loads.items
+
+-- a transaction of the component: its event is one of the component's, it starts in time, and it has a value for each data
+-- input of its event, of that input's width
+pub record FitsComponent (c : Component) (tx : Tx) : Type 0 where
+  pub event : tx.event < length c.events
+  pub start : tx.start ≤ LATEST
+  pub widths : widths_of tx.values.items ≡ map (λ (p : DataPort). p.width) (filter (is_of_event (event_name c tx.event)) c.ins)
+
+-- why a text gives nothing: one of these causes, or there was no memory
+abbrev pub GivesNothing : (StimEnd → Type 0) → Text → Stop → Type 0
+GivesNothing causes text (stop.Refused why) = IsRefusedBy causes text (answer_of why) (refusal_line why)
+GivesNothing causes text stop.Memory = Unit {0}
+GivesNothing causes text why = ⊥
+
+-- why the file of a stimulus gives nothing: it couldn't be read, or it is refused for one of these causes, or there was no memory
+abbrev pub IsNotGiven : (Text → Option Text) → Text → (Text → StimEnd → Type 0) → Stop → Type 0
+IsNotGiven contents stimulus causes stop.StimulusReadFault = Unit {0}
+IsNotGiven contents stimulus causes (stop.Refused why) = IsToldOf contents stimulus (λ bytes. IsRefusedBy (causes bytes) bytes (answer_of why) (refusal_line why))
+IsNotGiven contents stimulus causes stop.Memory = Unit {0}
+IsNotGiven contents stimulus causes why = ⊥
 
 -- the names of these ports, in order
 abbrev pub AreNamesOf : List Text → List ℕ → List Text → Type 0

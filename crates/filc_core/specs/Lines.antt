@@ -1,5 +1,5 @@
 -- The line of each refusal, without its line feed. This project's.
-use Rattle.std.specs.Prelude.{ℕ, List, [], ◌∷◌, ◌++◌, codes, decimal, flat_map}
+use Rattle.std.specs.Prelude.{ℕ, Bool, ◌==◌, nat_lt, if◌then◌else◌, List, [], ◌∷◌, ◌++◌, codes, decimal, flat_map}
 use Rattle.hw_names.specs.Name.{Text}
 use Rattle.fil_ast.specs.Evidence.{Evidence, Nothing, AnOffset, ACycle, AGap, ALoop}
 use Rattle.filc_core.specs.Language.{letter_of}
@@ -53,6 +53,30 @@ place_text rule name item = codes "refused " ++ rule ++ codes " " ++ name ++ cod
 -- the first broken rule, with what it shows
 abbrev pub rule_line : Text → Text → ℕ → Evidence → Text
 rule_line rule name item evidence = place_text rule name item ++ evidence_text evidence
+
+-- what a stimulus has too much of
+abbrev pub counted_name : Bool → Text
+counted_name cycles = if cycles then codes "cycles" else codes "transactions"
+
+-- the entry that breaks a rule of a stimulus; S1 and S2 are of no entry
+abbrev pub entry_text : ℕ → ℕ → Text
+entry_text rule entry = if nat_lt 2 rule then count_text (codes "entry") entry else []
+
+-- the rule of a stimulus, and its entry
+abbrev pub stimulus_text : ℕ → ℕ → Text
+stimulus_text rule entry = codes "stimulus S" ++ decimal rule ++ entry_text rule entry
+
+-- two starts that are too near, and the delay that is between them
+abbrev pub starts_text : ℕ → ℕ → ℕ → Text
+starts_text first second delay = codes " starts " ++ decimal first ++ codes " " ++ decimal second ++ codes " delay " ++ decimal delay
+
+-- the same for a rule of a stimulus: S5 shows it
+abbrev pub shown_starts : ℕ → ℕ → ℕ → ℕ → Text
+shown_starts rule first second delay = if rule == 5 then starts_text first second delay else []
+
+-- the first broken rule of a stimulus, with what it shows
+abbrev pub stimulus_line : ℕ → ℕ → ℕ → ℕ → ℕ → Text
+stimulus_line rule entry first second delay = stimulus_text rule entry ++ shown_starts rule first second delay
 
 abbrev pub conflict_line : ℕ → Text → Text
 conflict_line cycle port = codes "conflict cycle " ++ decimal cycle ++ codes " port " ++ port

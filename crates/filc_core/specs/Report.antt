@@ -19,6 +19,7 @@ pub record HasReport (words : List Text) (contents : Text → Option Text) (ende
 -- why the command stopped, and what of its report is there
 abbrev pub LeavesAt : List Text → (Text → Option Text) → Text → Stop → Option Text → Option Text → Type 0
 LeavesAt words contents file stop.ReadFault out out' = Keeps out out'
+LeavesAt words contents file stop.StimulusReadFault out out' = Keeps out out'
 LeavesAt words contents file (stop.Refused why) out out' = HasReport words contents (answer_of why) (refusal_line why) out out'
 LeavesAt words contents file stop.WriteFault out out' = HasPartOfReport words contents out out'
 LeavesAt words contents file stop.Memory out out' = HasPartOfReport words contents out out'

@@ -7,10 +7,12 @@ use Rattle.hw_names.specs.Name.{Text}
 use Rattle.fil_ast.specs.declared.tree.TheConstants.{MOST_OFFSET}
 use Rattle.fil_check.specs.Least.{evidence_of}
 use Rattle.filc_core.specs.Language.{most_bytes, most_nesting}
-use Rattle.filc_core.specs.Lines.{as_line, read_fault_line, limit_line, token_line, grammar_line, rule_name, rule_line, conflict_line, memory_line}
+use Rattle.filc_core.specs.Lines.{as_line, read_fault_line, limit_line, token_line, grammar_line, rule_name, rule_line, counted_name, stimulus_line, conflict_line, memory_line}
+use Rattle.filc_core.specs.Request.{Request, RunOf, TransactionsOf, file_of, stimulus_name}
 use Rattle.filc_core.specs.declared.ended.Ended.{Ended}
-use Rattle.filc_core.specs.declared.ended.Ended.TheVariants.{Refused, ReadFault, WriteFault, Memory, Conflict, Limit}
-use Rattle.filc_core.specs.declared.limits.TheConstants.{MOST_WEIGHT, MOST_WORDS, MOST_CYCLES}
+use Rattle.filc_core.specs.declared.ended.Ended.TheVariants.{Refused, ReadFault, WriteFault, Memory, Stimulus, Conflict, Limit}
+use Rattle.filc_core.specs.declared.limits.TheConstants.{MOST_STIMULUS_BYTES, MOST_WEIGHT, MOST_WORDS}
+use Rattle.stim_read.specs.declared.limits.TheConstants.{MOST_CYCLES}
 use Rattle.filc_core.specs.declared.refusal.Refusal.{Refusal}
 use Rattle.filc_core.specs.declared.refusal.Refusal.TheVariants as refusal
 use Rattle.filc_core.specs.declared.stop.Stop.{Stop}
@@ -30,6 +32,9 @@ answer_of (refusal.BreaksRule language rule name item evidence) = Refused
 answer_of (refusal.IsTooHeavy weight) = Limit
 answer_of (refusal.HasTooManyWords words) = Limit
 answer_of (refusal.TooManyCycles cycles) = Limit
+answer_of refusal.StimulusTooLong = Limit
+answer_of (refusal.BreaksStimulusRule rule entry first second delay) = Stimulus
+answer_of (refusal.StimulusTooLarge count limit cycles) = Limit
 answer_of (refusal.Conflict cycle port) = Conflict
 
 abbrev pub refusal_line : Refusal → Text
@@ -42,20 +47,43 @@ refusal_line (refusal.BreaksRule language rule name item evidence) = rule_line (
 refusal_line (refusal.IsTooHeavy weight) = limit_line (codes "weight") weight MOST_WEIGHT
 refusal_line (refusal.HasTooManyWords words) = limit_line (codes "words") words MOST_WORDS
 refusal_line (refusal.TooManyCycles cycles) = limit_line (codes "cycles") cycles MOST_CYCLES
+refusal_line refusal.StimulusTooLong = limit_line (codes "stimulus") (MOST_STIMULUS_BYTES + 1) MOST_STIMULUS_BYTES
+refusal_line (refusal.BreaksStimulusRule rule entry first second delay) = stimulus_line rule entry first second delay
+refusal_line (refusal.StimulusTooLarge count limit cycles) = limit_line (counted_name cycles) count limit
 refusal_line (refusal.Conflict cycle port) = conflict_line cycle port
 
 abbrev pub ended_of : Stop → Ended
 ended_of stop.ReadFault = ReadFault
+ended_of stop.StimulusReadFault = ReadFault
 ended_of (stop.Refused why) = answer_of why
 ended_of stop.WriteFault = WriteFault
 ended_of stop.Memory = Memory
 
--- the line that tells it, where the file is the one that was read; a report that couldn't be written has none
-abbrev pub line_of : Text → Stop → Text
-line_of file stop.ReadFault = read_fault_line file
-line_of file (stop.Refused why) = refusal_line why
-line_of file stop.WriteFault = []
-line_of file stop.Memory = memory_line
+-- the design stands against it, or a sink, or memory: not a stimulus
+abbrev pub IsOfDesign : Stop → Type 0
+IsOfDesign stop.StimulusReadFault = ⊥
+IsOfDesign (stop.Refused (refusal.BreaksStimulusRule rule entry first second delay)) = ⊥
+IsOfDesign why = Unit {0}
+
+-- a report stops in the middle for a sink, or for memory
+abbrev pub IsWritingStop : Stop → Type 0
+IsWritingStop stop.WriteFault = Unit {0}
+IsWritingStop stop.Memory = Unit {0}
+IsWritingStop why = ⊥
+
+-- only a request that takes a stimulus stops for one
+abbrev pub IsStopOf : Request → Stop → Type 0
+IsStopOf (RunOf command file stimulus) why = Unit {0}
+IsStopOf (TransactionsOf command file stimulus) why = Unit {0}
+IsStopOf r why = IsOfDesign why
+
+-- the line that tells it, where this was asked for; a report that couldn't be written has none
+abbrev pub line_of : Request → Stop → Text
+line_of r stop.ReadFault = read_fault_line (file_of r)
+line_of r stop.StimulusReadFault = read_fault_line (stimulus_name r)
+line_of r (stop.Refused why) = refusal_line why
+line_of r stop.WriteFault = []
+line_of r stop.Memory = memory_line
 
 -- the answer where the line can't be written: want of memory stays
 abbrev pub untold_of : Stop → Ended
@@ -67,5 +95,5 @@ abbrev pub IsLineTold : Text → Ended → Ended → Ended → Option Text → O
 IsLineTold line told untold ended err err' err_rose =
     ((ended ≡ told) × Appends err err' (as_line line)) ⊎ ((ended ≡ untold) × err_rose × AppendsPrefix err err' (as_line line))
 
-abbrev pub IsTold : Text → Stop → Ended → Option Text → Option Text → Type 0 → Type 0
-IsTold file why ended err err' err_rose = IsLineTold (line_of file why) (ended_of why) (untold_of why) ended err err' err_rose
+abbrev pub IsTold : Request → Stop → Ended → Option Text → Option Text → Type 0 → Type 0
+IsTold r why ended err err' err_rose = IsLineTold (line_of r why) (ended_of why) (untold_of why) ended err err' err_rose

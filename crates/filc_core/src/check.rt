@@ -1,9 +1,11 @@
 //! The command `check`: whether a design keeps the rules.
-ghost use Rattle.std.specs.Prelude.{◌≡◌, ◌≤◌, List, ℕ, IsSome, IsErrOf, OnOk, OnErr};
+ghost use Rattle.std.specs.Prelude.{◌≡◌, ◌≤◌, List, ℕ, IfErr, IsErrOf, OnOk, OnErr};
 ghost use Rattle.std.specs.Io.KnownBytes.{Appends, Keeps};
 ghost use Rattle.hw_io.specs.Faults.{Rose};
 ghost use Rattle.hw_io.specs.Reading.{KeepsFiles, IsReadFault};
 ghost use Rattle.hw_io.specs.Writing.{AppendsPrefix};
+ghost use Rattle.filc_core.specs.Stops.{IsOfDesign};
+ghost use Rattle.filc_core.specs.Ending.{AreTold};
 ghost use Rattle.filc_core.specs.Report.{Leaves};
 ghost use Rattle.filc_core.specs.Request.{CheckOf, Asks};
 ghost use Rattle.filc_core.specs.Rows.{accepted_text};
@@ -32,11 +34,12 @@ pub(crate) fn check_netlist<F: Files, O: Sink>(
     out: &mut O,
 ) -> Result<(), Stop>
     ensures files { KeepsFiles F.names F.content F.faults file.now files.old files.new }
-    ensures leaves { (words : List (List ℕ)) → Asks words (CheckOf Netlists file.now) → IsSome (F.content files.old file.now)
+    ensures leaves { (words : List (List ℕ)) → Asks words (CheckOf Netlists file.now) → AreTold words (F.content files.old)
         → Leaves words (F.content files.old) file.now result (O.written out.old) (O.written out.new) }
     ensures read_fault { IsErrOf result Stop.ReadFault
         → IsReadFault (F.names files.old) file.now (F.faults files.old file.now) (F.faults files.new file.now) }
     ensures unreported { IsErrOf result Stop.ReadFault → Keeps (O.written out.old) (O.written out.new) }
+    ensures of_design { IfErr result IsOfDesign }
     ensures write_fault { IsErrOf result Stop.WriteFault → Rose (O.faults out.old) (O.faults out.new) }
     ensures never_falls { O.faults out.old ≤ O.faults out.new }
 {
@@ -53,11 +56,12 @@ pub(crate) fn check_filament<F: Files, O: Sink>(
     out: &mut O,
 ) -> Result<(), Stop>
     ensures files { KeepsFiles F.names F.content F.faults file.now files.old files.new }
-    ensures leaves { (words : List (List ℕ)) → Asks words (CheckOf Filament file.now) → IsSome (F.content files.old file.now)
+    ensures leaves { (words : List (List ℕ)) → Asks words (CheckOf Filament file.now) → AreTold words (F.content files.old)
         → Leaves words (F.content files.old) file.now result (O.written out.old) (O.written out.new) }
     ensures read_fault { IsErrOf result Stop.ReadFault
         → IsReadFault (F.names files.old) file.now (F.faults files.old file.now) (F.faults files.new file.now) }
     ensures unreported { IsErrOf result Stop.ReadFault → Keeps (O.written out.old) (O.written out.new) }
+    ensures of_design { IfErr result IsOfDesign }
     ensures write_fault { IsErrOf result Stop.WriteFault → Rose (O.faults out.old) (O.faults out.new) }
     ensures never_falls { O.faults out.old ≤ O.faults out.new }
 {

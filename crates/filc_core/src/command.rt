@@ -1,22 +1,24 @@
 //! The top call: from the words of the command line to the answer.
-ghost use Rattle.std.specs.Prelude.{◌≡◌, ◌≤◌, ◌⊎◌, List, ℕ, IsSome, IsErrOf, map};
+ghost use Rattle.std.specs.Prelude.{◌≡◌, ◌≤◌, ◌⊎◌, List, ℕ, IfErr, IsErrOf, map};
 ghost use Rattle.std.specs.Io.KnownBytes.{Keeps};
-ghost use Rattle.hw_io.specs.Reading.{KeepsFiles, IsReadFault};
+ghost use Rattle.hw_io.specs.Reading.{IsReadFault};
 ghost use Rattle.filc_core.specs.Report.{Leaves};
-ghost use Rattle.filc_core.specs.Request.{file_of, Asks};
+ghost use Rattle.filc_core.specs.Request.{file_of, stimulus_name, Asks};
 ghost use Rattle.filc_core.specs.Words.{request_of};
 ghost use Rattle.hw_io.specs.Faults.{Rose};
 ghost use Rattle.hw_io.specs.Writing.{AppendsPrefix};
-ghost use Rattle.filc_core.specs.Ending.{IsVerdictEnd, IsCalledFor, AreTold, IsAnswered, HasReadFault, HasWriteFault, HasPartOfReport, KeepsOtherFiles, MeetsNoFault, IsComplete};
+ghost use Rattle.filc_core.specs.Ending.{IsVerdictEnd, IsCalledFor, AreTold, IsAnswered, HasReadFault, HasWriteFault, HasPartOfReport, HasReadCause, KeepsUnread, KeepsOtherFiles, MeetsNoFault, IsComplete};
 ghost use Rattle.filc_core.specs.Lines.{as_line, usage_line, memory_line};
-ghost use Rattle.filc_core.specs.Stops.{IsLineTold};
+ghost use Rattle.filc_core.specs.Stops.{IsLineTold, IsStopOf};
 
 use crate::check::{check_filament, check_netlist};
 use crate::ended::Ended;
 use crate::language::Language;
 use crate::request::{Request, asked};
 use crate::rows::rows;
+use crate::simulate::simulate;
 use crate::stop::Stop;
+use crate::transact::transact;
 use hw_io::{Failed, Files, Sink, write_whole};
 use std::alloc::Global;
 
@@ -36,7 +38,7 @@ pub fn filc<F: Files, O: Sink, E: Sink>(
     ensures called_for { IsCalledFor (map (λ w. w.now) words.now) result }
 
     // Each other answer has its cause.
-    ensures read_fault { result ≡ Ended.ReadFault → HasReadFault (map (λ w. w.now) words.now) (F.names files.old)
+    ensures read_fault { result ≡ Ended.ReadFault → HasReadFault (map (λ w. w.now) words.now) (F.content files.old) (F.names files.old)
         (F.faults files.old) (F.faults files.new) (O.written out.old) (O.written out.new) (E.written err.old) (E.written err.new) }
     ensures write_rose { result ≡ Ended.WriteFault → Rose (O.faults out.old) (O.faults out.new) ⊎ Rose (E.faults err.old) (E.faults err.new) }
     ensures write_fault { result ≡ Ended.WriteFault → AreTold (map (λ w. w.now) words.now) (F.content files.old)
@@ -61,7 +63,7 @@ pub fn filc<F: Files, O: Sink, E: Sink>(
     };
     match perform(alloc, request, files, out) {
         Ok(()) => Ended::Done,
-        Err(stop) => stop.tell(request.file(), err),
+        Err(stop) => stop.tell(request, err),
     }
 }
 
@@ -72,12 +74,16 @@ fn perform<F: Files, O: Sink>(
     files: &mut F,
     out: &mut O,
 ) -> Result<(), Stop>
-    ensures files { KeepsFiles F.names F.content F.faults (file_of (request_of request.entry)) files.old files.new }
-    ensures leaves { (words : List (List ℕ)) → Asks words (request_of request.entry) → IsSome (F.content files.old (file_of (request_of request.entry)))
+    ensures files { KeepsUnread (request_of request.entry) F.names F.content F.faults files.old files.new }
+    ensures leaves { (words : List (List ℕ)) → Asks words (request_of request.entry) → AreTold words (F.content files.old)
         → Leaves words (F.content files.old) (file_of (request_of request.entry)) result (O.written out.old) (O.written out.new) }
     ensures read_fault { IsErrOf result Stop.ReadFault
         → IsReadFault (F.names files.old) (file_of (request_of request.entry)) (F.faults files.old (file_of (request_of request.entry))) (F.faults files.new (file_of (request_of request.entry))) }
+    ensures stimulus_read_fault { (words : List (List ℕ)) → Asks words (request_of request.entry) → IsErrOf result Stop.StimulusReadFault
+        → HasReadCause words (F.content files.old) (F.names files.old) (F.faults files.old) (F.faults files.new) (stimulus_name (request_of request.entry)) }
+    ensures of { IfErr result (IsStopOf (request_of request.entry)) }
     ensures unreported { IsErrOf result Stop.ReadFault → Keeps (O.written out.old) (O.written out.new) }
+    ensures unreported_stimulus { IsErrOf result Stop.StimulusReadFault → Keeps (O.written out.old) (O.written out.new) }
     ensures write_fault { IsErrOf result Stop.WriteFault → Rose (O.faults out.old) (O.faults out.new) }
     ensures never_falls { O.faults out.old ≤ O.faults out.new }
 {
@@ -91,6 +97,16 @@ fn perform<F: Files, O: Sink>(
             file,
         } => check_filament(alloc, file, files, out),
         Request::Rows { file, cycles } => rows(alloc, file, cycles, files, out),
+        Request::Run {
+            command,
+            file,
+            stimulus,
+        } => simulate(alloc, command, file, stimulus, files, out),
+        Request::Transactions {
+            command,
+            file,
+            stimulus,
+        } => transact(alloc, command, file, stimulus, files, out),
     }
 }
 

@@ -12,10 +12,11 @@ ghost use Rattle.fil_check.specs.First.{TellsFirst};
 ghost use Rattle.fil_check.specs.Least.{evidence_of};
 ghost use Rattle.fil_parse.specs.Spelling.{EndsBy};
 ghost use Rattle.fil_parse.specs.Written.{DesignIsWritten};
+ghost use Rattle.filc_core.specs.Stops.{IsOfDesign};
 ghost use Rattle.filc_core.specs.Built.{AsksFor, IsDesignOf, IsFilBuiltFrom, IsFilReady, IsOverweightDesign, IsUnbuilt, IsUnfitDesign, IsUnread};
 ghost use Rattle.filc_core.specs.FilFile.{IsLight};
 ghost use Rattle.filc_core.specs.Request.{Request};
-ghost use Rattle.filc_core.specs.Verdict.{ReadsFil};
+ghost use Rattle.filc_core.specs.Reads.{ReadsFil};
 
 use crate::language::Language;
 use crate::limits::MOST_WEIGHT;
@@ -49,6 +50,7 @@ pub(crate) fn load<F: Files>(alloc: Global, file: &str, files: &mut F) -> Result
     ensures read_fault { IsErrOf result Stop.ReadFault
         → IsReadFault (F.names files.old) file.now (F.faults files.old file.now) (F.faults files.new file.now) }
     ensures no_write_fault { IsErrOf result Stop.WriteFault → ⊥ }
+    ensures of_design { IfErr result IsOfDesign }
 {
     let text = read_source(alloc, Language::Filament, file, files)?;
     build(alloc, &text)

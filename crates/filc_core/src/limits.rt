@@ -15,5 +15,5 @@ pub const MOST_WEIGHT: u64 = 1_000_000;
 /// The most words of all memories of a design.
 pub const MOST_WORDS: u64 = 1_048_576;
 
-/// The most rows of a run.
-pub const MOST_CYCLES: u64 = 1_000_000;
+/// The most bytes of a stimulus.
+pub const MOST_STIMULUS_BYTES: u64 = 16_777_216;

@@ -5,7 +5,7 @@ ghost use Rattle.hw_io.specs.Faults.{Rose};
 ghost use Rattle.hw_io.specs.Writing.{AppendsPrefix};
 ghost use Rattle.fil_ast.specs.Evidence.{AGap};
 ghost use Rattle.fil_check.specs.Least.{evidence_of, loop_of};
-ghost use Rattle.filc_core.specs.Lines.{as_line, read_fault_line, limit_line, token_line, grammar_line, rule_name, place_text, rule_line, spaced, count_text, evidence_text, conflict_line};
+ghost use Rattle.filc_core.specs.Lines.{as_line, read_fault_line, limit_line, token_line, grammar_line, rule_name, place_text, rule_line, spaced, count_text, evidence_text, entry_text, stimulus_text, starts_text, shown_starts, stimulus_line, conflict_line};
 ghost use Rattle.filc_core.specs.Stops.{joined};
 
 use crate::language::Language;
@@ -218,6 +218,95 @@ pub(crate) fn write_rule<S: Sink>(
 {
     write_place(sink, language, rule, name, item)?;
     write_evidence(sink, evidence)?;
+    write_whole(sink, "\n".as_bytes())
+}
+
+/// Writes the entry that breaks a rule of a stimulus, where the rule is of one.
+fn write_entry<S: Sink>(sink: &mut S, rule: u8, entry: u64) -> Result<(), Failed>
+    ensures appended { OnOk result (Appends (S.written sink.old) (S.written sink.new) (entry_text rule entry)) }
+    ensures prefix { OnErr result (AppendsPrefix (S.written sink.old) (S.written sink.new) (entry_text rule entry)) }
+    ensures failed { OnErr result (Rose (S.faults sink.old) (S.faults sink.new)) }
+    ensures never_falls { S.faults sink.old ≤ S.faults sink.new }
+{
+    if rule > 2 {
+        write_count(sink, "entry", entry)
+    } else {
+        Ok(())
+    }
+}
+
+/// Writes the rule of a stimulus, and its entry.
+fn write_stimulus_rule<S: Sink>(sink: &mut S, rule: u8, entry: u64) -> Result<(), Failed>
+    ensures appended { OnOk result (Appends (S.written sink.old) (S.written sink.new) (stimulus_text rule entry)) }
+    ensures prefix { OnErr result (AppendsPrefix (S.written sink.old) (S.written sink.new) (stimulus_text rule entry)) }
+    ensures failed { OnErr result (Rose (S.faults sink.old) (S.faults sink.new)) }
+    ensures never_falls { S.faults sink.old ≤ S.faults sink.new }
+{
+    let mut number = Buffer::new();
+    write_texts(
+        sink,
+        &["stimulus S".as_bytes(), number.format(rule).as_bytes()],
+    )?;
+    write_entry(sink, rule, entry)
+}
+
+/// Writes the two starts that are too near, and the delay that is between them.
+fn write_starts<S: Sink>(sink: &mut S, first: u64, second: u64, delay: u64) -> Result<(), Failed>
+    ensures appended { OnOk result (Appends (S.written sink.old) (S.written sink.new) (starts_text first second delay)) }
+    ensures prefix { OnErr result (AppendsPrefix (S.written sink.old) (S.written sink.new) (starts_text first second delay)) }
+    ensures failed { OnErr result (Rose (S.faults sink.old) (S.faults sink.new)) }
+    ensures never_falls { S.faults sink.old ≤ S.faults sink.new }
+{
+    let mut before = Buffer::new();
+    let mut after = Buffer::new();
+    let mut least = Buffer::new();
+    let texts = [
+        " starts ".as_bytes(),
+        before.format(first).as_bytes(),
+        " ".as_bytes(),
+        after.format(second).as_bytes(),
+        " delay ".as_bytes(),
+        least.format(delay).as_bytes(),
+    ];
+    write_texts(sink, &texts)
+}
+
+/// Writes the same for a rule of a stimulus: S5 shows it.
+fn write_shown_starts<S: Sink>(
+    sink: &mut S,
+    rule: u8,
+    first: u64,
+    second: u64,
+    delay: u64,
+) -> Result<(), Failed>
+    ensures appended { OnOk result (Appends (S.written sink.old) (S.written sink.new) (shown_starts rule first second delay)) }
+    ensures prefix { OnErr result (AppendsPrefix (S.written sink.old) (S.written sink.new) (shown_starts rule first second delay)) }
+    ensures failed { OnErr result (Rose (S.faults sink.old) (S.faults sink.new)) }
+    ensures never_falls { S.faults sink.old ≤ S.faults sink.new }
+{
+    if rule == 5 {
+        write_starts(sink, first, second, delay)
+    } else {
+        Ok(())
+    }
+}
+
+/// Writes the line of a stimulus that breaks this rule S1 to S7.
+pub(crate) fn write_stimulus<S: Sink>(
+    sink: &mut S,
+    rule: u8,
+    entry: u64,
+    first: u64,
+    second: u64,
+    delay: u64,
+) -> Result<(), Failed>
+    ensures appended { OnOk result (Appends (S.written sink.old) (S.written sink.new) (as_line (stimulus_line rule entry first second delay))) }
+    ensures prefix { OnErr result (AppendsPrefix (S.written sink.old) (S.written sink.new) (as_line (stimulus_line rule entry first second delay))) }
+    ensures failed { OnErr result (Rose (S.faults sink.old) (S.faults sink.new)) }
+    ensures never_falls { S.faults sink.old ≤ S.faults sink.new }
+{
+    write_stimulus_rule(sink, rule, entry)?;
+    write_shown_starts(sink, rule, first, second, delay)?;
     write_whole(sink, "\n".as_bytes())
 }
 

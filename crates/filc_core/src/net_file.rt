@@ -10,9 +10,10 @@ ghost use Rattle.net_core.specs.Weight.{weight_of};
 ghost use Rattle.net_core.specs.Words.{words_of};
 ghost use Rattle.net_sim.specs.Order.{IsLeastLoopOf};
 ghost use Rattle.net_sim.specs.PortOrder.{IsPortOrderOf};
+ghost use Rattle.filc_core.specs.Stops.{IsOfDesign};
 ghost use Rattle.filc_core.specs.Built.{AsksFor, IsNetOf, IsReady, IsBuiltFrom, IsUnbuilt, IsUnfit, IsOverweight, IsUnread, AreNamesOf};
 ghost use Rattle.filc_core.specs.Request.{Request};
-ghost use Rattle.filc_core.specs.Verdict.{ReadsNet};
+ghost use Rattle.filc_core.specs.Reads.{ReadsNet};
 ghost use Rattle.filc_core.specs.declared.limits.TheConstants.{MOST_NET_BYTES, MOST_WEIGHT, MOST_WORDS};
 
 use crate::language::Language;
@@ -50,6 +51,7 @@ pub(crate) fn load<F: Files>(alloc: Global, file: &str, files: &mut F) -> Result
     ensures read_fault { IsErrOf result Stop.ReadFault
         → IsReadFault (F.names files.old) file.now (F.faults files.old file.now) (F.faults files.new file.now) }
     ensures no_write_fault { IsErrOf result Stop.WriteFault → ⊥ }
+    ensures of_design { IfErr result IsOfDesign }
 {
     let text = read_source(alloc, Language::Netlists, file, files)?;
     build(alloc, &text)

@@ -3,17 +3,20 @@ ghost use Rattle.std.specs.Prelude.{◌≡◌, ◌≤◌, OnOk, OnErr};
 ghost use Rattle.std.specs.Io.KnownBytes.{Appends};
 ghost use Rattle.hw_io.specs.Faults.{Rose};
 ghost use Rattle.hw_io.specs.Writing.{AppendsPrefix};
-ghost use Rattle.filc_core.specs.Lines.{as_line};
+ghost use Rattle.filc_core.specs.Lines.{as_line, counted_name};
 ghost use Rattle.filc_core.specs.Stops.{answer_of, refusal_line};
 
 use crate::ended::Ended;
 use crate::language::Language;
-use crate::limits::{MOST_CYCLES, MOST_WEIGHT, MOST_WORDS};
-use crate::line::{write_conflict, write_grammar, write_limit, write_rule, write_token};
+use crate::limits::{MOST_STIMULUS_BYTES, MOST_WEIGHT, MOST_WORDS};
+use crate::line::{
+    write_conflict, write_grammar, write_limit, write_rule, write_stimulus, write_token,
+};
 use fil_ast::MOST_OFFSET;
 use fil_check::Evidence;
 use hw_io::{Failed, Sink};
 use hw_names::Word;
+use stim_read::MOST_CYCLES;
 
 /// Why what is asked for is refused, or its run ends early.
 #[derive(Debug, Drop)]
@@ -59,6 +62,23 @@ pub(crate) enum Refusal {
     TooManyCycles {
         cycles: u64,
     },
+    /// The stimulus has more bytes than the limit.
+    StimulusTooLong,
+    /// The stimulus breaks this rule S1 to S7 in this entry, and none before; for S5 the two starts and the delay
+    /// between them are told.
+    BreaksStimulusRule {
+        rule: u8,
+        entry: u64,
+        first: u64,
+        second: u64,
+        delay: u64,
+    },
+    /// The stimulus has more transactions, or more cycles where `cycles` says so, than the limit.
+    StimulusTooLarge {
+        count: u64,
+        limit: u64,
+        cycles: bool,
+    },
     /// Two assignments or more drive the port in this cycle.
     Conflict {
         cycle: u64,
@@ -75,6 +95,7 @@ impl Refusal {
             Refusal::HasNoTokens { .. }
             | Refusal::HasNoGrammar { .. }
             | Refusal::BreaksRule { .. } => Ended::Refused,
+            Refusal::BreaksStimulusRule { .. } => Ended::Stimulus,
             Refusal::Conflict { .. } => Ended::Conflict,
             _ => Ended::Limit,
         }
@@ -117,7 +138,30 @@ impl Refusal {
             Refusal::TooManyCycles { cycles } => {
                 write_limit(err, "cycles", *cycles as u128, MOST_CYCLES as u128)
             }
+            Refusal::StimulusTooLong => {
+                let most = MOST_STIMULUS_BYTES as u128;
+                write_limit(err, "stimulus", most + 1, most)
+            }
+            Refusal::BreaksStimulusRule {
+                rule,
+                entry,
+                first,
+                second,
+                delay,
+            } => write_stimulus(err, *rule, *entry, *first, *second, *delay),
+            Refusal::StimulusTooLarge {
+                count,
+                limit,
+                cycles,
+            } => write_limit(err, counted(*cycles), *count as u128, *limit as u128),
             Refusal::Conflict { cycle, port } => write_conflict(err, *cycle, port.bytes()),
         }
     }
+}
+
+/// What a stimulus has too much of: cycles, or transactions.
+fn counted(cycles: bool) -> &'static str
+    ensures { result.now ≡ counted_name cycles }
+{
+    if cycles { "cycles" } else { "transactions" }
 }

@@ -31,7 +31,7 @@ pub(crate) fn push_texts<O: Sink>(
 }
 
 /// Passes a port with its value on.
-fn push_port<O: Sink>(
+pub(crate) fn push_port<O: Sink>(
     held: &mut Gather,
     out: &mut O,
     port: &[u8],

@@ -1,10 +1,11 @@
 //! The text of a file.
 ghost use Rattle.std.specs.Prelude.{◌≤◌, List, ℕ, IfOk, IfErr, IsErrOf, IsSome, length};
 ghost use Rattle.hw_io.specs.Reading.{KeepsFiles, IsReadFault};
+ghost use Rattle.filc_core.specs.Stops.{IsOfDesign};
 ghost use Rattle.filc_core.specs.Built.{AsksFor, IsUnread};
 ghost use Rattle.filc_core.specs.Language.{most_bytes};
 ghost use Rattle.filc_core.specs.Request.{Request};
-ghost use Rattle.filc_core.specs.Verdict.{Reads};
+ghost use Rattle.filc_core.specs.Reads.{Reads};
 
 use crate::language::Language;
 use crate::refusal::Refusal;
@@ -28,6 +29,7 @@ pub(crate) fn read_source<F: Files>(
     ensures read_fault { IsErrOf result Stop.ReadFault
         → IsReadFault (F.names files.old) file.now (F.faults files.old file.now) (F.faults files.new file.now) }
     ensures no_write_fault { IsErrOf result Stop.WriteFault → ⊥ }
+    ensures of_design { IfErr result IsOfDesign }
 {
     match read_whole(alloc, files, file, language.most_bytes()) {
         Ok(text) => Ok(text),

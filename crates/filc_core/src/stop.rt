@@ -5,18 +5,22 @@ ghost use Rattle.hw_io.specs.Faults.{Rose};
 ghost use Rattle.hw_io.specs.Writing.{AppendsPrefix};
 ghost use Rattle.filc_core.specs.Lines.{as_line};
 ghost use Rattle.filc_core.specs.Stops.{ended_of, untold_of, line_of, IsTold};
+ghost use Rattle.filc_core.specs.Words.{request_of};
 
 use crate::ended::Ended;
 use crate::line::write_read_fault;
 use crate::refusal::Refusal;
+use crate::request::Request;
 use hw_bits::Memory;
 use hw_io::{Failed, Sink, write_whole};
 
 /// Why a command stops before its report is whole.
 #[derive(Debug, Drop)]
 pub(crate) enum Stop {
-    /// The file isn't known, or its count of faults rose.
+    /// The file of the design isn't known, or its count of faults rose.
     ReadFault,
+    /// The file of the stimulus isn't known, or its count of faults rose.
+    StimulusReadFault,
     /// What is asked for is refused, or its run ends early.
     Refused(Refusal),
     /// The report couldn't be written.
@@ -53,7 +57,7 @@ impl Stop {
         ensures { result ≡ ended_of self.now }
     {
         match self {
-            Stop::ReadFault => Ended::ReadFault,
+            Stop::ReadFault | Stop::StimulusReadFault => Ended::ReadFault,
             Stop::Refused(refusal) => refusal.answer(),
             Stop::WriteFault => Ended::WriteFault,
             Stop::Memory => Ended::Memory,
@@ -70,28 +74,29 @@ impl Stop {
         }
     }
 
-    /// Writes the line of a command that read this file.
-    fn write_line<E: Sink>(&self, file: &str, err: &mut E) -> Result<(), Failed>
-        ensures appended { OnOk result (Appends (E.written err.old) (E.written err.new) (as_line (line_of file.now self.now))) }
-        ensures prefix { OnErr result (AppendsPrefix (E.written err.old) (E.written err.new) (as_line (line_of file.now self.now))) }
+    /// Writes the line of a command that stopped so.
+    fn write_line<E: Sink>(&self, request: Request, err: &mut E) -> Result<(), Failed>
+        ensures appended { OnOk result (Appends (E.written err.old) (E.written err.new) (as_line (line_of (request_of request.entry) self.now))) }
+        ensures prefix { OnErr result (AppendsPrefix (E.written err.old) (E.written err.new) (as_line (line_of (request_of request.entry) self.now))) }
         ensures failed { OnErr result (Rose (E.faults err.old) (E.faults err.new)) }
         ensures never_falls { E.faults err.old ≤ E.faults err.new }
     {
         match self {
-            Stop::ReadFault => write_read_fault(err, file),
+            Stop::ReadFault => write_read_fault(err, request.file()),
+            Stop::StimulusReadFault => write_read_fault(err, request.stimulus()),
             Stop::Refused(refusal) => refusal.write_line(err),
             Stop::WriteFault => Ok(()),
             Stop::Memory => write_whole(err, "out of memory\n".as_bytes()),
         }
     }
 
-    /// Writes the line of a command that read this file, and gives the answer: `WriteFault` where the line can't be
+    /// Writes the line of a command that stopped so, and gives the answer: `WriteFault` where the line can't be
     /// written, but want of memory stays.
-    pub(crate) fn tell<E: Sink>(&self, file: &str, err: &mut E) -> Ended
-        ensures told { IsTold file.now self.now result (E.written err.old) (E.written err.new) (Rose (E.faults err.old) (E.faults err.new)) }
+    pub(crate) fn tell<E: Sink>(&self, request: Request, err: &mut E) -> Ended
+        ensures told { IsTold (request_of request.entry) self.now result (E.written err.old) (E.written err.new) (Rose (E.faults err.old) (E.faults err.new)) }
         ensures never_falls { E.faults err.old ≤ E.faults err.new }
     {
-        match self.write_line(file, err) {
+        match self.write_line(request, err) {
             Ok(()) => self.ended(),
             Err(Failed) => self.ended_untold(),
         }

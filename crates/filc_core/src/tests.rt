@@ -23,6 +23,95 @@ set q = 8'd2
 end
 ";
 
+// Its memory holds what the input is where it is written.
+const STORE: &str = "net store
+in d 8
+out q 8
+ext m std_mem_d1 8 2 1
+set m.addr0 = 1'd1
+set m.write_data = d
+set m.write_en = 1'd1
+set q = m.read_data
+end
+";
+
+const STORE_STIMULUS: &str =
+    r#"{"version":1,"cycles":3,"inputs":[{"from":0,"set":{"d":7}}],"memories":{"m":[9,5]}}"#;
+
+const FIVE: &str = r#"{"version":2,"cycles":5,"inputs":[]}"#;
+
+const TRACE: &str = "net store
+in d 8
+out q 8
+ext m std_mem_d1 8 2 1
+set m.addr0 = 1'd1
+set m.write_data = d
+set m.write_en = 1'd1
+set q = m.read_data
+end
+
+0 d=7 q=5 m.addr0=1 m.write_data=7 m.write_en=1 m.read_data=5 m.done=0
+1 d=7 q=7 m.addr0=1 m.write_data=7 m.write_en=1 m.read_data=7 m.done=1
+2 d=7 q=7 m.addr0=1 m.write_data=7 m.write_en=1 m.read_data=7 m.done=1
+mem m 9 7
+";
+
+// The text of the netlist, and no row.
+const CLASHED: &str = "net clash
+out q 8
+set q = 8'd1
+set q = 8'd2
+end
+
+";
+
+// A multiplication and an addition, in two rows.
+const MAC: &str =
+    "comp Mac<G: 1>(@interface[G] go: 1, @[G, G+1] a: 8, @[G, G+1] b: 8, @[G, G+1] c: 8) -> (@[G+2, G+3] out: 8) {
+  M := new FastMult[8];
+  D1 := new Delay[8];
+  D2 := new Delay[8];
+  A := new Add[8];
+  p := M<G>(a, b);
+  c1 := D1<G>(c);
+  c2 := D2<G+1>(c1.out);
+  s := A<G+2>(p.out, c2.out);
+  out = s.out;
+}
+";
+
+const MAC_STIMULUS: &str =
+    r#"{"version":1,"transactions":[{"start":0,"inputs":{"a":2,"b":3,"c":1}},{"start":1,"inputs":{"a":4,"b":5,"c":6}},{"start":2,"inputs":{"a":255,"b":255,"c":0}}]}"#;
+
+// Two multiplications on one unit.
+const PAIR: &str =
+    "comp Pair<G: 6>(@interface[G] go: 1, @[G, G+1] a: 8, @[G, G+1] b: 8, @[G+3, G+4] c: 8, @[G+3, G+4] d: 8) -> (@[G+2, G+3] p: 8, @[G+5, G+6] q: 8) {
+  M := new SeqMult[8];
+  x := M<G>(a, b);
+  y := M<G+3>(c, d);
+  p = x.out;
+  q = y.out;
+}
+";
+
+const PAIR_STIMULUS: &str =
+    r#"{"version":1,"transactions":[{"start":0,"inputs":{"a":3,"b":5,"c":7,"d":9}},{"start":6,"inputs":{"a":10,"b":11,"c":12,"d":13}}],"idle":255}"#;
+
+// Two events, each with an input and an output.
+const DUO: &str =
+    "comp Duo<G: 1, H: 2>(@interface[G] go: 1, @interface[H] ho: 1, @[G, G+1] a: 8, @[H, H+1] b: 8) -> (@[G+1, G+2] p: 8, @[H, H+1] q: 8) {
+  D := new Delay[8];
+  X := new Add[8];
+  d := D<G>(a);
+  x := X<H>(b, b);
+  p = d.out;
+  q = x.out;
+}
+";
+
+const DUO_STIMULUS: &str =
+    r#"{"version":2,"transactions":[{"event":"G","start":0,"inputs":{"a":5}},{"event":"H","start":0,"inputs":{"b":3}},{"event":"G","start":1,"inputs":{"a":6}}]}"#;
+
 const ROWS: &str = "0 q=0\n1 q=1\n2 q=2\n3 q=3\n4 q=4\n";
 
 const USAGE: &str = "usage: filc COMMAND FILE [STIMULUS or NUMBER]\n";
@@ -35,7 +124,7 @@ struct Case {
     line: &'static str,
 }
 
-const CASES: [Case; 16] = [
+const CASES: [Case; 40] = [
     Case {
         words: &["check", "counter.net"],
         ended: Ended::Done,
@@ -132,6 +221,150 @@ const CASES: [Case; 16] = [
         report: "",
         line: USAGE,
     },
+    Case {
+        words: &["sim", "store.net", "store.json"],
+        ended: Ended::Done,
+        report: "0 q=5\n1 q=7\n2 q=7\nmem m 9 7\n",
+        line: "",
+    },
+    Case {
+        words: &["trace", "store.net", "store.json"],
+        ended: Ended::Done,
+        report: TRACE,
+        line: "",
+    },
+    Case {
+        words: &["sim", "store.net", "none.json"],
+        ended: Ended::ReadFault,
+        report: "",
+        line: "read fault: none.json\n",
+    },
+    Case {
+        words: &["sim", "none.net", "none.json"],
+        ended: Ended::ReadFault,
+        report: "",
+        line: "read fault: none.net\n",
+    },
+    Case {
+        words: &["sim", "bad.net", "none.json"],
+        ended: Ended::Refused,
+        report: "",
+        line: "refused grammar at byte 8\n",
+    },
+    Case {
+        words: &["sim", "store.net", "bad.net"],
+        ended: Ended::Stimulus,
+        report: "",
+        line: "stimulus S1\n",
+    },
+    Case {
+        words: &["sim", "store.net", "s2.json"],
+        ended: Ended::Stimulus,
+        report: "",
+        line: "stimulus S2\n",
+    },
+    Case {
+        words: &["sim", "store.net", "s3.json"],
+        ended: Ended::Stimulus,
+        report: "",
+        line: "stimulus S3 entry 1\n",
+    },
+    Case {
+        words: &["trace", "store.net", "s5.json"],
+        ended: Ended::Stimulus,
+        report: "",
+        line: "stimulus S5 entry 1 starts 4 4 delay 1\n",
+    },
+    Case {
+        words: &["sim", "store.net", "long.json"],
+        ended: Ended::Limit,
+        report: "",
+        line: "limit cycles 1000001 over 1000000\n",
+    },
+    Case {
+        words: &["trace", "clash.net", "five.json"],
+        ended: Ended::Conflict,
+        report: CLASHED,
+        line: "conflict cycle 0 port q\n",
+    },
+    Case {
+        words: &["sim", "mac.fil", "five.json"],
+        ended: Ended::Usage,
+        report: "",
+        line: USAGE,
+    },
+    Case {
+        words: &["sim", "store.net", ""],
+        ended: Ended::Usage,
+        report: "",
+        line: USAGE,
+    },
+    Case {
+        words: &["trace", "store.net", "-s"],
+        ended: Ended::Usage,
+        report: "",
+        line: USAGE,
+    },
+    Case {
+        words: &["trace", "store.net"],
+        ended: Ended::Usage,
+        report: "",
+        line: USAGE,
+    },
+    Case {
+        words: &["flow", "mac.fil", "mac.json"],
+        ended: Ended::Done,
+        report: "0 out=7\n1 out=26\n2 out=1\n",
+        line: "",
+    },
+    Case {
+        words: &["timeline", "pair.fil", "pair.json"],
+        ended: Ended::Done,
+        report: "M 0 3 x 0\nM 3 6 y 0\nM 6 9 x 1\nM 9 12 y 1\n",
+        line: "",
+    },
+    Case {
+        words: &["flow", "duo.fil", "duo.json"],
+        ended: Ended::Done,
+        report: "0 p=5\n1 q=6\n2 p=6\n",
+        line: "",
+    },
+    Case {
+        words: &["timeline", "duo.fil", "duo.json"],
+        ended: Ended::Done,
+        report: "D 0 1 d 0\nX 0 1 x 1\nD 1 2 d 2\n",
+        line: "",
+    },
+    Case {
+        words: &["flow", "mac.fil", "s6.json"],
+        ended: Ended::Stimulus,
+        report: "",
+        line: "stimulus S6 entry 0\n",
+    },
+    Case {
+        words: &["timeline", "mac.fil", "close.json"],
+        ended: Ended::Stimulus,
+        report: "",
+        line: "stimulus S5 entry 1 starts 4 4 delay 1\n",
+    },
+    Case {
+        words: &["flow", "mac.fil", "none.json"],
+        ended: Ended::ReadFault,
+        report: "",
+        line: "read fault: none.json\n",
+    },
+    Case {
+        words: &["timeline", "bad.fil", "none.json"],
+        ended: Ended::Refused,
+        report: "",
+        line: "refused token at byte 5\n",
+    },
+    Case {
+        words: &["flow", "store.net", "store.json"],
+        ended: Ended::Usage,
+        report: "",
+        line: USAGE,
+    },
 ];
 
 // A file of this name and content.
@@ -150,6 +383,41 @@ fn files(alloc: Global, fails: &[u64]) -> Result<MemFiles, AllocError> {
     held.push(file(alloc, "clash.net", CLASH)?)?;
     held.push(file(alloc, "bad.net", "net bad\n")?)?;
     held.push(file(alloc, "bad.fil", "comp #")?)?;
+    held.push(file(alloc, "store.net", STORE)?)?;
+    held.push(file(alloc, "store.json", STORE_STIMULUS)?)?;
+    held.push(file(alloc, "five.json", FIVE)?)?;
+    held.push(file(alloc, "s2.json", r#"{"version":1,"cycles":5}"#)?)?;
+    held.push(file(
+        alloc,
+        "s3.json",
+        r#"{"version":1,"cycles":5,"inputs":[{"from":0,"set":{}},{"from":1,"set":{"e":1}}]}"#,
+    )?)?;
+    held.push(file(
+        alloc,
+        "s5.json",
+        r#"{"version":1,"cycles":5,"inputs":[{"from":4,"set":{}},{"from":4,"set":{}}]}"#,
+    )?)?;
+    held.push(file(
+        alloc,
+        "long.json",
+        r#"{"version":1,"cycles":1000001,"inputs":[]}"#,
+    )?)?;
+    held.push(file(alloc, "mac.fil", MAC)?)?;
+    held.push(file(alloc, "mac.json", MAC_STIMULUS)?)?;
+    held.push(file(alloc, "pair.fil", PAIR)?)?;
+    held.push(file(alloc, "pair.json", PAIR_STIMULUS)?)?;
+    held.push(file(alloc, "duo.fil", DUO)?)?;
+    held.push(file(alloc, "duo.json", DUO_STIMULUS)?)?;
+    held.push(file(
+        alloc,
+        "s6.json",
+        r#"{"version":1,"transactions":[{"start":0,"inputs":{"a":2,"b":3}}]}"#,
+    )?)?;
+    held.push(file(
+        alloc,
+        "close.json",
+        r#"{"version":1,"transactions":[{"start":4,"inputs":{"a":1,"b":1,"c":1}},{"start":4,"inputs":{"a":1,"b":1,"c":1}}]}"#,
+    )?)?;
     Ok(MemFiles {
         held,
         fails: fails.to_vec(alloc)?,

@@ -11,11 +11,11 @@ use Rattle.filc_core.proofs.check.check_netlist.Goals as goal
 pub returns-in_err-load-clause-leaves : goal.returns-in_err-load-clause-leaves
 returns-in_err-load-clause-leaves g c words asks told =
     unread_report words (g.F.Files.content c.args.files.now) c.args.file.now c.from_residual.result c.in_err-load.field-0.0 (g.O.Sink.written c.args.out.now) c.from_residual.ensures.1
-    (c.in_err-load.ensures.unread words (CheckOf Netlists c.args.file.now) (asks_for words (CheckOf Netlists c.args.file.now) asks) told)
+    (c.in_err-load.ensures.unread words (CheckOf Netlists c.args.file.now) (asks_for words (CheckOf Netlists c.args.file.now) asks) (told (CheckOf Netlists c.args.file.now) asks).file)
 
 pub returns-in_err-write_accepted-clause-leaves : goal.returns-in_err-write_accepted-clause-leaves
 returns-in_err-write_accepted-clause-leaves g c words asks told =
-    let reads = c.in_ok-load.ensures.read words (CheckOf Netlists c.args.file.now) (asks_for words (CheckOf Netlists c.args.file.now) asks) told in
+    let reads = c.in_ok-load.ensures.read words (CheckOf Netlists c.args.file.now) (asks_for words (CheckOf Netlists c.args.file.now) asks) (told (CheckOf Netlists c.args.file.now) asks).file in
     let part = part_of_accepted words (g.F.Files.content c.args.files.now) c.args.file.now (netlist_of c.in_ok-load.field-0.net) (g.O.Sink.written c.args.out.now) (g.O.Sink.written c.write_accepted.new.out) reads c.in_err-write_accepted.ensures.prefix in
     search (rules, part)
 
@@ -23,6 +23,6 @@ pub returns-clause-leaves : goal.returns-clause-leaves
 returns-clause-leaves g c words asks told =
     record {
       report = accepted_text;
-      verdict = Accepts c.args.file.now (netlist_of c.in_ok-load.field-0.net) (c.in_ok-load.ensures.read words (CheckOf Netlists c.args.file.now) (asks_for words (CheckOf Netlists c.args.file.now) asks) told) refl refl refl;
+      verdict = Accepts c.args.file.now (netlist_of c.in_ok-load.field-0.net) (c.in_ok-load.ensures.read words (CheckOf Netlists c.args.file.now) (asks_for words (CheckOf Netlists c.args.file.now) asks) (told (CheckOf Netlists c.args.file.now) asks).file) refl refl refl;
       reported = c.in_ok-write_accepted.ensures.appended;
     }

@@ -1,7 +1,7 @@
 use Rattle.std.proofs.Common.{◌≡◌, map, take}
 use Rattle.hw_bits.specs.Values.{widths_of}
 use Rattle.net_core.specs.declared.table.PortInfo.{PortInfo}
-use Rattle.filc_core.proofs.rows.zeros.Given as goal
+use Rattle.filc_core.proofs.run.zeros.Given as goal
 
 -- each port so far has a 0 of its width
 abbrev pub invariant-loop-port : goal.invariant-loop-port
