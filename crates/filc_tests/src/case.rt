@@ -21,6 +21,18 @@ pub(crate) struct Case {
     pub(crate) line: &'static str,
 }
 
+/// A case in which a stimulus stands beside the file: words, the two texts, and what the program answers, reports and says.
+#[derive(Clone, Copy)]
+pub(crate) struct StimulusCase {
+    pub(crate) name: &'static str,
+    pub(crate) words: &'static [&'static str],
+    pub(crate) text: &'static str,
+    pub(crate) stimulus: &'static str,
+    pub(crate) ended: Ended,
+    pub(crate) report: &'static str,
+    pub(crate) line: &'static str,
+}
+
 /// What the program said.
 #[derive(Drop)]
 pub(crate) struct Said {
@@ -29,13 +41,22 @@ pub(crate) struct Said {
     pub(crate) line: String,
 }
 
-/// The files, a netlist's and a Filament design's, both of this text, of which these calls fail.
-pub(crate) fn files(alloc: Global, text: &str, fails: &[u64]) -> Result<MemFiles, AllocError> {
+/// The files, a netlist's and a Filament design's of one text, and a stimulus, of which these calls fail.
+pub(crate) fn files(
+    alloc: Global,
+    text: &str,
+    stimulus: &[u8],
+    fails: &[u64],
+) -> Result<MemFiles, AllocError> {
     let mut held = Vec::new(alloc);
-    for name in ["f.net", "f.fil"] {
+    for (name, bytes) in [
+        ("f.net", text.as_bytes()),
+        ("f.fil", text.as_bytes()),
+        ("s.json", stimulus),
+    ] {
         held.push(MemFile {
             name: name.as_bytes().to_vec(alloc)?,
-            bytes: text.as_bytes().to_vec(alloc)?,
+            bytes: bytes.to_vec(alloc)?,
             faults: 0,
         })?;
     }
@@ -46,14 +67,15 @@ pub(crate) fn files(alloc: Global, text: &str, fails: &[u64]) -> Result<MemFiles
     })
 }
 
-/// Asks the program, where a report has room for so many bytes.
-pub(crate) fn ask_long(
+/// Asks the program, where a stimulus stands beside the file, and a report has room for so many bytes.
+pub(crate) fn ask_with(
     alloc: Global,
     words: &[&str],
     text: &str,
+    stimulus: &[u8],
     room: usize,
 ) -> Result<Said, Fail> {
-    let mut files = files(alloc, text, &[])?;
+    let mut files = files(alloc, text, stimulus, &[])?;
     let mut out = MemSink::new(alloc, room, 1000, Vec::new(alloc))?;
     let mut err = MemSink::new(alloc, 1000, 10, Vec::new(alloc))?;
     let ended = filc(alloc, words, &mut files, &mut out, &mut err);
@@ -62,6 +84,16 @@ pub(crate) fn ask_long(
         report: String::from_utf8_lossy(alloc, out.written())?,
         line: String::from_utf8_lossy(alloc, err.written())?,
     })
+}
+
+/// Asks the program, where a report has room for so many bytes.
+pub(crate) fn ask_long(
+    alloc: Global,
+    words: &[&str],
+    text: &str,
+    room: usize,
+) -> Result<Said, Fail> {
+    ask_with(alloc, words, text, b"".as_slice(), room)
 }
 
 /// Asks the program for what is short to report.
@@ -100,6 +132,22 @@ pub(crate) fn try_cases(rt: &impl Abort, alloc: Global, cases: &[Case]) -> Resul
     for case in cases {
         let name = case.name;
         let said = ask(alloc, case.words, case.text)?;
+        assert_eq!(rt; said.line.as_str(), case.line, "{name}");
+        assert_eq!(rt; said.report.as_str(), case.report, "{name}");
+        assert_eq!(rt; said.ended, case.ended, "{name}");
+    }
+    Ok(())
+}
+
+/// Each case of the table is answered as it tells.
+pub(crate) fn try_stimulus_cases(
+    rt: &impl Abort,
+    alloc: Global,
+    cases: &[StimulusCase],
+) -> Result<(), Fail> {
+    for case in cases {
+        let name = case.name;
+        let said = ask_with(alloc, case.words, case.text, case.stimulus.as_bytes(), 5000)?;
         assert_eq!(rt; said.line.as_str(), case.line, "{name}");
         assert_eq!(rt; said.report.as_str(), case.report, "{name}");
         assert_eq!(rt; said.ended, case.ended, "{name}");

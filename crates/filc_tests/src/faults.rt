@@ -1,6 +1,7 @@
 //! Files and sinks that fail in mid-stream: each call in its turn.
 use crate::case::{CHECK, ROWS, Said, ask, files};
 use crate::counter::COUNTER;
+use crate::stimuli::{FLOW, SIM, TIMELINE, TRACE};
 use filc_core::{Ended, filc};
 use hw_io::MemSink;
 use std::alloc::Global;
@@ -29,21 +30,58 @@ set r.write_en = 1'd1
 end
 ";
 
-/// Words, and a text with which they have a report, a line, or both.
-const ASKED: [(&[&str], &str); 7] = [
-    (CHECK, COUNTER),
-    (ROWS, COUNTER),
-    (ROWS, SHOWN),
-    (ROWS, CLASH),
-    (CHECK, "net n\nin a 0\nend\n"),
-    (CHECK, "net\n"),
-    (&[], COUNTER),
+const GATED: &str = "net gated
+in a 1
+out q 1
+set q = a
+set q = (a == 1'd1) ? 1'd0
+end
+";
+
+const GATED_STIMULUS: &str = r#"{"version":1,"cycles":4,"inputs":[{"from":2,"set":{"a":1}}]}"#;
+
+const SUM: &str =
+    "comp Sum<G: 1>(@[G, G+1] a: 8) -> (@[G, G+1] o: 8) { s := new Add[8]<G>(a, 8'd1); o = s.out; }";
+
+const SUM_STIMULUS: &str =
+    r#"{"version":1,"transactions":[{"start":0,"inputs":{"a":1}},{"start":1,"inputs":{"a":255}}]}"#;
+
+/// Words, and a text and a stimulus with which they have a report, a line, or both.
+const ASKED: [(&[&str], &str, &str); 14] = [
+    (CHECK, COUNTER, ""),
+    (ROWS, COUNTER, ""),
+    (ROWS, SHOWN, ""),
+    (ROWS, CLASH, ""),
+    (CHECK, "net n\nin a 0\nend\n", ""),
+    (CHECK, "net\n", ""),
+    (&[], COUNTER, ""),
+    (
+        SIM,
+        SHOWN,
+        r#"{"version":1,"cycles":3,"inputs":[],"memories":{"m":[1]}}"#,
+    ),
+    (SIM, GATED, GATED_STIMULUS),
+    (TRACE, GATED, GATED_STIMULUS),
+    (FLOW, SUM, SUM_STIMULUS),
+    (TIMELINE, SUM, SUM_STIMULUS),
+    (FLOW, SUM, "{"),
+    (
+        TRACE,
+        GATED,
+        r#"{"version":1,"cycles":1000001,"inputs":[]}"#,
+    ),
 ];
 
-/// Asks the program, where these calls of the file and of each sink fail.
-fn ask_faulty(alloc: Global, words: &[&str], text: &str, fails: [&[u64]; 3]) -> Result<Said, Fail> {
+/// Asks the program, where these calls of the files and of each sink fail.
+fn ask_faulty(
+    alloc: Global,
+    words: &[&str],
+    text: &str,
+    stimulus: &str,
+    fails: [&[u64]; 3],
+) -> Result<Said, Fail> {
     let [pieces, reports, lines] = fails;
-    let mut files = files(alloc, text, pieces)?;
+    let mut files = files(alloc, text, stimulus.as_bytes(), pieces)?;
     let mut out = MemSink::new(alloc, 1000, MOST, reports.to_vec(alloc)?)?;
     let mut err = MemSink::new(alloc, 1000, MOST, lines.to_vec(alloc)?)?;
     let ended = filc(alloc, words, &mut files, &mut out, &mut err);
@@ -68,7 +106,7 @@ fn each_piece_may_fail(rt: HostRuntime) -> Result<(), Fail> {
     for words in [CHECK, ROWS] {
         let told = ask(alloc, words, SHOWN)?;
         for call in 1..4 {
-            let said = ask_faulty(alloc, words, SHOWN, [&[call], &[], &[]])?;
+            let said = ask_faulty(alloc, words, SHOWN, "", [&[call], &[], &[]])?;
             if call > 2 {
                 try_same(&rt, &said, &told);
                 continue;
@@ -81,14 +119,49 @@ fn each_piece_may_fail(rt: HostRuntime) -> Result<(), Fail> {
     Ok(())
 }
 
+/// Words that take a stimulus, and the file whose reads fail by their numbers.
+const READ: [(&[&str], &str, &str, &str); 4] = [
+    (SIM, GATED, GATED_STIMULUS, "read fault: f.net\n"),
+    (TRACE, GATED, GATED_STIMULUS, "read fault: f.net\n"),
+    (FLOW, SUM, SUM_STIMULUS, "read fault: f.fil\n"),
+    (TIMELINE, SUM, SUM_STIMULUS, "read fault: f.fil\n"),
+];
+
+// The design's two pieces come first, then the stimulus's.
+#[test]
+fn each_piece_of_two_files_may_fail(rt: HostRuntime) -> Result<(), Fail> {
+    let alloc = rt.alloc();
+    for (words, text, stimulus, line) in READ {
+        let told = ask_faulty(alloc, words, text, stimulus, [&[], &[], &[]])?;
+        for call in 1..7 {
+            let said = ask_faulty(alloc, words, text, stimulus, [&[call], &[], &[]])?;
+            if call > 4 {
+                try_same(&rt, &said, &told);
+                continue;
+            }
+            assert_eq!(rt; said.ended, Ended::ReadFault);
+            assert_eq!(rt; said.report.as_str(), "");
+            assert_eq!(rt;
+                said.line.as_str(),
+                if call > 2 {
+                    "read fault: s.json\n"
+                } else {
+                    line
+                }
+            );
+        }
+    }
+    Ok(())
+}
+
 // What is there is the beginning of the report, and no line is due.
 #[test]
 fn each_put_of_a_report_may_fail(rt: HostRuntime) -> Result<(), Fail> {
     let alloc = rt.alloc();
-    for (words, text) in ASKED {
-        let told = ask(alloc, words, text)?;
-        for call in 1..30 {
-            let said = ask_faulty(alloc, words, text, [&[], &[call], &[]])?;
+    for (words, text, stimulus) in ASKED {
+        let told = ask_faulty(alloc, words, text, stimulus, [&[], &[], &[]])?;
+        for call in 1..35 {
+            let said = ask_faulty(alloc, words, text, stimulus, [&[], &[call], &[]])?;
             if call > told.report.len().div_ceil(MOST) as u64 {
                 try_same(&rt, &said, &told);
                 continue;
@@ -106,10 +179,10 @@ fn each_put_of_a_report_may_fail(rt: HostRuntime) -> Result<(), Fail> {
 #[test]
 fn each_put_of_a_line_may_fail(rt: HostRuntime) -> Result<(), Fail> {
     let alloc = rt.alloc();
-    for (words, text) in ASKED {
-        let told = ask(alloc, words, text)?;
-        for call in 1..30 {
-            let said = ask_faulty(alloc, words, text, [&[], &[], &[call]])?;
+    for (words, text, stimulus) in ASKED {
+        let told = ask_faulty(alloc, words, text, stimulus, [&[], &[], &[]])?;
+        for call in 1..35 {
+            let said = ask_faulty(alloc, words, text, stimulus, [&[], &[], &[call]])?;
             if said.ended == told.ended {
                 try_same(&rt, &said, &told);
                 continue;

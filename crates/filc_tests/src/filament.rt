@@ -10,7 +10,7 @@ use std::test::Fail;
 const CHECK: &[&str] = &["check", "f.fil"];
 
 /// A multiply-accumulate unit.
-const MAC: &str =
+pub(crate) const MAC: &str =
     "comp Mac<G: 1>(@interface[G] go: 1, @[G, G+1] a: 8, @[G, G+1] b: 8, @[G, G+1] c: 8) -> (@[G+2, G+3] out: 8) {
   M := new FastMult[8];
   D1 := new Delay[8];

@@ -22,4 +22,12 @@ mod primitives;
 #[cfg(test)]
 mod rules;
 #[cfg(test)]
+mod runs;
+#[cfg(test)]
+mod stimuli;
+#[cfg(test)]
+mod stimulus_rules;
+#[cfg(test)]
 mod timeline;
+#[cfg(test)]
+mod transactions;
