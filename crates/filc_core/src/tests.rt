@@ -376,48 +376,50 @@ fn file(alloc: Global, name: &str, text: &str) -> Result<MemFile, AllocError> {
     })
 }
 
-// The files of the tests, of which these calls fail.
-fn files(alloc: Global, fails: &[u64]) -> Result<MemFiles, AllocError> {
-    let mut held = Vec::new(alloc);
-    held.push(file(alloc, "counter.net", COUNTER)?)?;
-    held.push(file(alloc, "clash.net", CLASH)?)?;
-    held.push(file(alloc, "bad.net", "net bad\n")?)?;
-    held.push(file(alloc, "bad.fil", "comp #")?)?;
-    held.push(file(alloc, "store.net", STORE)?)?;
-    held.push(file(alloc, "store.json", STORE_STIMULUS)?)?;
-    held.push(file(alloc, "five.json", FIVE)?)?;
-    held.push(file(alloc, "s2.json", r#"{"version":1,"cycles":5}"#)?)?;
-    held.push(file(
-        alloc,
+// The files of the tests, by name.
+const FILES: [(&str, &str); 19] = [
+    ("counter.net", COUNTER),
+    ("clash.net", CLASH),
+    ("bad.net", "net bad\n"),
+    ("bad.fil", "comp #"),
+    ("store.net", STORE),
+    ("store.json", STORE_STIMULUS),
+    ("five.json", FIVE),
+    ("s2.json", r#"{"version":1,"cycles":5}"#),
+    (
         "s3.json",
         r#"{"version":1,"cycles":5,"inputs":[{"from":0,"set":{}},{"from":1,"set":{"e":1}}]}"#,
-    )?)?;
-    held.push(file(
-        alloc,
+    ),
+    (
         "s5.json",
         r#"{"version":1,"cycles":5,"inputs":[{"from":4,"set":{}},{"from":4,"set":{}}]}"#,
-    )?)?;
-    held.push(file(
-        alloc,
+    ),
+    (
         "long.json",
         r#"{"version":1,"cycles":1000001,"inputs":[]}"#,
-    )?)?;
-    held.push(file(alloc, "mac.fil", MAC)?)?;
-    held.push(file(alloc, "mac.json", MAC_STIMULUS)?)?;
-    held.push(file(alloc, "pair.fil", PAIR)?)?;
-    held.push(file(alloc, "pair.json", PAIR_STIMULUS)?)?;
-    held.push(file(alloc, "duo.fil", DUO)?)?;
-    held.push(file(alloc, "duo.json", DUO_STIMULUS)?)?;
-    held.push(file(
-        alloc,
+    ),
+    ("mac.fil", MAC),
+    ("mac.json", MAC_STIMULUS),
+    ("pair.fil", PAIR),
+    ("pair.json", PAIR_STIMULUS),
+    ("duo.fil", DUO),
+    ("duo.json", DUO_STIMULUS),
+    (
         "s6.json",
         r#"{"version":1,"transactions":[{"start":0,"inputs":{"a":2,"b":3}}]}"#,
-    )?)?;
-    held.push(file(
-        alloc,
+    ),
+    (
         "close.json",
         r#"{"version":1,"transactions":[{"start":4,"inputs":{"a":1,"b":1,"c":1}},{"start":4,"inputs":{"a":1,"b":1,"c":1}}]}"#,
-    )?)?;
+    ),
+];
+
+// The same in memory, of which these calls fail.
+fn files(alloc: Global, fails: &[u64]) -> Result<MemFiles, AllocError> {
+    let mut held = Vec::new(alloc);
+    for (name, text) in &FILES {
+        held.push(file(alloc, name, text)?)?;
+    }
     Ok(MemFiles {
         held,
         fails: fails.to_vec(alloc)?,
