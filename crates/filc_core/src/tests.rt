@@ -394,10 +394,7 @@ const FILES: [(&str, &str); 19] = [
         "s5.json",
         r#"{"version":1,"cycles":5,"inputs":[{"from":4,"set":{}},{"from":4,"set":{}}]}"#,
     ),
-    (
-        "long.json",
-        r#"{"version":1,"cycles":1000001,"inputs":[]}"#,
-    ),
+    ("long.json", r#"{"version":1,"cycles":1000001,"inputs":[]}"#),
     ("mac.fil", MAC),
     ("mac.json", MAC_STIMULUS),
     ("pair.fil", PAIR),
