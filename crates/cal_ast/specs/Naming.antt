@@ -1,0 +1,80 @@
+-- C1 and C2: names are distinct, and what a line names exists. Calyx documentation; the numbers are this project's.
+use Rattle.std.specs.Prelude.{◌≡◌, ◌⊎◌, true, false, List, ◌++◌, map, take, codes, Some, IsSome, All, Contains}
+use Rattle.hw_names.specs.Name.{Text, AreDistinct}
+use Rattle.hw_prims.specs.Table.{is_primitive, pin_names}
+use Rattle.net_core.specs.Graph.{option_ports, source_ports}
+use Rattle.cal_ast.specs.Ports.{is_bare, inputs_in, outputs_in, cell_named, cell_inputs, cell_outputs, pin_named, part_of, port_in}
+use Rattle.cal_ast.specs.Tree.{PortName, CellDef, Assignment, DoneLine, GroupDef, InBinding, OutBinding, Statement, Enable, Seq, Par, If, While, Invoke, Component, Design}
+
+abbrev pub component_names : Design → List Text
+component_names design = map (λ (c : Component). c.name) design
+
+abbrev pub cell_names : List CellDef → List Text
+cell_names cells = map (λ (c : CellDef). c.name) cells
+
+abbrev pub group_names : List GroupDef → List Text
+group_names groups = map (λ (g : GroupDef). g.name) groups
+
+-- C1 at the signature: the component's name is new and no primitive's, and its ports are distinct, implied ones too
+pub record HasNewNames (earlier : Design) (c : Component) : Type 0 where
+  pub no_primitive : is_primitive c.name ≡ false
+  pub new : ¬ Contains (component_names earlier) c.name
+  pub ports : AreDistinct (pin_names (inputs_in c ++ outputs_in c))
+
+-- the names that lowering makes start so
+abbrev pub IsReserved : Text → Type 0
+IsReserved name = take 2 name ≡ codes "c$"
+
+-- beside control no name is one that lowering makes
+abbrev pub IsFreeName : Component → Text → Type 0
+IsFreeName c name = is_bare c ≡ false → ¬ IsReserved name
+
+-- C1 at a cell, and at a group
+abbrev pub IsNewCell : Component → List CellDef → CellDef → Type 0
+IsNewCell c before cell = (¬ Contains (cell_names before) cell.name) × IsFreeName c cell.name
+
+abbrev pub IsNewGroup : Component → List GroupDef → GroupDef → Type 0
+IsNewGroup c before g = (¬ Contains (group_names before) g.name) × IsFreeName c g.name
+
+-- the component has the name, or a cell of one that reaches it
+pub data Reaches (design : Design) (name : Text) : Component → Type 0 where
+  Itself : (c : Component) → c.name ≡ name → Reaches design name c
+  Over : (c part : Component) (cell : CellDef) → Contains c.cells cell → part_of design cell ≡ Some part → Reaches design name part → Reaches design name c
+
+-- C2 at a cell: it is a primitive's, or a component's from which its own component can't be reached
+abbrev pub IsKnownCell : Design → Component → CellDef → Type 0
+IsKnownCell design c cell = (is_primitive cell.made ≡ true) ⊎ ((part : Component) × (part_of design cell ≡ Some part) × ¬ Reaches design c.name part)
+
+abbrev pub IsKnownPort : Design → Component → PortName → Type 0
+IsKnownPort design c p = IsSome (port_in design c p)
+
+-- C2 at an assignment, and at a done line, which names its own group
+pub record NamesKnown (design : Design) (c : Component) (a : Assignment) : Type 0 where
+  pub dst : IsKnownPort design c a.dst
+  pub guard : All (IsKnownPort design c) (option_ports a.guard)
+  pub src : All (IsKnownPort design c) (source_ports a.src)
+
+pub record DoneNamesKnown (design : Design) (c : Component) (g : GroupDef) (d : DoneLine) : Type 0 where
+  pub group : d.group ≡ g.name
+  pub guard : All (IsKnownPort design c) (option_ports d.guard)
+  pub src : All (IsKnownPort design c) (source_ports d.src)
+
+-- a binding names a port of the cell
+abbrev pub IsCellPort : Design → Component → Text → Text → Type 0
+IsCellPort design c cell pin = IsSome (pin_named (cell_inputs design c cell ++ cell_outputs design c cell) pin)
+
+abbrev pub BindsKnownIn : Design → Component → Text → InBinding → Type 0
+BindsKnownIn design c cell b = IsCellPort design c cell b.pin × All (IsKnownPort design c) (source_ports b.src)
+
+abbrev pub BindsKnownOut : Design → Component → Text → OutBinding → Type 0
+BindsKnownOut design c cell b = IsCellPort design c cell b.pin × IsKnownPort design c b.dst
+
+-- C2 at a control statement; whether groups exist is judged by C9 and C10
+abbrev pub StatementNamesKnown : Design → Component → Statement → Type 0
+StatementNamesKnown design c (Enable g) = Unit {0}
+StatementNamesKnown design c (Seq ss) = Unit {0}
+StatementNamesKnown design c (Par ss) = Unit {0}
+StatementNamesKnown design c (If port by s t) = IsKnownPort design c port
+StatementNamesKnown design c (While port by s) = IsKnownPort design c port
+StatementNamesKnown design c (Invoke cell ins outs) =
+    IsSome (cell_named c.cells cell) × All (BindsKnownIn design c cell) ins × All (BindsKnownOut design c cell) outs

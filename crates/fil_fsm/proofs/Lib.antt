@@ -1,0 +1,3 @@
+mod DelayLemmas
+pub mod FreshLemmas
+pub mod GrownLemmas

@@ -1,0 +1,7 @@
+//! What a shift register shows in a run.
+ghost use Rattle.fil_fsm.specs.Delays.{ChainsDelay};
+
+/// In each run, and in each instance, bit i is what bit 0 was i rows before, and 0 where there was no such row.
+pub fn chains_delay()
+    ensures { ChainsDelay }
+{}
