@@ -14,8 +14,8 @@ components() {
         BEGIN {
             for (i = 0; i < comps; i++) {
                 print signature(i)
-                print "  M := new FastMult[8];\n  D1 := new Delay[8];\n  D2 := new Delay[8];\n  A := new Add[8];"
-                print "  product := M<G>(a, b);\n  c1 := D1<G>(c);\n  c2 := D2<G+1>(c1.out);\n  sum := A<G+2>(product.out, c2.out);"
+                print "  M := new FastMult[8];\n  Early := new Delay[8];\n  Late := new Delay[8];\n  A := new Add[8];"
+                print "  product := M<G>(a, b);\n  c1 := Early<G>(c);\n  c2 := Late<G+1>(c1.out);\n  sum := A<G+2>(product.out, c2.out);"
                 if (i) print "  before := new Stage" i - 1 "<G+2>(sum.out, c2.out, 8\047d3);"
                 print "  out = sum.out;\n}"
             }
