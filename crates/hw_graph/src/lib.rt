@@ -9,8 +9,6 @@ mod least_loop;
 mod order_end;
 mod reach;
 mod search;
-#[cfg(test)]
-mod tests;
 mod unread;
 mod walk;
 

@@ -18,6 +18,3 @@ pub use mem_sink::MemSink;
 pub use reading::{Files, PIECE_BYTES, ReadEnd, read_whole};
 pub use std_sink::StdSink;
 pub use writing::{Sink, write_whole};
-
-#[cfg(test)]
-mod tests;

@@ -43,20 +43,3 @@ impl Word {
         self.bytes.as_slice()
     }
 }
-
-#[cfg(test)]
-mod tests {
-    use super::*;
-    use std::test::Fail;
-
-    #[test]
-    fn words_own_their_bytes(rt: HostRuntime) -> Result<(), Fail> {
-        for text in ["", "a", "main.adder.left"] {
-            let word = Word::make(rt.alloc(), text.as_bytes())?;
-            let copy = word.copy()?;
-            assert_eq!(rt; word.bytes(), text.as_bytes());
-            assert_eq!(rt; copy.bytes(), text.as_bytes());
-        }
-        Ok(())
-    }
-}

@@ -1,15 +1,13 @@
 -- Laws of the table of primitives.
-use Rattle.std.proofs.Common.{◌≡◌, ℕ, zero, suc, ◌+◌, ◌*◌, ◌<◌, ◌≤◌, ◌^◌, List, [], ◌∷◌, ◌++◌, Bool, true, false, Option, None, Some, refl, sym, ap, ap₂, ◌∙◌, lit<, get_or, take, inl, inr, arith}
+use Rattle.std.proofs.Common.{◌≡◌, ℕ, zero, suc, ◌+◌, ◌*◌, ◌<◌, ◌≤◌, ◌^◌, List, [], ◌∷◌, Bool, true, false, Option, None, Some, refl, sym, ap, ap₂, ◌∙◌, lit<, inl, inr, arith}
 use Rattle.std.proofs.Math.Pow.{pow_pos}
 use Rattle.std.proofs.lemmas.Bool.{cases_lt}
 use Rattle.std.proofs.lemmas.Bool.Decides.{nat_tests}
-use Rattle.std.proofs.lemmas.List.{length-map, length-replicate, length-set, map-append, take-replicate, take_more, get_or-map, get_or_append_left, get_or_past}
+use Rattle.std.proofs.lemmas.List.{length-replicate, length-set, take-replicate, get_or-map, get_or_past}
 use Rattle.std.proofs.lemmas.List.Elements.{All-set, All-replicate}
-use Rattle.std.proofs.lemmas.Option.{get_or_from_slice_get, slice_get-get_or}
+use Rattle.std.proofs.lemmas.Option.{slice_get-get_or}
 use Rattle.std.proofs.lemmas.Nat.{or_lt, xor_lt}
 use Rattle.std.specs.Prelude.{codes, map, Contains, All, slice_index, slice_get, length, nat_lt, nat_le, not, if◌then◌else◌, ◌==◌, ◌&&◌}
-use Rattle.hw_bits.specs.Values.{widths_of}
-use Rattle.hw_bits.specs.declared.bits.Bits.{Bits}
 use Rattle.hw_bits.specs.Width.{product_bits}
 use Rattle.hw_bits.proofs.WidthLemmas.{low_bits-lt, sum_bits-lt, difference_bits-lt, product_bits-lt, inverted_bits-lt, left_shifted_bits-lt, right_shifted_bits-lt, bits_between-lt, joined_bits-lt, bit_and-lt, lt-wider}
 use Rattle.hw_prims.specs.Laws.{OutputsFollowThrough, StatesKeepWidths, IsStateOf, IsRegister, IsMemory, IsMultPipe, IsDelay, IsFastMult, IsSeqMult, AreValuesOf}
@@ -18,7 +16,7 @@ use Rattle.hw_prims.specs.Memory.{padded_words, place_of, word_at, words_with}
 use Rattle.hw_prims.specs.State.{out_of, done_of, words_of, kept_of, first_of, second_of, phase_of}
 use Rattle.hw_prims.specs.Row.{Text, Row, values_at}
 use Rattle.hw_prims.specs.State.{State, Register, Memory, MultPipe, Delay, FastMult, SeqMult}
-use Rattle.hw_prims.specs.Table.{Pin, pin, pins_of, inputs_of, outputs_of, pin_names, pin_widths, is_made, IsMade}
+use Rattle.hw_prims.specs.Table.{Pin, inputs_of, outputs_of, pin_names, pin_widths, is_made, IsMade}
 use Rattle.hw_prims.specs.declared.phase.Phase.{Phase}
 use Rattle.hw_prims.specs.declared.phase.Phase.TheVariants.{Idle, First, Second, Third}
 use Rattle.hw_prims.specs.declared.prim.Primitive.{Primitive}
@@ -250,16 +248,3 @@ keeps_widths prim made =
       outputs = λ state ins is fit. outputs_fit prim state ins made is fit;
       next = next_fits prim;
     }
-
--- one more input, as a loop over the ports makes them
-pub input_widths-push : (prim : Primitive) (inputs : List Bits) (k : ℕ) (input : Bits) (name : Text) (width : ℕ) → widths_of inputs ≡ take k (pin_widths (inputs_of prim)) → k < length (inputs_of prim) → slice_get (pins_of prim) k ≡ Some (pin name width) → input.width ≡ width → widths_of (inputs ++ input ∷ []) ≡ take (k + 1) (pin_widths (inputs_of prim))
-input_widths-push prim inputs k input name width before within port same =
-    let ins : List Pin = inputs_of prim in
-    let p : Pin = pin name width in
-    let width_of = λ (q : Pin). q.width in
-    let here : get_or ins k p ≡ p = sym (get_or_append_left ins (outputs_of prim) p k within) ∙ get_or_from_slice_get (pins_of prim) k p p port in
-    let at : get_or (pin_widths ins) k 0 ≡ width = get_or-map width_of ins k p 0 within ∙ ap width_of here in
-    let inside : k < length (pin_widths ins) = omega (arith, length-map ins width_of) in
-    map-append (λ (x : Bits). x.width) inputs (input ∷ [])
-    ∙ ap₂ (λ (ws : List ℕ) (w : ℕ). ws ++ w ∷ []) before (same ∙ sym at)
-    ∙ sym (take_more (pin_widths ins) k 0 inside)

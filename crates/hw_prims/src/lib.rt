@@ -15,6 +15,3 @@ pub use cell::{Cell, CellState};
 pub use laws::{loads_give_opening, outputs_follow_through, states_keep_widths};
 pub use name::{input_names, is_memory, output_names};
 pub use prim::{Dir, MAX_WORDS, Prim, PrimEnd, PrimPort, Primitive};
-
-#[cfg(test)]
-mod tests;

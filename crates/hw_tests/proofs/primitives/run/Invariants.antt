@@ -1,5 +1,5 @@
 use Rattle.std.proofs.Common.{◌≡◌}
-use Rattle.hw_prims.proofs.tests.run.Given as goal
+use Rattle.hw_tests.proofs.primitives.run.Given as goal
 
 -- the cell stays one of this primitive
 abbrev pub invariant-loop-row : goal.invariant-loop-row

@@ -3,57 +3,32 @@ ghost use Rattle.std.specs.Prelude.{◌≡◌, length, IsTrue, IfOk};
 ghost use Rattle.hw_graph.specs.Components.{AreBelow};
 ghost use Rattle.hw_graph.specs.Graph.{AreInRange};
 
-use super::*;
 use hw_bits::Memory;
+use hw_graph::{Entry, Groups, OrderEnd, Reach, gather, lesser_of, order_or_least_loop};
 use hw_names::Names;
 use std::alloc::Global;
 use std::test::Fail;
 
-/// A graph by its ports' names and what reads what, and the ports of its order or of its least loop.
-#[derive(Clone, Copy)]
-struct Case {
-    names: &'static [&'static str],
-    reads: &'static [(usize, usize)],
-    ordered: bool,
-    ports: &'static [usize],
-}
+/// What reads what, by the numbers of ports.
+type Reads = &'static [(usize, usize)];
 
-const CASES: [Case; 5] = [
+/// Names of ports and what reads what; whether there is an order, and its ports or those of the least loop.
+const GRAPHS: [(&[&str], Reads, bool, &[usize]); 5] = [
     // A chain of three.
-    Case {
-        names: &["a", "b", "c"],
-        reads: &[(0, 1), (1, 2)],
-        ordered: true,
-        ports: &[2, 1, 0],
-    },
+    (&["a", "b", "c"], &[(0, 1), (1, 2)], true, &[2, 1, 0]),
     // Two reads of one port.
-    Case {
-        names: &["a", "b"],
-        reads: &[(1, 0), (1, 0)],
-        ordered: true,
-        ports: &[0, 1],
-    },
+    (&["a", "b"], &[(1, 0), (1, 0)], true, &[0, 1]),
     // A loop of two, and a port that reads it.
-    Case {
-        names: &["a", "c", "b"],
-        reads: &[(0, 1), (1, 2), (2, 1)],
-        ordered: false,
-        ports: &[2, 1],
-    },
+    (&["a", "c", "b"], &[(0, 1), (1, 2), (2, 1)], false, &[2, 1]),
     // The least of two loops.
-    Case {
-        names: &["z", "y", "b", "a"],
-        reads: &[(0, 1), (1, 0), (2, 3), (3, 2)],
-        ordered: false,
-        ports: &[3, 2],
-    },
+    (
+        &["z", "y", "b", "a"],
+        &[(0, 1), (1, 0), (2, 3), (3, 2)],
+        false,
+        &[3, 2],
+    ),
     // A port that reads itself.
-    Case {
-        names: &["a", "b"],
-        reads: &[(1, 0), (1, 1)],
-        ordered: false,
-        ports: &[1],
-    },
+    (&["a", "b"], &[(1, 0), (1, 1)], false, &[1]),
 ];
 
 /// The names of ports.
@@ -83,12 +58,9 @@ fn entries_of(alloc: Global, reads: &[(usize, usize)]) -> Result<Vec<Entry>, Mem
 fn are_below(entries: &[Entry], count: usize) -> bool
     ensures { IsTrue result → AreBelow count entries.now }
 {
-    for entry in entries {
-        if entry.key >= count || entry.value >= count {
-            return false;
-        }
-    }
-    true
+    entries
+        .iter()
+        .all(|entry| entry.key < count && entry.value < count)
 }
 
 /// A graph of so many ports.
@@ -131,11 +103,11 @@ fn all_reached(alloc: Global, graph: &Groups) -> Result<Vec<Vec<usize>>, Memory>
 
 #[test]
 fn the_order_or_the_least_loop_is_told(rt: HostRuntime) -> Result<(), Fail> {
-    for (i, case) in CASES.iter().enumerate() {
-        let names = names_of(rt.alloc(), case.names)?;
-        let (ports, ordered) = end_of(rt.alloc(), &names, case.reads)?;
-        assert_eq!(rt; ordered, case.ordered, "case {i}");
-        assert_eq!(rt; ports.as_slice(), case.ports, "case {i}");
+    for (texts, reads, has_order, told) in GRAPHS {
+        let names = names_of(rt.alloc(), texts)?;
+        let (ports, ordered) = end_of(rt.alloc(), &names, reads)?;
+        assert_eq!(rt; ordered, has_order, "{texts:?}");
+        assert_eq!(rt; ports.as_slice(), told, "{texts:?}");
     }
     Ok(())
 }
@@ -158,8 +130,8 @@ fn what_is_reached_is_told(rt: HostRuntime) -> Result<(), Fail> {
     let graph = graph(rt.alloc(), &reads, 5)?;
     let all = all_reached(rt.alloc(), &graph)?;
     assert_eq!(rt; all.len(), expected.len());
-    for (start, (ports, wanted)) in all.iter().zip(expected).enumerate() {
-        assert_eq!(rt; ports.as_slice(), wanted, "from port {start}");
+    for (start, (ports, told)) in all.iter().zip(expected).enumerate() {
+        assert_eq!(rt; ports.as_slice(), told, "from port {start}");
     }
     Ok(())
 }

@@ -1,5 +1,5 @@
 //! Files and sinks in memory and of the system, with faults in mid-stream.
-use crate::{
+use hw_io::{
     DiskFiles, Failed, Files, Gather, MemFile, MemFiles, MemSink, ReadEnd, StdSink, read_whole,
     write_whole,
 };

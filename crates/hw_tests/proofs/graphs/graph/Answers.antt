@@ -3,7 +3,7 @@ use Rattle.hw_graph.proofs.ComponentLemmas.{gathered_in_range, ok_of}
 use Rattle.hw_graph.specs.Components.{AreBelow}
 use Rattle.hw_graph.specs.Graph.{AreInRange}
 use Rattle.hw_graph.specs.Groups.{IsGathered}
-use Rattle.hw_graph.proofs.tests.graph.Goals as goal
+use Rattle.hw_tests.proofs.graphs.graph.Goals as goal
 
 pub returns-clause-in_range : goal.returns-clause-in_range
 returns-clause-in_range c =
