@@ -18,6 +18,3 @@ pub use stimulus::{CycleList, InputSet, MemLoad, MemShape};
 pub use table::{PortInfo, Table};
 pub use weight::{guard_nodes, net_weight};
 pub use words::net_words;
-
-#[cfg(test)]
-mod tests;

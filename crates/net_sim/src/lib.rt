@@ -8,15 +8,11 @@ mod flatten;
 mod guards;
 mod laws;
 mod lower;
-#[cfg(test)]
-mod order_tests;
 mod plan;
 mod port_order;
 mod settle;
 mod shown;
 mod sim;
-#[cfg(test)]
-mod sim_tests;
 mod wires;
 
 pub use hw_graph::OrderEnd;

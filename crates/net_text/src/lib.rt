@@ -13,6 +13,3 @@ mod words;
 pub use net_text_end::NetTextEnd;
 pub use print::print_net;
 pub use read::{one_netlist, read_net};
-
-#[cfg(test)]
-mod tests;
