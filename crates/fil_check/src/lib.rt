@@ -42,6 +42,3 @@ pub use laws::{
 };
 pub use rules::{Evidence, FilEnd};
 pub use weight::fil_weight;
-
-#[cfg(test)]
-mod tests;

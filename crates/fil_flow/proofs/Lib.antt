@@ -16,4 +16,3 @@ mod PlaceLemmas
 mod FlowLemmas
 mod ShownLemmas
 mod DataflowLemmas
-mod TestLemmas

@@ -11,6 +11,3 @@ mod plans;
 mod primitive;
 
 pub use dataflow::{Dataflow, flow};
-
-#[cfg(test)]
-mod tests;

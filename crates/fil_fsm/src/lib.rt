@@ -8,6 +8,3 @@ mod shift;
 
 pub use laws::chains_delay;
 pub use shift::{FsmParts, MOST_BITS, shift_register};
-
-#[cfg(test)]
-mod tests;

@@ -12,6 +12,3 @@ mod value;
 
 pub use parse::{FilTextEnd, MOST_NESTING, one_design, parse_fil};
 pub use print::print_fil;
-
-#[cfg(test)]
-mod tests;

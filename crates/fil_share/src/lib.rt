@@ -18,6 +18,3 @@ pub use judge::{meeting, meets};
 pub use laws::{forms_agree, meet_is_real, rules_are_exact, sharing_keeps_apart};
 pub use own::{inner_starts_are_spaced, own_holds_are_apart, spaced_holds_are_apart};
 pub use transactions::holds;
-
-#[cfg(test)]
-mod tests;

@@ -14,6 +14,3 @@ pub use names::add_name;
 pub use primitive::table_name;
 pub use shape::{has_shape, has_widths};
 pub use time_sig::{Delay, Off, SigEvent, SigPort, TimeSig};
-
-#[cfg(test)]
-mod tests;

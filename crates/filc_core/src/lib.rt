@@ -33,6 +33,3 @@ pub use limits::{
     MOST_FIL_BYTES, MOST_NET_BYTES, MOST_NET_NESTING, MOST_STIMULUS_BYTES, MOST_WEIGHT, MOST_WORDS,
 };
 pub use stream::{Drive, RowEnd, stream_rows};
-
-#[cfg(test)]
-mod tests;

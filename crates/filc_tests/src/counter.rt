@@ -80,7 +80,7 @@ const ANSWERS: [Case; 8] = [
 ];
 
 /// Words that ask for nothing.
-const UNASKED: [&[&str]; 18] = [
+const UNASKED: [&[&str]; 19] = [
     &[],
     &["rows"],
     &["rows", "f.net"],
@@ -92,6 +92,7 @@ const UNASKED: [&[&str]; 18] = [
     &["rows", "f.net", "5 "],
     &["rows", "f.net", "18446744073709551616"],
     &["rows", "mac.fil", "5"],
+    &["rows", "-x.net", "5"],
     &["rows", "5", "f.net"],
     &["check"],
     &["check", "f.net", "5"],

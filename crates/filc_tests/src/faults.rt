@@ -191,6 +191,7 @@ fn each_put_of_a_line_may_fail(rt: HostRuntime) -> Result<(), Fail> {
             assert_eq!(rt; said.report.as_str(), told.report.as_str());
             assert!(rt; told.line.as_str().starts_with(said.line.as_str()));
             assert!(rt; said.line.len() < told.line.len());
+            assert_eq!(rt; said.line.is_empty(), call == 1);
         }
     }
     Ok(())

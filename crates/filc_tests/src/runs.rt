@@ -124,7 +124,7 @@ end
     ..KEPT
 };
 
-const RUNS: [StimulusCase; 17] = [
+const RUNS: [StimulusCase; 18] = [
     KEPT,
     BANK,
     CLASH,
@@ -190,6 +190,15 @@ const RUNS: [StimulusCase; 17] = [
         name: "all ports up to a Conflict",
         words: TRACE,
         report: CLASH_TRACED,
+        ..CLASH
+    },
+    StimulusCase {
+        name: "all ports before a Conflict in the first row",
+        words: TRACE,
+        text: "net clash\nout q 8\nset q = 8'd1\nset q = 8'd2\nend\n",
+        stimulus: r#"{"version":2,"cycles":5,"inputs":[]}"#,
+        report: "net clash\nout q 8\nset q = 8'd1\nset q = 8'd2\nend\n\n",
+        line: "conflict cycle 0 port q\n",
         ..CLASH
     },
     StimulusCase {

@@ -226,7 +226,7 @@ const UNFIT: [(&[&str], &str, &str); 6] = [
 ];
 
 /// Words that ask for nothing.
-const UNASKED: [&[&str]; 16] = [
+const UNASKED: [&[&str]; 17] = [
     &["sim"],
     &["sim", "f.net"],
     &["sim", "f.net", ""],
@@ -234,6 +234,7 @@ const UNASKED: [&[&str]; 16] = [
     &["sim", "f.net", "s.json", "5"],
     &["sim", ".net", "s.json"],
     &["sim", "s.json", "f.net"],
+    &["sim", "f.fil", "s.json"],
     &["trace", "-f.net", "s.json"],
     &["trace", "f.net"],
     &["flow", "f.fil"],

@@ -113,7 +113,7 @@ const NO_ENTRY: [(u8, &str); 25] = [
 ];
 
 /// Entries of `inputs` and members of `memories`, in version 2, and the line that is told of them.
-const CYCLES_REFUSED: [(&str, &str, &str); 27] = [
+const CYCLES_REFUSED: [(&str, &str, &str); 28] = [
     // S3: a name is of an input, or of a shown memory; memories are counted on from the entries.
     (r#"{"from":0,"set":{"x":1}}"#, "", "stimulus S3 entry 0\n"),
     (r#"{"from":0,"set":{"q":1}}"#, "", "stimulus S3 entry 0\n"),
@@ -188,6 +188,11 @@ const CYCLES_REFUSED: [(&str, &str, &str); 27] = [
         r#"{"from":0,"set":{"a":256}}"#,
         r#""hidden":[]"#,
         "stimulus S4 entry 0\n",
+    ),
+    (
+        r#"{"from":5,"set":{}}"#,
+        r#""m":[256],"zz":[]"#,
+        "stimulus S4 entry 1\n",
     ),
     // S7: a list is no longer than its memory; it comes before S4.
     ("", r#""m":[0,0,0]"#, "stimulus S7 entry 0\n"),

@@ -20,6 +20,3 @@ pub use cycles::read_cycles;
 pub use limits::{MOST_CYCLES, MOST_TRANSACTIONS};
 pub use stim_end::StimEnd;
 pub use txs::read_txs;
-
-#[cfg(test)]
-mod tests;

@@ -1,6 +1,6 @@
 //! Signatures of primitives, counted by hand.
-use super::*;
 use fil_ast::FilDesign;
+use fil_sig::{SigEnd, signature};
 use hw_names::Names;
 use std::test::Fail;
 

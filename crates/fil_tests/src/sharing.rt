@@ -1,7 +1,7 @@
 //! Meets of a few uses, counted by hand.
 ghost use Rattle.std.specs.Prelude.{◌≡◌};
 
-use super::*;
+use fil_share::{Hold, Meet, meeting};
 use hw_names::NameId;
 
 /// A use of event 0 in the rows `[from, to)`.
