@@ -1,4 +1,7 @@
 //! Dataflow of components on two numbers of 64 bits.
+ghost use Rattle.std.specs.Prelude.{◌≡◌, ◌↔◌, IsTrue, All};
+
+use fil_ast::{FilOk, FilPort};
 use fil_check::check_fil;
 use fil_flow::flow;
 use fil_parse::parse_fil;
@@ -37,7 +40,26 @@ fn chain(alloc: Global, height: u64) -> Result<String, AllocError> {
     Ok(text)
 }
 
-/// The last component of the text, of two inputs of 64 bits, gives on these values what is wanted.
+/// Whether each of the ports has 64 bits.
+fn are_words(ports: &[FilPort]) -> bool
+    ensures { IsTrue result ↔ All (λ (p : FilPort). p.width ≡ 64) ports.now }
+{
+    ports.iter().all(|port| port.width == 64)
+}
+
+/// What the last component of the design gives on these values, where it has two inputs of 64 bits.
+fn flow_of_last(alloc: Global, ok: &FilOk, values: [u128; 2]) -> Result<Vec<Bits>, Fail> {
+    let design = ok.design();
+    let last = design.comps.len().checked_sub(1).ok_or("no component")?;
+    let ports = design.comps[last].ins.as_slice();
+    if ports.len() != 2 || !are_words(ports) {
+        return Err(Fail::from("other inputs"));
+    }
+    let inputs = [Bits::wrap(values[0], 64), Bits::wrap(values[1], 64)];
+    Ok(flow(alloc, ok, last, &inputs)?)
+}
+
+/// The last component of the text gives on these values what is wanted.
 fn try_flow(
     rt: &impl Abort,
     alloc: Global,
@@ -46,15 +68,7 @@ fn try_flow(
     wanted: &[u128],
 ) -> Result<(), Fail> {
     let design = parse_fil(alloc, text.as_bytes())?;
-    let ok = check_fil(alloc, &design)?;
-    let last = design.comps.len().saturating_sub(1);
-    assert!(rt; last < design.comps.len());
-    let [first, second] = design.comps[last].ins.as_slice() else {
-        panic!(rt; "two inputs in {text}");
-    };
-    assert!(rt; first.width == 64 && second.width == 64);
-    let inputs = [Bits::wrap(values[0], 64), Bits::wrap(values[1], 64)];
-    let outs = flow(alloc, &ok, last, &inputs)?;
+    let outs = flow_of_last(alloc, &check_fil(alloc, &design)?, values)?;
     assert_eq!(rt; outs.len(), wanted.len());
     for (out, value) in outs.iter().zip(wanted) {
         assert_eq!(rt; out.value(), *value);

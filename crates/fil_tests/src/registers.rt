@@ -1,4 +1,7 @@
 //! Shift registers in full, after names of the kind that they make.
+ghost use Rattle.std.specs.Prelude.{IfOk};
+ghost use Rattle.cal_ast.specs.Numbers.{PortHasNumbers};
+
 use cal_ast::{Assign, CalCell, CalPort};
 use fil_fsm::shift_register;
 use hw_names::Names;
@@ -7,20 +10,22 @@ use std::alloc::Global;
 use std::process::Abort;
 use std::test::Fail;
 
-/// Names beside `go` that are like those of registers.
-fn names_with_go(alloc: Global) -> Result<Names, Fail> {
+/// Names like those of registers, and a port `go`.
+fn names_with_go(alloc: Global) -> Result<(Names, CalPort), Fail>
+    ensures { IfOk result (λ made. PortHasNumbers made.0 made.1) }
+{
     let mut names = Names::new(alloc);
     names.intern(b"f$3".as_slice())?;
     names.intern(b"f$7".as_slice())?;
-    names.intern(b"go".as_slice())?;
-    Ok(names)
+    let port = names.intern(b"go".as_slice())?;
+    Ok((names, CalPort { cell: None, port }))
 }
 
-/// The port of this name; of the component itself where there is no cell of that name.
+/// The port of this name of the cell of this name.
 fn port(names: &Names, cell: &str, port: &str) -> Result<CalPort, Fail> {
     Ok(CalPort {
-        cell: names.find(cell.as_bytes()),
-        port: names.find(port.as_bytes()).ok_or("no such name")?,
+        cell: Some(names.find(cell.as_bytes()).ok_or("no such cell")?),
+        port: names.find(port.as_bytes()).ok_or("no such port")?,
     })
 }
 
@@ -57,8 +62,7 @@ fn try_register(
 #[test]
 fn registers_are_chained(rt: HostRuntime) -> Result<(), Fail> {
     let alloc = rt.alloc();
-    let mut names = names_with_go(alloc)?;
-    let go = port(&names, "", "go")?;
+    let (mut names, go) = names_with_go(alloc)?;
     let parts = shift_register(alloc, &mut names, go, 4)?;
     let first = port(&names, "f$8", "out")?;
     let second = port(&names, "f$9", "out")?;
@@ -76,8 +80,7 @@ fn registers_are_chained(rt: HostRuntime) -> Result<(), Fail> {
 
 #[test]
 fn one_bit_is_its_source(rt: HostRuntime) -> Result<(), Fail> {
-    let mut names = names_with_go(rt.alloc())?;
-    let go = port(&names, "", "go")?;
+    let (mut names, go) = names_with_go(rt.alloc())?;
     let parts = shift_register(rt.alloc(), &mut names, go, 1)?;
     assert_eq!(rt; parts.bits.as_slice(), [go].as_slice());
     assert!(rt; parts.cells.is_empty() && parts.sets.is_empty());
