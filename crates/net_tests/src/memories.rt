@@ -106,7 +106,7 @@ fn shown_memories_are_loaded_and_read(rt: HostRuntime) -> Result<(), Fail> {
     assert_eq!(rt; shown, 2);
     load_words(&rt, &mut sim, shown, &LOADS)?;
     check_words(&rt, &sim, shown, &LOADED);
-    check_rows(&rt, alloc, &net, &table, &mut sim, &ROWS)?;
+    check_rows(alloc, &net, &table, &mut sim, &ROWS)?;
     check_words(&rt, &sim, shown, &LEFT);
     Ok(())
 }

@@ -9,7 +9,6 @@ use hw_bits::Bits;
 use net_core::{Net, Table, valid};
 use net_sim::{Conflict, Sim, order};
 use std::alloc::Global;
-use std::process::Abort;
 use std::test::Fail;
 
 /// The values of the inputs, the port that has a Conflict, empty where none has, and values of ports.
@@ -133,6 +132,16 @@ end
     ],
 };
 
+/// The value of this width.
+fn bits_of(value: u128, width: u128) -> Result<Bits, Fail>
+    ensures { IfOk result (λ bits. bits.width ≡ width) }
+{
+    if width > 128 {
+        return Err("width".into());
+    }
+    Ok(Bits::new(value, width as u8).ok_or("value")?)
+}
+
 /// The values of a netlist's inputs.
 fn inputs_of(alloc: Global, net: &Net, values: &[u128]) -> Result<Vec<Bits>, Fail>
     ensures { IfOk result (λ inputs. widths_of inputs.items ≡ map (λ port. port.width) (netlist_of net.now).ins) }
@@ -140,8 +149,7 @@ fn inputs_of(alloc: Global, net: &Net, values: &[u128]) -> Result<Vec<Bits>, Fai
     let mut inputs = Vec::new(alloc);
     for (i, port) in net.ins.iter().enumerate() {
         let value = *values.get(i).ok_or("value")?;
-        let width = u8::try_from(port.width)?;
-        inputs.push(Bits::new(value, width).ok_or("width")?)?;
+        inputs.push(bits_of(value, port.width)?)?;
     }
     Ok(inputs)
 }
@@ -155,25 +163,25 @@ fn conflict_name(table: &Table, conflict: Result<(), Conflict>) -> Result<&str, 
 }
 
 /// Compares values of ports with what is told.
-fn check_values(rt: &impl Abort, sim: &Sim, table: &Table, told: &str) -> Result<(), Fail>
+fn check_values(alloc: Global, sim: &Sim, table: &Table, told: &str) -> Result<(), Fail>
     requires { length sim.now.values ≡ length table.now.names }
 {
     for port in told.split(' ') {
         let (name, value) = port.split_once('=').ok_or("=")?;
-        let id = table.names.find(name.as_bytes()).ok_or("name")?;
-        assert!(rt; (id.0 as usize) < table.names.len());
-        assert_eq!(rt;
-            sim.value(id.0 as usize).value(),
-            value.parse::<u128>()?,
-            "{name}"
-        );
+        let port = table.names.find(name.as_bytes()).ok_or("name")?.0 as usize;
+        if port >= table.names.len() {
+            return Err("name".into());
+        }
+        let found = sim.value(port).value();
+        if found != value.parse::<u128>()? {
+            return Err(format!(in alloc; "{name} is {found}")?.into());
+        }
     }
     Ok(())
 }
 
 /// Makes a row and its edge, and compares it with what is told.
 fn check_row(
-    rt: &impl Abort,
     alloc: Global,
     net: &Net,
     table: &Table,
@@ -189,15 +197,17 @@ fn check_row(
     let (values, told, ports) = row;
     let inputs = inputs_of(alloc, net, values)?;
     let conflict = sim.row(&inputs);
-    assert_eq!(rt; conflict_name(table, conflict)?, told);
-    check_values(rt, sim, table, ports)?;
+    let found = conflict_name(table, conflict)?;
+    if found != told {
+        return Err(format!(in alloc; "conflict at {found:?}")?.into());
+    }
+    check_values(alloc, sim, table, ports)?;
     sim.edge();
     Ok(())
 }
 
 /// Makes these rows, and compares them with what is told.
 pub(crate) fn check_rows(
-    rt: &impl Abort,
     alloc: Global,
     net: &Net,
     table: &Table,
@@ -210,20 +220,24 @@ pub(crate) fn check_rows(
     ensures { sim.new.net ≡ net.now }
 {
     for row in rows {
-        check_row(rt, alloc, net, table, sim, *row)?;
+        check_row(alloc, net, table, sim, *row)?;
     }
     Ok(())
 }
 
+/// Makes rows of a netlist, and compares them with what is told.
+fn try_run(alloc: Global, text: &str, rows: &[Row]) -> Result<(), Fail> {
+    let net = net_of(alloc, text)?;
+    let table = valid(alloc, &net)?;
+    let order = order(alloc, &net, &table)?;
+    let mut sim = Sim::new(alloc, &net, &table, &order)?;
+    check_rows(alloc, &net, &table, &mut sim, rows)
+}
+
 #[test]
 fn rows_are_those_told(rt: HostRuntime) -> Result<(), Fail> {
-    let alloc = rt.alloc();
-    for run in &[COUNTER, CLASHING, TWO_CLASHING, BOTH_CLASH, FORMS] {
-        let net = net_of(alloc, run.text)?;
-        let table = valid(alloc, &net)?;
-        let order = order(alloc, &net, &table)?;
-        let mut sim = Sim::new(alloc, &net, &table, &order)?;
-        check_rows(&rt, alloc, &net, &table, &mut sim, run.rows)?;
+    for run in [COUNTER, CLASHING, TWO_CLASHING, BOTH_CLASH, FORMS] {
+        try_run(rt.alloc(), run.text, run.rows)?;
     }
     Ok(())
 }
