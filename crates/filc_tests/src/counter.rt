@@ -24,7 +24,7 @@ const FIVE: Case = Case {
     line: "",
 };
 
-const ANSWERS: [Case; 8] = [
+const ANSWERS: &[Case] = &[
     FIVE,
     Case {
         name: "no rows",
@@ -80,7 +80,7 @@ const ANSWERS: [Case; 8] = [
 ];
 
 /// Words that ask for nothing.
-const UNASKED: [&[&str]; 19] = [
+const UNASKED: &[&[&str]] = &[
     &[],
     &["rows"],
     &["rows", "f.net"],
@@ -104,7 +104,7 @@ const UNASKED: [&[&str]; 19] = [
 
 #[test]
 fn a_counter_counts(rt: HostRuntime) -> Result<(), Fail> {
-    try_cases(&rt, rt.alloc(), &ANSWERS)
+    try_cases(&rt, rt.alloc(), ANSWERS)
 }
 
 #[test]
@@ -112,7 +112,7 @@ fn words_that_ask_for_nothing_are_told_the_usage(rt: HostRuntime) -> Result<(), 
     for words in UNASKED {
         let case = Case {
             name: "usage",
-            words,
+            words: *words,
             ended: Ended::Usage,
             report: "",
             line: "usage: filc COMMAND FILE [STIMULUS or NUMBER]\n",

@@ -47,7 +47,7 @@ const SUM_STIMULUS: &str =
     r#"{"version":1,"transactions":[{"start":0,"inputs":{"a":1}},{"start":1,"inputs":{"a":255}}]}"#;
 
 /// Words, and a text and a stimulus with which they have a report, a line, or both.
-const ASKED: [(&[&str], &str, &str); 14] = [
+const ASKED: &[(&[&str], &str, &str)] = &[
     (CHECK, COUNTER, ""),
     (ROWS, COUNTER, ""),
     (ROWS, SHOWN, ""),
@@ -120,7 +120,7 @@ fn each_piece_may_fail(rt: HostRuntime) -> Result<(), Fail> {
 }
 
 /// Words that take a stimulus, and the file whose reads fail by their numbers.
-const READ: [(&[&str], &str, &str, &str); 4] = [
+const READ: &[(&[&str], &str, &str, &str)] = &[
     (SIM, GATED, GATED_STIMULUS, "read fault: f.net\n"),
     (TRACE, GATED, GATED_STIMULUS, "read fault: f.net\n"),
     (FLOW, SUM, SUM_STIMULUS, "read fault: f.fil\n"),

@@ -25,7 +25,7 @@ pub(crate) const MAC: &str =
 ";
 
 /// A text of the unit, what stands in its place, and the line with which the design is refused then.
-const CHANGED: [(&str, &str, Ended, &str); 22] = [
+const CHANGED: &[(&str, &str, Ended, &str)] = &[
     // The rules, by number.
     (
         "comp Mac",
@@ -154,7 +154,7 @@ const CHANGED: [(&str, &str, Ended, &str); 22] = [
 ];
 
 /// Texts that are refused whole, by where they are refused.
-const REFUSED: [(&str, &str); 5] = [
+const REFUSED: &[(&str, &str)] = &[
     ("comp #", "refused token at byte 5\n"),
     ("comp Mac<G: 1>(", "refused grammar at byte 15\n"),
     ("comp Mac<G: 1>(@inter", "refused grammar at byte 16\n"),
@@ -163,7 +163,7 @@ const REFUSED: [(&str, &str); 5] = [
 ];
 
 /// Words that ask for nothing.
-const UNASKED: [&[&str]; 5] = [
+const UNASKED: &[&[&str]] = &[
     &["check", ".fil"],
     &["check", "-f.fil"],
     &["check", "f.Fil"],
@@ -224,7 +224,7 @@ fn the_first_cause_is_told(rt: HostRuntime) -> Result<(), Fail> {
     let alloc = rt.alloc();
     for (part, other, ended, line) in CHANGED {
         let text = with(alloc, part, other)?;
-        try_checked(&rt, alloc, text.as_str(), ended, "", line)?;
+        try_checked(&rt, alloc, text.as_str(), *ended, "", line)?;
     }
     for (text, line) in REFUSED {
         try_checked(&rt, alloc, text, Ended::Refused, "", line)?;

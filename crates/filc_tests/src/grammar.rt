@@ -7,7 +7,7 @@ use std::process::Abort;
 use std::test::Fail;
 
 /// A text, and the byte at which it is refused: the first of the first line that can't stand there.
-const REFUSED: [(&str, u64); 24] = [
+const REFUSED: &[(&str, u64)] = &[
     ("", 0),
     ("net g", 0),
     ("net g\n", 6),
@@ -35,7 +35,7 @@ const REFUSED: [(&str, u64); 24] = [
 ];
 
 /// Lines that no netlist has, each after the first line, of 6 bytes.
-const BAD_LINES: [&str; 58] = [
+const BAD_LINES: &[&str] = &[
     "",
     " ",
     "// a comment",
@@ -97,7 +97,7 @@ const BAD_LINES: [&str; 58] = [
 ];
 
 /// Lines that are good to read, after `net g`, `in a 1` and `wire b.c$1 1`.
-const GOOD_LINES: [&str; 8] = [
+const GOOD_LINES: &[&str] = &[
     "cell in std_not 1\nset in.in = a ? a",
     "cell end std_reg 1\nset end.in = end.out\nset end.in = a ? end.done",
     "cell _ std_wire 1\nset _.in = 1'd1",
@@ -117,7 +117,7 @@ fn try_place(rt: &impl Abort, alloc: Global, text: &str, at: u64) -> Result<(), 
 #[test]
 fn texts_are_refused_at_a_line(rt: HostRuntime) -> Result<(), Fail> {
     for (text, at) in REFUSED {
-        try_place(&rt, rt.alloc(), text, at)?;
+        try_place(&rt, rt.alloc(), text, *at)?;
     }
     Ok(())
 }

@@ -173,7 +173,7 @@ end
     line: "conflict cycle 3 port q\n",
 };
 
-const RUNS: [Case; 8] = [
+const RUNS: &[Case] = &[
     COMPARISONS,
     FORMS,
     WIDE,
@@ -212,7 +212,7 @@ set n.write_en = 1'd1
 ";
 
 /// Assignments, and the cycle and the port of their first Conflict.
-const CONFLICTS: [(&str, u64, &str); 12] = [
+const CONFLICTS: &[(&str, u64, &str)] = &[
     ("set q9 = 8'd1\nset q9 = 8'd2", 0, "q9"),
     // Also where the values are equal.
     ("set q9 = 8'd1\nset q9 = 8'd1", 0, "q9"),
@@ -287,7 +287,7 @@ pub(crate) fn deep_guard(alloc: Global) -> Result<String, AllocError> {
 
 #[test]
 fn guards_choose(rt: HostRuntime) -> Result<(), Fail> {
-    try_cases(&rt, rt.alloc(), &RUNS)
+    try_cases(&rt, rt.alloc(), RUNS)
 }
 
 #[test]
@@ -300,7 +300,7 @@ fn the_first_conflict_ends_a_run(rt: HostRuntime) -> Result<(), Fail> {
         let said = ask(alloc, &["rows", "f.net", "50"], text.as_str())?;
         assert_eq!(rt; said.line.as_str(), line.as_str(), "{sets}");
         assert_eq!(rt; said.ended, Ended::Conflict, "{sets}");
-        assert_eq!(rt; said.report.lines().count() as u64, cycle, "{sets}");
+        assert_eq!(rt; said.report.lines().count() as u64, *cycle, "{sets}");
 
         let before = format!(in alloc; "{cycle}")?;
         let all = ask(alloc, &["rows", "f.net", before.as_str()], text.as_str())?;

@@ -6,7 +6,7 @@ use std::alloc::{AllocError, Global};
 use std::test::Fail;
 
 /// A text that nests too deep, whatever else it is: what stands first, a text so many times, what stands last, and the depth.
-const NESTED: [(&str, &str, u64, &str, u64); 8] = [
+const NESTED: &[(&str, &str, u64, &str, u64)] = &[
     ("", "!", 257, "", 257),
     ("", "(", 257, "", 257),
     ("", "[", 257, "", 257),
@@ -26,7 +26,7 @@ const NESTED: [(&str, &str, u64, &str, u64); 8] = [
 ];
 
 /// Texts that nest as deep as the limit allows, and are no netlist's.
-const DEEP: [(&str, u64, &str); 4] = [
+const DEEP: &[(&str, u64, &str)] = &[
     ("!", 256, ""),
     ("{", 256, ""),
     ("[", 255, "!="),
@@ -77,7 +77,7 @@ fn the_nesting_has_a_limit(rt: HostRuntime) -> Result<(), Fail> {
     let alloc = rt.alloc();
     for (first, part, times, last, depth) in NESTED {
         let mut text = String::from_str(alloc, first)?;
-        push_times(&mut text, part, times)?;
+        push_times(&mut text, part, *times)?;
         text.push_str(last)?;
         let line = format!(in alloc; "limit nesting {depth} over 256\n")?;
         try_refused(&rt, alloc, text.as_str(), Ended::Limit, line.as_str())?;
@@ -90,7 +90,7 @@ fn what_nests_within_the_limit_is_judged_by_the_grammar(rt: HostRuntime) -> Resu
     let alloc = rt.alloc();
     for (part, times, last) in DEEP {
         let mut text = String::new(alloc);
-        push_times(&mut text, part, times)?;
+        push_times(&mut text, part, *times)?;
         text.push_str(last)?;
         let line = "refused grammar at byte 0\n";
         try_refused(&rt, alloc, text.as_str(), Ended::Refused, line)?;

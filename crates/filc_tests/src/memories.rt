@@ -143,7 +143,7 @@ mem words 0 0 77 0
     ..TABLE
 };
 
-const RUNS: [Case; 7] = [
+const RUNS: &[Case] = &[
     TABLE,
     GRID,
     SHOWN,
@@ -178,5 +178,5 @@ end
 
 #[test]
 fn memories_are_kept_and_shown(rt: HostRuntime) -> Result<(), Fail> {
-    try_cases(&rt, rt.alloc(), &RUNS)
+    try_cases(&rt, rt.alloc(), RUNS)
 }

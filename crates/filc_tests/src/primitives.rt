@@ -209,9 +209,9 @@ end
     ..ARITHMETIC
 };
 
-const RUNS: [Case; 3] = [ARITHMETIC, COMPARISONS, STATES];
+const RUNS: &[Case] = &[ARITHMETIC, COMPARISONS, STATES];
 
 #[test]
 fn primitives_have_their_rows(rt: HostRuntime) -> Result<(), Fail> {
-    try_cases(&rt, rt.alloc(), &RUNS)
+    try_cases(&rt, rt.alloc(), RUNS)
 }

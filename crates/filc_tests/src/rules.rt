@@ -4,7 +4,7 @@ use filc_core::Ended;
 use std::test::Fail;
 
 /// Texts, and the line with which each is refused.
-const BROKEN: [(&str, &str); 55] = [
+const BROKEN: &[(&str, &str)] = &[
     // N1: names of ports and of cells.
     ("net n\nin a 8\nin a 8\nend\n", "refused N1 n item 2\n"),
     ("net n\nin a 8\nout a 8\nend\n", "refused N1 n item 2\n"),
@@ -192,7 +192,7 @@ const BROKEN: [(&str, &str); 55] = [
 ];
 
 /// Texts with loops, and the line that names one.
-const LOOPS: [(&str, &str); 12] = [
+const LOOPS: &[(&str, &str)] = &[
     (
         "net loop\nout q 1\nwire a 1\nwire b 1\nset a = b\nset b = a\nset q = a\nend\n",
         "refused N6 loop item 0 loop a b\n",
@@ -247,7 +247,7 @@ const LOOPS: [(&str, &str); 12] = [
 ];
 
 /// Texts that keep the rules.
-const KEPT: [&str; 12] = [
+const KEPT: &[&str] = &[
     "net n\nend\n",
     "net n\nin in 1\nout out 128\nwire wire 128\nend\n",
     "net n\nwire r 8\ncell r std_reg 8\nend\n",

@@ -124,7 +124,7 @@ end
     ..KEPT
 };
 
-const RUNS: [StimulusCase; 18] = [
+const RUNS: &[StimulusCase] = &[
     KEPT,
     BANK,
     CLASH,
@@ -228,5 +228,5 @@ const RUNS: [StimulusCase; 18] = [
 
 #[test]
 fn netlists_run_under_stimuli(rt: HostRuntime) -> Result<(), Fail> {
-    try_stimulus_cases(&rt, rt.alloc(), &RUNS)
+    try_stimulus_cases(&rt, rt.alloc(), RUNS)
 }

@@ -77,7 +77,7 @@ const REFUSED: StimulusCase = StimulusCase {
     ..FLOWS
 };
 
-const WORKED: [StimulusCase; 13] = [
+const WORKED: &[StimulusCase] = &[
     FLOWS,
     REFUSED,
     StimulusCase {
@@ -167,7 +167,7 @@ end
 ];
 
 /// Words that name a file that isn't there, the design, and the line.
-const UNREAD: [(&[&str], &str, &str); 8] = [
+const UNREAD: &[(&[&str], &str, &str)] = &[
     (&["sim", "f.net", "t.json"], COUNTER, "read fault: t.json\n"),
     (
         &["trace", "f.net", "t.json"],
@@ -192,7 +192,7 @@ const UNREAD: [(&[&str], &str, &str); 8] = [
 ];
 
 /// Words, a design that is refused, and how; the stimulus isn't looked for.
-const UNFIT: [(&[&str], &str, &str); 6] = [
+const UNFIT: &[(&[&str], &str, &str)] = &[
     (
         &["sim", "f.net", "t.json"],
         "net n\nin a 0\nend\n",
@@ -226,7 +226,7 @@ const UNFIT: [(&[&str], &str, &str); 6] = [
 ];
 
 /// Words that ask for nothing.
-const UNASKED: [&[&str]; 17] = [
+const UNASKED: &[&[&str]] = &[
     &["sim"],
     &["sim", "f.net"],
     &["sim", "f.net", ""],
@@ -265,7 +265,7 @@ pub(crate) fn try_stopped(
 
 #[test]
 fn stimuli_are_answered(rt: HostRuntime) -> Result<(), Fail> {
-    try_stimulus_cases(&rt, rt.alloc(), &WORKED)
+    try_stimulus_cases(&rt, rt.alloc(), WORKED)
 }
 
 #[test]

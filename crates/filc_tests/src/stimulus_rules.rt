@@ -31,7 +31,7 @@ const DESIGN: &str =
 ";
 
 /// Texts that are no JSON.
-const NO_JSON: [&str; 14] = [
+const NO_JSON: &[&str] = &[
     "",
     " ",
     "{",
@@ -49,7 +49,7 @@ const NO_JSON: [&str; 14] = [
 ];
 
 /// Texts that are JSON, and say no stimulus of a run of cycles.
-const NO_CYCLES: [&str; 24] = [
+const NO_CYCLES: &[&str] = &[
     "7",
     "null",
     "{}",
@@ -77,7 +77,7 @@ const NO_CYCLES: [&str; 24] = [
 ];
 
 /// Entries of `inputs` that are of another form, in a version.
-const NO_ENTRY: [(u8, &str); 25] = [
+const NO_ENTRY: &[(u8, &str)] = &[
     (1, "[]"),
     (1, "0"),
     (1, r#"{"from":0}"#),
@@ -113,7 +113,7 @@ const NO_ENTRY: [(u8, &str); 25] = [
 ];
 
 /// Entries of `inputs` and members of `memories`, in version 2, and the line that is told of them.
-const CYCLES_REFUSED: [(&str, &str, &str); 28] = [
+const CYCLES_REFUSED: &[(&str, &str, &str)] = &[
     // S3: a name is of an input, or of a shown memory; memories are counted on from the entries.
     (r#"{"from":0,"set":{"x":1}}"#, "", "stimulus S3 entry 0\n"),
     (r#"{"from":0,"set":{"q":1}}"#, "", "stimulus S3 entry 0\n"),
@@ -212,7 +212,7 @@ const CYCLES_REFUSED: [(&str, &str, &str); 28] = [
 ];
 
 /// Texts that are JSON, and say no stimulus of transactions.
-const NO_TRANSACTIONS: [&str; 15] = [
+const NO_TRANSACTIONS: &[&str] = &[
     "[]",
     "{}",
     r#"{"transactions":[]}"#,
@@ -231,7 +231,7 @@ const NO_TRANSACTIONS: [&str; 15] = [
 ];
 
 /// Entries of `transactions` that are of another form, in a version.
-const NO_TRANSACTION: [(u8, &str); 22] = [
+const NO_TRANSACTION: &[(u8, &str)] = &[
     (1, "[]"),
     (1, r#"{"start":0}"#),
     (1, r#"{"inputs":{"a":1,"b":1}}"#),
@@ -280,7 +280,7 @@ const NO_TRANSACTION: [(u8, &str); 22] = [
 ];
 
 /// Entries of `transactions`, in version 2, and the line that is told of them.
-const TRANSACTIONS_REFUSED: [(&str, &str); 25] = [
+const TRANSACTIONS_REFUSED: &[(&str, &str)] = &[
     // S3: a name is of a data input of the entry's event, and the event is one of the component's.
     (
         r#"{"start":0,"inputs":{"a":1,"b":1,"x":1}}"#,
@@ -381,7 +381,7 @@ const TRANSACTIONS_REFUSED: [(&str, &str); 25] = [
 ];
 
 /// Entries of `transactions`, in version 2, that break a limit, and the line.
-const TRANSACTIONS_LIMITED: [(&str, &str); 9] = [
+const TRANSACTIONS_LIMITED: &[(&str, &str)] = &[
     (
         r#"{"start":0,"inputs":{"a":1,"b":1},"repeat":{"times":100001,"every":2}}"#,
         "limit transactions 100001 over 100000\n",
@@ -519,7 +519,7 @@ fn stimuli_of_cycles_have_a_form(rt: HostRuntime) -> Result<(), Fail> {
         try_cycles(&rt, alloc, text, UNSAID)?;
     }
     for (version, entries) in NO_ENTRY {
-        let text = of_cycles(alloc, version, entries, "")?;
+        let text = of_cycles(alloc, *version, entries, "")?;
         try_cycles(&rt, alloc, text.as_str(), UNSAID)?;
     }
     Ok(())
@@ -542,7 +542,7 @@ fn stimuli_of_transactions_have_a_form(rt: HostRuntime) -> Result<(), Fail> {
         try_transactions(&rt, alloc, text, UNSAID)?;
     }
     for (version, entries) in NO_TRANSACTION {
-        let text = of_transactions(alloc, version, entries)?;
+        let text = of_transactions(alloc, *version, entries)?;
         try_transactions(&rt, alloc, text.as_str(), UNSAID)?;
     }
     Ok(())

@@ -10,7 +10,7 @@ use std::test::Fail;
 const CHECK: &[&str] = &["check", "f.fil"];
 
 /// Designs that break a rule of F6 to F13, and their lines.
-const REFUSED: [(&str, &str); 34] = [
+const REFUSED: &[(&str, &str)] = &[
     // F6: a port is no longer available than its event's delay.
     (
         "comp A<G: 1>(@[G, G+2] a: 8) -> () {}",
@@ -193,7 +193,7 @@ const REFUSED: [(&str, &str); 34] = [
 ];
 
 /// Designs that have a loop, and their lines.
-const LOOPS: [(&str, &str); 3] = [
+const LOOPS: &[(&str, &str)] = &[
     (
         "comp Cross<G: 2>(@interface[G] go: 1, @[G, G+1] a: 8, @[G+1, G+2] b: 8) -> (@[G, G+1] p: 8, @[G+1, G+2] q: 8) {
            X := new Add[8]; Y := new Add[8];
@@ -223,7 +223,7 @@ const LOOPS: [(&str, &str); 3] = [
 ];
 
 /// Designs that keep all rules.
-const ACCEPTED: [&str; 9] = [
+const ACCEPTED: &[&str] = &[
     "comp Pair<G: 6>(@interface[G] go: 1, @[G, G+1] a: 8, @[G, G+1] b: 8, @[G+3, G+4] c: 8, @[G+3, G+4] d: 8)
        -> (@[G+2, G+3] p: 8, @[G+5, G+6] q: 8) {
        M := new SeqMult[8]; x := M<G>(a, b); y := M<G+3>(c, d); p = x.out; q = y.out;
@@ -322,7 +322,7 @@ fn tower(alloc: Global, height: u64) -> Result<String, AllocError> {
 }
 
 /// Components of a tower of which instances have, with their statements, the weight 475,712.
-const MEMBERS: [u64; 8] = [16, 15, 14, 12, 7, 4, 1, 1];
+const MEMBERS: &[u64] = &[16, 15, 14, 12, 7, 4, 1, 1];
 
 /// A component of the weight 1,000,000 over a tower, and so much more.
 fn push_heavy(text: &mut String, name: &str, more: &str) -> Result<(), AllocError> {

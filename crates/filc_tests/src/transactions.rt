@@ -126,7 +126,7 @@ const BARE: StimulusCase = StimulusCase {
     ..EACH
 };
 
-const FLOWS: [StimulusCase; 8] = [
+const FLOWS: &[StimulusCase] = &[
     EACH,
     DUO,
     USED,
@@ -157,10 +157,10 @@ const FLOWS: [StimulusCase; 8] = [
 
 #[test]
 fn flows_are_computed(rt: HostRuntime) -> Result<(), Fail> {
-    try_stimulus_cases(&rt, rt.alloc(), &FLOWS)
+    try_stimulus_cases(&rt, rt.alloc(), FLOWS)
 }
 
-const HOLDS: [StimulusCase; 8] = [
+const HOLDS: &[StimulusCase] = &[
     StimulusCase {
         name: "a register is held until the row before its value ends",
         words: TIMELINE,
@@ -231,7 +231,7 @@ const HOLDS: [StimulusCase; 8] = [
 
 #[test]
 fn what_is_held_is_told(rt: HostRuntime) -> Result<(), Fail> {
-    try_stimulus_cases(&rt, rt.alloc(), &HOLDS)
+    try_stimulus_cases(&rt, rt.alloc(), HOLDS)
 }
 
 /// A component of so many sums, each of the one before with itself.

@@ -181,13 +181,7 @@ fn check_values(alloc: Global, sim: &Sim, table: &Table, told: &str) -> Result<(
 }
 
 /// Makes a row and its edge, and compares it with what is told.
-fn check_row(
-    alloc: Global,
-    net: &Net,
-    table: &Table,
-    sim: &mut Sim,
-    row: Row,
-) -> Result<(), Fail>
+fn check_row(alloc: Global, net: &Net, table: &Table, sim: &mut Sim, row: Row) -> Result<(), Fail>
     requires table { IsTableOf (netlist_of net.now) table.now }
     requires net { sim.old.net ≡ net.now }
     requires values { length sim.old.values ≡ length table.now.names }
