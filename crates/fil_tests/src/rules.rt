@@ -4,7 +4,7 @@ use fil_parse::parse_fil;
 use std::test::Fail;
 
 /// A text, and the rule, the component and the item of its refusal.
-const REFUSED: [(&str, u8, &str, u64); 4] = [
+const REFUSED: &[(&str, u8, &str, u64)] = &[
     (
         "comp A<G: 1>() -> () {} comp A<G: 1>() -> () { x := new Not[8]; }",
         1,
@@ -47,7 +47,7 @@ fn the_first_broken_rule_is_told(rt: HostRuntime) -> Result<(), Fail> {
             _ => None,
         };
         let comp = design.names.find(name.as_bytes());
-        assert_eq!(rt; told, Some((rule, comp, item)), "at {text}");
+        assert_eq!(rt; told, Some((*rule, comp, *item)), "at {text}");
     }
     Ok(())
 }

@@ -6,7 +6,7 @@ use std::test::Fail;
 
 /// The rule that a use of a name breaks where there are no components, 0 where it breaks none, and the
 /// numbers of events, inputs and outputs that it has then.
-const USES: [(&str, u128, u8, (usize, usize, usize)); 5] = [
+const USES: &[(&str, u128, u8, (usize, usize, usize))] = &[
     ("Add", 8, 0, (1, 2, 1)),
     ("Reg", 128, 0, (2, 1, 1)),
     ("SeqMult", 1, 0, (1, 2, 1)),
@@ -23,12 +23,12 @@ fn primitives_have_signatures(rt: HostRuntime) -> Result<(), Fail> {
             names,
             comps: Vec::new(rt.alloc()),
         };
-        match signature(rt.alloc(), &design, id, &[width]) {
+        match signature(rt.alloc(), &design, id, &[*width]) {
             Ok(sig) => {
                 let told = (sig.events.len(), sig.ins.len(), sig.outs.len());
-                assert_eq!(rt; (0, told), (rule, counts), "at {name}");
+                assert_eq!(rt; (0, told), (*rule, *counts), "at {name}");
             }
-            Err(end) => assert_eq!(rt; end, SigEnd::Refused { rule }, "at {name}"),
+            Err(end) => assert_eq!(rt; end, SigEnd::Refused { rule: *rule }, "at {name}"),
         }
     }
     Ok(())

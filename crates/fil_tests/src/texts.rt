@@ -2,7 +2,7 @@
 use fil_parse::{FilTextEnd, parse_fil, print_fil};
 use std::test::Fail;
 
-const REFUSED: [(&str, FilTextEnd); 9] = [
+const REFUSED: &[(&str, FilTextEnd)] = &[
     (
         "import \"a.fil\"; // no more",
         FilTextEnd::Grammar { at: 26 },
@@ -41,7 +41,7 @@ const MAC: &str =
 ";
 
 /// A text, and what is printed of its design.
-const PRINTED: [(&str, &str); 4] = [
+const PRINTED: &[(&str, &str)] = &[
     (MAC, MAC),
     ("comp A<G:1>()->(){}", "comp A<G: 1>() -> () {\n}\n"),
     (
@@ -64,7 +64,7 @@ const PRINTED: [(&str, &str); 4] = [
 fn the_first_cause_is_told(rt: HostRuntime) {
     for (text, end) in REFUSED {
         let got = parse_fil(rt.alloc(), text.as_bytes()).err();
-        assert_eq!(rt; got, Some(end), "in {text:?}");
+        assert_eq!(rt; got, Some(*end), "in {text:?}");
     }
 }
 
