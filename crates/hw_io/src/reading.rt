@@ -75,6 +75,7 @@ pub fn read_whole<F: Files>(
     requires { limit ≤ 2 ^ 32 }
     ensures kept { KeepsFiles F.names F.content F.faults name.now files.old files.new }
     ensures known { OnOk result (Contains (F.names files.old) name.now) }
+    ensures known_long { IsErrOf result ReadEnd.TooLong → Contains (F.names files.old) name.now }
     ensures within { IfOk result (λ bytes. length bytes.items ≤ limit) }
     ensures whole { IfOk result (λ bytes. IfSome (F.content files.old name.now)
         (λ content. bytes.items ≡ content)) }

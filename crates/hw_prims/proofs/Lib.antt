@@ -5,3 +5,8 @@ pub mod PrimLemmas
 pub mod LoadLemmas
 pub mod PortNameLemmas
 pub mod PinLemmas
+pub mod TimedLemmas
+pub mod DelayLemmas
+pub mod RegisterLemmas
+pub mod SeqMultLemmas
+pub mod FilamentLemmas

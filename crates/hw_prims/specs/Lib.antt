@@ -7,4 +7,6 @@ pub mod Memory
 pub mod Meaning
 pub mod Cell
 pub mod Kept
+pub mod Timed
+pub mod Filament
 pub mod Laws
