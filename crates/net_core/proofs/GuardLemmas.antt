@@ -3,7 +3,7 @@ use Rattle.std.proofs.Common.{◌≡◌, ℕ, ◌+◌, List, [], ◌∷◌, leng
 use Rattle.std.proofs.lemmas.List.Sums.{sum_by-cons}
 use Rattle.std.proofs.lemmas.List.{length-map}
 use Rattle.std.specs.List.{AllByRecursion}
-use Rattle.std.proofs.lemmas.List.Elements.{All-from_recursion}
+use Rattle.std.proofs.lemmas.List.Elements.{All-from_recursion, recursion_from_All}
 use mathlib.Core.Former.{Count}
 use Rattle.hw_names.specs.Name.{Text, text_of}
 use Rattle.hw_names.specs.declared.names.NameId.{NameId}
@@ -100,6 +100,21 @@ all_numbers names v h =
     let r = row_of (variants.All v) in
     let P : List (Guard NameId) → Type 0 = AllByRecursion (GuardHasNumbers names) in
     All-from_recursion (GuardHasNumbers names) v.items (subst P (items_hidden-the_row-Guard-0 NameId v) (row_numbers names r.0 r.1 h))
+
+row_from : (names : List Text) (n : Count) (r : Row_of-Guard NameId n) → AllByRecursion (GuardHasNumbers names) (items-the_row-Guard NameId n r) → GuardsHaveNumbers names r
+row_from names n end_of-Guard h = tt
+row_from names n (more_of-Guard g rest) h = (h.0, row_from names _ rest h.1)
+
+numbers_from : (names : List Text) (v : Vec (Guard NameId) Global) → All (GuardHasNumbers names) v.items → GuardHasNumbers names (variants.All v)
+numbers_from names v h =
+    let r = row_of (variants.All v) in
+    let P : List (Guard NameId) → Type 0 = AllByRecursion (GuardHasNumbers names) in
+    row_from names r.0 r.1 (subst P (sym (items_hidden-the_row-Guard-0 NameId v)) (recursion_from_All (GuardHasNumbers names) v.items h))
+
+-- a guard of a list has numbers where each of the list has
+pub numbers_from_list : (names : List Text) (g : Guard NameId) (v : Vec (Guard NameId) Global) → (g ≡ variants.All v) ⊎ (g ≡ variants.Any v) → All (GuardHasNumbers names) v.items → GuardHasNumbers names g
+numbers_from_list names g v (inl e) h = let P : Guard NameId → Type 0 = GuardHasNumbers names in subst P (sym e) (numbers_from names v h)
+numbers_from_list names g v (inr e) h = let P : Guard NameId → Type 0 = GuardHasNumbers names in subst P (sym e) (numbers_from names v h)
 
 pub list_numbers : (names : List Text) (g : Guard NameId) (v : Vec (Guard NameId) Global) → (g ≡ variants.All v) ⊎ (g ≡ variants.Any v) → GuardHasNumbers names g → All (GuardHasNumbers names) v.items
 list_numbers names g v (inl e) h = let P : Guard NameId → Type 0 = GuardHasNumbers names in all_numbers names v (subst P e h)

@@ -7,3 +7,4 @@ pub mod KeptLemmas
 pub mod RuleLemmas
 pub mod ValidLemmas
 pub mod WritableLemmas
+pub mod CircuitLemmas

@@ -1,10 +1,11 @@
 -- Circuits, whatever language they come from: their rows and runs, stated once. Calyx, ASPLOS 2021, with this project's rows.
-use Rattle.std.specs.Prelude.{◌≡◌, ◌≢◌, ℕ, zero, suc, ◌+◌, ◌<◌, ◌≤◌, ◌⊎◌, List, [], ◌∷◌, length}
+use Rattle.std.specs.Prelude.{◌≡◌, ◌≢◌, ℕ, ◌+◌, ◌<◌, ◌≤◌, ◌⊎◌, List, [], ◌∷◌, length, Option, Some, None}
 use Rattle.std.specs.Cmp.Lexicographic.{slice_cmp}
 use Rattle.std.specs.Ordering.{nat_cmp}
 use Rattle.std.specs.declared.cmp.Ordering.TheVariants.{Greater}
 use Rattle.hw_names.specs.Name.{Text, dotted}
-use Rattle.hw_prims.specs.Meaning.{opening_state, output_values, next_state}
+use Rattle.hw_prims.specs.Cell as pins
+use Rattle.hw_prims.specs.Meaning.{opening_state, output_values}
 use Rattle.hw_prims.specs.Row.{Row, Trace, values_at}
 use Rattle.hw_prims.specs.State.{State}
 use Rattle.hw_prims.specs.Table.{inputs_of, outputs_of, pin_names}
@@ -33,9 +34,7 @@ IsComputed row cell prim state =
 
 -- the state of the cell with this name before row t
 abbrev pub state_before : ℕ → Trace → Text → Primitive → State → State
-state_before zero trace cell prim opening = opening
-state_before (suc t) trace cell prim opening =
-    next_state prim (state_before t trace cell prim opening) (values_at (trace t) (dotted cell) (pin_names (inputs_of prim)))
+state_before t trace cell prim opening = pins.state_before t trace (dotted cell) prim opening
 
 -- each cell's state before row t, from these words in its memory
 abbrev pub states_before : ℕ → Trace → (Text → List ℕ) → Text → Primitive → State
@@ -67,3 +66,8 @@ pub record IsRun (c : Circuit) (asked : ℕ) (inputs : Trace) (loads : Text → 
   pub rows : (t : ℕ) → t < height → IsRow c t (inputs t) (states_before t trace loads) (trace t)
   pub goes_on : (t : ℕ) → t + 1 < height → (port : Text) → HasConflict c t (trace t) port → ⊥
   pub ends : (height ≡ asked) ⊎ ((height < asked) × EndsInConflict c height trace)
+
+-- how a run stops: with no Conflict in any row, or in its last row, where this port is reported
+abbrev pub Stops : Circuit → ℕ → Trace → Option Text → Type 0
+Stops c height trace None = (t : ℕ) (port : Text) → t < height → HasConflict c t (trace t) port → ⊥
+Stops c height trace (Some port) = (t : ℕ) × (t + 1 ≡ height) × IsReported c t (trace t) port
