@@ -1,1 +1,14 @@
+pub mod CircuitLemmas
+pub mod ClimbLemmas
+pub mod CycleLemmas
+pub mod DriveLemmas
+pub mod InstanceLemmas
+pub mod ItemLemmas
+pub mod LineLemmas
+pub mod ListLemmas
 pub mod LocalLemmas
+pub mod LookupLemmas
+pub mod PathLoopLemmas
+pub mod PlainLemmas
+pub mod SideLemmas
+pub mod WalkLemmas

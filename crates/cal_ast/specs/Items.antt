@@ -1,6 +1,7 @@
 -- The numbered places of a component at which its rules are judged. This project's.
 use Rattle.std.specs.Prelude.{◌≡◌, ℕ, List, [], ◌∷◌, ◌++◌, map, flat_map, slice_get, Some}
-use Rattle.cal_ast.specs.Tree.{CellDef, Assignment, DoneLine, GroupDef, Statement, Statements, Enable, Seq, Par, If, While, Invoke, NoStatements, MoreStatements, ControlSection, Absent, Empty, Body, Component}
+use Rattle.cal_ast.specs.Tree.{CellDef, Assignment, DoneLine, GroupDef, ControlSection, Absent, Empty, Body, Component}
+use Rattle.cal_ast.specs.Tree.{Statement, Enable, Seq, Par, If, While, Invoke, Statements, NoStatements, MoreStatements}
 
 pub data Item : Type 0 where
   -- item 0
@@ -52,10 +53,13 @@ control_statements Absent = []
 control_statements Empty = []
 control_statements (Body s) = statements_in s
 
--- the items: the signature, the cells, the groups, the continuous assignments, the control statements
+-- the signature, the cells, the groups and the continuous assignments
+abbrev pub items_before_control : Component → List Item
+items_before_control c = TheSignature ∷ each TheCell c.cells ++ flat_map (λ items. items) (each group_items c.groups) ++ map TheAssignment c.sets
+
+-- the items: control statements are the last
 abbrev pub items_of : Component → List Item
-items_of c =
-    TheSignature ∷ each TheCell c.cells ++ flat_map (λ items. items) (each group_items c.groups) ++ map TheAssignment c.sets ++ map TheStatement (control_statements c.control)
+items_of c = items_before_control c ++ map TheStatement (control_statements c.control)
 
 -- item k of a component
 abbrev pub IsItem : Component → ℕ → Item → Type 0

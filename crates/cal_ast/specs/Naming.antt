@@ -3,8 +3,9 @@ use Rattle.std.specs.Prelude.{◌≡◌, ◌⊎◌, true, false, List, ◌++◌,
 use Rattle.hw_names.specs.Name.{Text, AreDistinct}
 use Rattle.hw_prims.specs.Table.{is_primitive, pin_names}
 use Rattle.net_core.specs.Graph.{option_ports, source_ports}
-use Rattle.cal_ast.specs.Ports.{is_bare, inputs_in, outputs_in, cell_named, cell_inputs, cell_outputs, pin_named, part_of, port_in}
-use Rattle.cal_ast.specs.Tree.{PortName, CellDef, Assignment, DoneLine, GroupDef, InBinding, OutBinding, Statement, Enable, Seq, Par, If, While, Invoke, Component, Design}
+use Rattle.cal_ast.specs.Ports.{is_bare, inputs_in, outputs_in, cell_named, part_of, port_in}
+use Rattle.cal_ast.specs.Statement.{IfCondition, IfInvoke}
+use Rattle.cal_ast.specs.Tree.{PortName, port_of, CellDef, Assignment, DoneLine, GroupDef, InBinding, OutBinding, Statement, Component, Design}
 
 abbrev pub component_names : Design → List Text
 component_names design = map (λ (c : Component). c.name) design
@@ -25,21 +26,33 @@ pub record HasNewNames (earlier : Design) (c : Component) : Type 0 where
 abbrev pub IsReserved : Text → Type 0
 IsReserved name = take 2 name ≡ codes "c$"
 
--- beside control no name is one that lowering makes
-abbrev pub IsFreeName : Component → Text → Type 0
-IsFreeName c name = is_bare c ≡ false → ¬ IsReserved name
+-- in a component that isn't bare no name is one that lowering makes
+abbrev pub IsUnreserved : Component → Text → Type 0
+IsUnreserved c name = is_bare c ≡ false → ¬ IsReserved name
 
--- C1 at a cell, and at a group
+-- which names groups may have
+pub data GroupNaming : Type 0 where
+  -- those that lowering doesn't make, in a component that isn't bare
+  Unreserved : GroupNaming
+  AnyName : GroupNaming
+
+abbrev pub MayName : GroupNaming → Component → Text → Type 0
+MayName Unreserved c name = IsUnreserved c name
+MayName AnyName c name = Unit {0}
+
+-- C1 at a cell
 abbrev pub IsNewCell : Component → List CellDef → CellDef → Type 0
-IsNewCell c before cell = (¬ Contains (cell_names before) cell.name) × IsFreeName c cell.name
+IsNewCell c before cell = (¬ Contains (cell_names before) cell.name) × IsUnreserved c cell.name
 
-abbrev pub IsNewGroup : Component → List GroupDef → GroupDef → Type 0
-IsNewGroup c before g = (¬ Contains (group_names before) g.name) × IsFreeName c g.name
+-- C1 at a group, whose name is one that it may have
+abbrev pub IsNewGroup : GroupNaming → Component → List GroupDef → GroupDef → Type 0
+IsNewGroup naming c before g = (¬ Contains (group_names before) g.name) × MayName naming c g.name
 
 -- the component has the name, or a cell of one that reaches it
 pub data Reaches (design : Design) (name : Text) : Component → Type 0 where
   Itself : (c : Component) → c.name ≡ name → Reaches design name c
-  Over : (c part : Component) (cell : CellDef) → Contains c.cells cell → part_of design cell ≡ Some part → Reaches design name part → Reaches design name c
+  Over : (c part : Component) (cell : CellDef) → Contains c.cells cell → part_of design cell ≡ Some part → Reaches design name part →
+      Reaches design name c
 
 -- C2 at a cell: it is a primitive's, or a component's from which its own component can't be reached
 abbrev pub IsKnownCell : Design → Component → CellDef → Type 0
@@ -60,21 +73,19 @@ pub record DoneNamesKnown (design : Design) (c : Component) (g : GroupDef) (d : 
   pub src : All (IsKnownPort design c) (source_ports d.src)
 
 -- a binding names a port of the cell
-abbrev pub IsCellPort : Design → Component → Text → Text → Type 0
-IsCellPort design c cell pin = IsSome (pin_named (cell_inputs design c cell ++ cell_outputs design c cell) pin)
-
 abbrev pub BindsKnownIn : Design → Component → Text → InBinding → Type 0
-BindsKnownIn design c cell b = IsCellPort design c cell b.pin × All (IsKnownPort design c) (source_ports b.src)
+BindsKnownIn design c cell b = IsKnownPort design c (port_of cell b.pin) × All (IsKnownPort design c) (source_ports b.src)
 
 abbrev pub BindsKnownOut : Design → Component → Text → OutBinding → Type 0
-BindsKnownOut design c cell b = IsCellPort design c cell b.pin × IsKnownPort design c b.dst
+BindsKnownOut design c cell b = IsKnownPort design c (port_of cell b.pin) × IsKnownPort design c b.dst
+
+-- an invoke names a cell, and its bindings known ports
+pub record InvokeNamesKnown (design : Design) (c : Component) (cell : Text) (ins : List InBinding) (outs : List OutBinding) : Type 0 where
+  pub known : IsSome (cell_named c.cells cell)
+  pub inputs : All (BindsKnownIn design c cell) ins
+  pub outputs : All (BindsKnownOut design c cell) outs
 
 -- C2 at a control statement; whether groups exist is judged by C9 and C10
-abbrev pub StatementNamesKnown : Design → Component → Statement → Type 0
-StatementNamesKnown design c (Enable g) = Unit {0}
-StatementNamesKnown design c (Seq ss) = Unit {0}
-StatementNamesKnown design c (Par ss) = Unit {0}
-StatementNamesKnown design c (If port by s t) = IsKnownPort design c port
-StatementNamesKnown design c (While port by s) = IsKnownPort design c port
-StatementNamesKnown design c (Invoke cell ins outs) =
-    IsSome (cell_named c.cells cell) × All (BindsKnownIn design c cell) ins × All (BindsKnownOut design c cell) outs
+pub record StatementNamesKnown (design : Design) (c : Component) (s : Statement) : Type 0 where
+  pub condition : IfCondition s (λ port by. IsKnownPort design c port)
+  pub invoke : IfInvoke s (InvokeNamesKnown design c)

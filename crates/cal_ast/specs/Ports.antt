@@ -1,5 +1,7 @@
--- The ports of a component, and those of its cells. Calyx, ASPLOS 2021; which ports are implied is this project's.
-use Rattle.std.specs.Prelude.{Bool, true, false, not, ◌&&◌, List, [], ◌∷◌, ◌++◌, find, if◌then◌else◌, bytes_eq, codes, Option, Some, None, is_some, option_and_then}
+-- The ports of a component, and those of its cells: one look-up of a name gives a port with its side and width. Calyx, ASPLOS 2021; which ports are
+-- implied, and that a name given twice means its first place, are this project's.
+use Rattle.std.specs.Prelude.{ℕ, Bool, true, false, not, ◌&&◌, List, [], ◌∷◌, ◌++◌, map, find, if◌then◌else◌, bytes_eq, codes}
+use Rattle.std.specs.Prelude.{Option, Some, None, is_some, option_map, option_and_then}
 use Rattle.std.specs.List.{list_any}
 use Rattle.hw_names.specs.Name.{Text}
 use Rattle.hw_prims.specs.Table.{Pin, pin, prim_of, is_primitive, inputs_of, outputs_of}
@@ -14,7 +16,8 @@ is_own name p = not (is_some p.cell) && bytes_eq p.pin name
 abbrev pub drives_done : List Assignment → Bool
 drives_done sets = list_any (λ (a : Assignment). is_own (codes "done") a.dst) sets
 
--- a component without control: it has just its written ports
+-- a component is bare where it has no control section, or where its control section is empty and a continuous assignment drives its port `done`. It has
+-- just its written ports, and no control starts it; any other component has a `go` that starts its control and a `done` that its control gives
 abbrev pub is_bare_by : ControlSection → List Assignment → Bool
 is_bare_by Absent sets = true
 is_bare_by Empty sets = drives_done sets
@@ -30,15 +33,12 @@ has_pin pins name = list_any (λ (p : Pin). bytes_eq p.name name) pins
 abbrev pub with_pin : Text → List Pin → List Pin
 with_pin name pins = if has_pin pins name then pins else pins ++ pin name 1 ∷ []
 
--- the inputs and outputs of a component; one with control has a go and a done, written or implied
+-- the inputs and outputs of a component; one that isn't bare has a go and a done, written or implied
 abbrev pub inputs_in : Component → List Pin
 inputs_in c = if is_bare c then c.ins else with_pin (codes "go") c.ins
 
 abbrev pub outputs_in : Component → List Pin
 outputs_in c = if is_bare c then c.outs else with_pin (codes "done") c.outs
-
-abbrev pub pin_named : List Pin → Text → Option Pin
-pin_named pins name = find (λ (p : Pin). bytes_eq p.name name) pins
 
 -- the first cell, and the first component, of a name
 abbrev pub cell_named : List CellDef → Text → Option CellDef
@@ -79,15 +79,38 @@ cell_inputs design c cell = made_inputs (primitive_in c cell) (part_in design c 
 abbrev pub cell_outputs : Design → Component → Text → List Pin
 cell_outputs design c cell = made_outputs (primitive_in c cell) (part_in design c cell)
 
--- the ports that assignments of the component read, and those that they may drive, in the place of a port's cell
-abbrev pub readable_in : Design → Component → Option Text → List Pin
-readable_in design c None = inputs_in c
-readable_in design c (Some cell) = cell_outputs design c cell
+-- the sides of a signature
+pub data Side : Type 0 where
+  Input : Side
+  Output : Side
 
-abbrev pub writable_in : Design → Component → Option Text → List Pin
-writable_in design c None = outputs_in c
-writable_in design c (Some cell) = cell_inputs design c cell
+-- a port of a signature, with its side
+pub record SidedPin : Type 0 where
+  pub side : Side
+  pub pin : Pin
 
--- a port that the component can name, with its width
-abbrev pub port_in : Design → Component → PortName → Option Pin
-port_in design c p = pin_named (readable_in design c p.cell ++ writable_in design c p.cell) p.pin
+abbrev pub on_side : Side → List Pin → List SidedPin
+on_side side pins = map (λ (p : Pin). record { side = side; pin = p }) pins
+
+-- the ports of a signature: its inputs, and then its outputs
+abbrev pub both_sides : List Pin → List Pin → List SidedPin
+both_sides ins outs = on_side Input ins ++ on_side Output outs
+
+-- the ports in the place of a port's cell: the component's own, or those of the cell
+abbrev pub ports_at : Design → Component → Option Text → List SidedPin
+ports_at design c None = both_sides (inputs_in c) (outputs_in c)
+ports_at design c (Some cell) = both_sides (cell_inputs design c cell) (cell_outputs design c cell)
+
+-- the first port of the name
+abbrev pub port_named : List SidedPin → Text → Option SidedPin
+port_named ports name = find (λ (p : SidedPin). bytes_eq p.pin.name name) ports
+
+-- the port that a line of the component names. Whether it is there, its width and its side are read here alone
+abbrev pub port_in : Design → Component → PortName → Option SidedPin
+port_in design c p = port_named (ports_at design c p.cell) p.pin
+
+abbrev pub width_in : Design → Component → PortName → Option ℕ
+width_in design c p = option_map (λ (q : SidedPin). q.pin.width) (port_in design c p)
+
+abbrev pub side_in : Design → Component → PortName → Option Side
+side_in design c p = option_map (λ (q : SidedPin). q.side) (port_in design c p)

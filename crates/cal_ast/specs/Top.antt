@@ -6,5 +6,6 @@ use Rattle.cal_ast.specs.Tree.{Component, Design}
 -- component n is the first that is named main; where none is, the last
 abbrev pub IsTop : Design → ℕ → Type 0
 IsTop design n =
-    ((c : Component) × (slice_get design n ≡ Some c) × (c.name ≡ codes "main") × ((m : ℕ) (d : Component) → m < n → slice_get design m ≡ Some d → ¬ (d.name ≡ codes "main")))
+    ((c : Component) × (slice_get design n ≡ Some c) × (c.name ≡ codes "main")
+    × ((m : ℕ) (d : Component) → m < n → slice_get design m ≡ Some d → ¬ (d.name ≡ codes "main")))
     ⊎ ((¬ Contains (component_names design) (codes "main")) × (n + 1 ≡ length design))

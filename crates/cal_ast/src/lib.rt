@@ -6,7 +6,9 @@ mod lowered;
 mod ok;
 mod tree;
 
-pub use laws::drives_are_local;
+pub use laws::{
+    assignments_are_plain, drives_are_local, known_ports_are_plain, no_loop_over_paths,
+};
 pub use lowered::{ActRule, HoleDesign, PlainDesign, WireDesign};
 pub use ok::CalOk;
 pub use tree::{

@@ -67,7 +67,7 @@ pub struct OutBind {
 /// A control statement.
 #[derive(Drop)]
 pub enum Control {
-    /// A plain group acts until it is done.
+    /// A group that is not combinational acts until it is done.
     Enable(NameId),
     /// One statement after another.
     Seq(Vec<Control>),
