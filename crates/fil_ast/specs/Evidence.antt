@@ -12,8 +12,8 @@ pub data Evidence : Type 0 where
   AnOffset : ℕ → Evidence
   ACycle : ℕ → Evidence
   AGap : (gap cycle : ℕ) → Evidence
-  -- each port reads the next, and the last the first
-  ALoop : (first : Text) (others : List Text) → Evidence
+  -- of these ports each reads the next, and the last the first
+  ALoop : (ports : List Text) → Evidence
 
 -- argument k, where it has a port, is available throughout its need
 abbrev pub ReadsArgument : Scope → Signature → Giving → ℕ → Type 0

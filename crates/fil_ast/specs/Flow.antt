@@ -1,12 +1,9 @@
 -- The flow of a component: what its outputs are on values of its inputs, by plain dataflow. This project's, after Filament, PLDI 2023.
-use Rattle.std.specs.Prelude.{ℕ, List, [], ◌∷◌, ◌++◌, codes, map, flat_map, reverse, slice_index, if◌then◌else◌, bytes_eq, Option, Some, None}
+use Rattle.std.specs.Prelude.{ℕ, List, [], ◌∷◌, ◌++◌, codes, map, flat_map, reverse, if◌then◌else◌, bytes_eq, Option, Some, None}
 use Rattle.std.specs.Option.{option_map_or}
-use Rattle.hw_bits.specs.Width.{product_bits}
 use Rattle.hw_names.specs.Name.{Text}
-use Rattle.hw_prims.specs.Meaning.{output_values}
-use Rattle.hw_prims.specs.State.{Stateless}
+use Rattle.hw_prims.specs.Filament.{primitive_flow}
 use Rattle.hw_prims.specs.declared.prim.Primitive.{Primitive}
-use Rattle.hw_prims.specs.declared.prim.Primitive.TheVariants.{StdReg, FilDelay, FilFastMult, FilSeqMult}
 use Rattle.fil_ast.specs.Primitives.{filament_primitive}
 use Rattle.fil_ast.specs.Scope.{Instance, Invocation, instances_at, instance_named, invocations_at}
 use Rattle.fil_ast.specs.Tree.{DataPort, Statement, Connect, Component, Design, ValueTree, InputValue, OutputValue, Literal}
@@ -36,14 +33,6 @@ abbrev pub value_in : List Named → List Outcome → ValueTree → ℕ
 value_in inputs outcomes (InputValue name) = value_named inputs name
 value_in inputs outcomes (OutputValue invocation port) = value_named (outputs_in outcomes invocation) port
 value_in inputs outcomes (Literal width value) = value
-
--- what a primitive gives on its data inputs: a register and a delay what they are given, a multiplier the product, whenever it comes
-abbrev pub primitive_flow : Primitive → List ℕ → ℕ
-primitive_flow (StdReg w) args = slice_index args 0
-primitive_flow (FilDelay w) args = slice_index args 0
-primitive_flow (FilFastMult w) args = product_bits w (slice_index args 0) (slice_index args 1)
-primitive_flow (FilSeqMult w) args = product_bits w (slice_index args 0) (slice_index args 1)
-primitive_flow prim args = slice_index (output_values prim Stateless args) 0
 
 -- each primitive of Filament has one output
 abbrev pub primitive_outputs : Primitive → List ℕ → List Named

@@ -20,3 +20,5 @@ pub mod Top
 pub mod Weight
 pub mod Flow
 pub mod Transactions
+pub mod Behaviours
+pub mod Plain

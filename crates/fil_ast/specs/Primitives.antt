@@ -1,6 +1,7 @@
--- Filament's primitives: which primitive of the table each is, its signature, and its function. Filament, PLDI 2023, in this project's profile.
-use Rattle.std.specs.Prelude.{ℕ, ◌+◌, Bool, not, ◌||◌, List, [], ◌∷◌, map, filter, codes, if◌then◌else◌, bytes_eq, Option, Some, None, option_map, option_and_then, is_some}
+-- Filament's primitives: which primitive of the table each is, and its signature. Filament, PLDI 2023, in this project's profile.
+use Rattle.std.specs.Prelude.{ℕ, ◌+◌, Bool, ◌||◌, List, [], ◌∷◌, map, filter, codes, if◌then◌else◌, bytes_eq, Option, Some, None, option_map, option_and_then, is_some}
 use Rattle.hw_names.specs.Name.{Text}
+use Rattle.hw_prims.specs.Filament.{is_data_pin}
 use Rattle.hw_prims.specs.Table.{Pin, prim_of, is_primitive, inputs_of, outputs_of}
 use Rattle.hw_prims.specs.declared.prim.Primitive.{Primitive}
 use Rattle.fil_ast.specs.Signature.{Delay, Fixed, Gap, End, SigEvent, Offset, SigPort, Signature}
@@ -61,10 +62,6 @@ timing_of name =
     else if bytes_eq name (codes "FastMult") then timing 1 None 2
     else if bytes_eq name (codes "Delay") then timing 1 None 1
     else timing 1 None 0
-
--- an interface port is no data port, and Filament doesn't see a register's done
-abbrev pub is_data_pin : Pin → Bool
-is_data_pin p = not (bytes_eq p.name (codes "write_en") || bytes_eq p.name (codes "go") || bytes_eq p.name (codes "done"))
 
 -- inputs are needed in the row of the start
 abbrev pub input_port : Pin → SigPort

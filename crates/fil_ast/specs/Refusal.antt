@@ -1,5 +1,5 @@
 -- The first broken rule of a design, with what it shows. Filament, PLDI 2023; order and evidence are this project's.
-use Rattle.std.specs.Prelude.{◌≡◌, ℕ, ◌+◌, List, take}
+use Rattle.std.specs.Prelude.{◌≡◌, ℕ, ◌+◌, List, ◌∷◌, take}
 use Rattle.hw_names.specs.Name.{Text}
 use Rattle.fil_ast.specs.Evidence.{Evidence, Nothing, AnOffset, ACycle, AGap, ALoop, MissesAt, MeetsAt, OverrunsAt}
 use Rattle.fil_ast.specs.Items.{Item, TheSignature, TheStatement, TheEnd, scope_after, scope_with}
@@ -23,4 +23,4 @@ Shows earlier c TheEnd rule evidence = evidence ≡ Nothing
 -- the first broken rule, by its number, is broken at this item of component n: F1 to F13 in their order, and F14 after them at item 0
 pub data IsRefusal (comps : Design) (name : Text) (item : ℕ) (evidence : Evidence) : ℕ → Type 0 where
   BreaksRule : (n place : ℕ) (first : IsFirstBroken all_rules comps n item place) → first.c.name ≡ name → Shows (take n comps) first.c first.item first.rule evidence → IsRefusal comps name item evidence (place + 1)
-  HasLoop : (n : ℕ) (port : Text) (others : List Text) (loop : HasFirstLoop comps n port others) → loop.c.name ≡ name → item ≡ 0 → evidence ≡ ALoop port others → IsRefusal comps name item evidence 14
+  HasLoop : (n : ℕ) (port : Text) (others : List Text) (loop : HasFirstLoop comps n port others) → loop.c.name ≡ name → item ≡ 0 → evidence ≡ ALoop (port ∷ others) → IsRefusal comps name item evidence 14

@@ -1,12 +1,12 @@
 -- Holds by legal transactions.
-use Rattle.std.proofs.Common.{◌≡◌, ◌⊎◌, ℕ, zero, suc, ◌+◌, ◌-◌, ◌<◌, ◌≤◌, List, [], ◌∷◌, ◌++◌, length, map, get_or, All, refl, sym, ap, ◌∙◌, subst, inl, inr, arith}
-use Rattle.std.specs.Prelude.{AllPairs, Contains, flat_map, max, ◌↔◌}
+use Rattle.std.proofs.Common.{◌≡◌, ℕ, zero, suc, ◌+◌, ◌-◌, ◌<◌, ◌≤◌, List, [], ◌∷◌, ◌++◌, length, map, get_or, All, ◌∙◌, subst, inl, inr, arith}
+use Rattle.std.specs.Prelude.{max}
 use Rattle.std.proofs.lemmas.Bool.{cases_lt}
 use native.Mathlib.Numerals.{unary_clauses}
 use Rattle.std.proofs.lemmas.List.{get_or_default, get_or-map, get_or_append_left, get_or-append-add, length-map, length-append}
-use Rattle.std.proofs.lemmas.List.Elements.{All-nil, All-cons, All-map, All-weaker, All-contains, All-from_get_or, All-get_or, Contains-get_or}
-use Rattle.fil_share.specs.Sharing.{IsHeld, AreApart, IsWithin, KeepsApart, EndsInTime, KeepsRules}
-use Rattle.fil_share.specs.Laws.{IsLegal, IsShort, use_from, uses_from, SharingKeepsApart, RulesAreExact}
+use Rattle.std.proofs.lemmas.List.Elements.{All-nil, All-cons, All-map, All-weaker}
+use Rattle.fil_share.specs.Sharing.{IsHeld, AreApart, KeepsApart, EndsInTime, KeepsRules}
+use Rattle.fil_share.specs.Laws.{IsLegal, IsShort, use_from, uses_from, RulesAreExact}
 use Rattle.fil_share.specs.declared.hold.Hold.{Hold}
 use Rattle.fil_share.proofs.ListLemmas.{AllPairs-append, AllPairs-map, All-flat_map}
 

@@ -9,3 +9,4 @@ pub mod OwnLemmas
 pub mod TransactionLemmas
 pub mod UseLemmas
 pub mod InnerLemmas
+pub mod CarriedLemmas

@@ -1,5 +1,5 @@
 -- Lists: what holds of each element and of each two.
-use Rattle.std.proofs.Common.{◌≡◌, ◌⊎◌, ℕ, zero, suc, ◌+◌, ◌<◌, ◌≤◌, List, [], ◌∷◌, ◌++◌, length, map, get_or, All, refl, sym, ap, ◌∙◌, subst, inl, inr, arith}
+use Rattle.std.proofs.Common.{◌≡◌, ◌⊎◌, ℕ, zero, suc, ◌+◌, ◌<◌, List, [], ◌∷◌, ◌++◌, length, map, get_or, All, refl, sym, ap, ◌∙◌, subst, inl, inr, arith}
 use Rattle.std.specs.Prelude.{AllPairs, Contains, flat_map, take, drop, slice_get, Some}
 use Rattle.std.proofs.lemmas.Bool.{cases_lt}
 use Rattle.std.proofs.lemmas.List.{get_or_default, get_or-map, get_or_append_left, get_or-append-add, length-map, length-append, take-append-drop, take_more}
@@ -125,6 +125,10 @@ AllPairs-left R xs ys all i j d less within =
     let i_in : i < length xs = omega arith in
     subst (λ a. R a (get_or xs j d)) (get_or_append_left xs ys d i i_in)
     (subst (λ b. R (get_or (xs ++ ys) i d) b) (get_or_append_left xs ys d j within) (all i j d less (omega (arith, length-append xs ys))))
+
+pub AllPairs-right : {X : Type 0} (R : X → X → Type 0) (xs ys : List X) → AllPairs R (xs ++ ys) → AllPairs R ys
+AllPairs-right R [] ys all = all
+AllPairs-right R (x ∷ xs) ys all = AllPairs-right R xs ys (AllPairs-tail R x (xs ++ ys) all)
 
 pub AllPairs-last : {X : Type 0} (R : X → X → Type 0) (xs : List X) (y : X) → AllPairs R (xs ++ y ∷ []) → All (λ x. R x y) xs
 AllPairs-last R xs y all k d within =

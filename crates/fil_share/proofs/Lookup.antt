@@ -10,13 +10,13 @@ use Rattle.std.proofs.lemmas.Slice.Eq.{bytes_eq-Decides}
 use Rattle.hw_bits.specs.declared.memory.Memory.{Memory}
 use Rattle.hw_names.specs.Name.{Text, AreDistinct}
 
-same_name : (a b : Text) → a ≡ b → bytes_eq a b ≡ true
+pub same_name : (a b : Text) → a ≡ b → bytes_eq a b ≡ true
 same_name a b same = (bytes_eq-Decides a b).1 same
 
-other_name : (a b : Text) → (a ≡ b → ⊥) → bytes_eq a b ≡ false
+pub other_name : (a b : Text) → (a ≡ b → ⊥) → bytes_eq a b ≡ false
 other_name a b apart = false_from_ne_true (bytes_eq a b) (λ is. apart ((bytes_eq-Decides a b).0 is))
 
-later_distinct : (name : Text) (names : List Text) → AreDistinct (name ∷ names) → AreDistinct names
+pub later_distinct : (name : Text) (names : List Text) → AreDistinct (name ∷ names) → AreDistinct names
 later_distinct name names distinct i j d before within = distinct (suc i) (suc j) d (omega arith) (omega arith)
 
 -- an entry's name is `name_of` it

@@ -1,12 +1,12 @@
 -- What the evidence says.
-use Rattle.std.proofs.Common.{◌≡◌, ◌⊎◌, ℕ, ◌+◌, ◌-◌, ◌<◌, ◌≤◌, List, [], ◌∷◌, ◌++◌, length, get_or, take, All, refl, sym, ap, ◌∙◌, subst, inl, inr, arith}
-use Rattle.std.specs.Prelude.{AllPairs, Contains, max, Some, slice_get}
+use Rattle.std.proofs.Common.{◌≡◌, ℕ, ◌+◌, ◌-◌, ◌<◌, ◌≤◌, List, [], ◌∷◌, ◌++◌, length, take, All, subst, inl, inr, arith}
+use Rattle.std.specs.Prelude.{Contains, max, Some, slice_get}
 use Rattle.std.proofs.lemmas.Bool.{cases_lt}
 use Rattle.std.proofs.lemmas.List.{length-take, length-append}
-use Rattle.std.proofs.lemmas.List.Elements.{All-contains, All-get_or, Contains-push_cases}
+use Rattle.std.proofs.lemmas.List.Elements.{All-contains, Contains-push_cases}
 use Rattle.std.proofs.lemmas.List.Quantifiers.{all_pairs_push}
 use Rattle.std.proofs.lemmas.Option.{slice_get_within}
-use Rattle.fil_share.specs.Sharing.{IsHeld, AreApart, KeepsApart, BreaksApart, BreaksInTime, IsFirstMeet}
+use Rattle.fil_share.specs.Sharing.{IsHeld, AreApart, KeepsApart, BreaksApart, BreaksInTime}
 use Rattle.fil_share.specs.Laws.{MeetsItself, MeetsNext, MeetIsReal}
 use Rattle.fil_share.specs.declared.hold.Hold.{Hold}
 use Rattle.fil_share.specs.declared.hold.Meet.{Meet}

@@ -62,14 +62,14 @@ AllPairs-flat {X} {Y} R f (x ∷ xs) each pairs =
     AllPairs-append R (f x) (flat_map f xs) (All-head P x xs each) (AllPairs-flat R f xs (All-tail P x xs each) (AllPairs-tail Q x xs pairs))
     (λ i d within. All-flat_map (R (get_or (f x) i d)) f xs (λ j e below. first j e below i d within))
 
-AllPairs-mapped : {X Y : Type 0} (R : Y → Y → Type 0) (f : X → Y) (xs : List X) → AllPairs (λ a b. R (f a) (f b)) xs → AllPairs R (map f xs)
+pub AllPairs-mapped : {X Y : Type 0} (R : Y → Y → Type 0) (f : X → Y) (xs : List X) → AllPairs (λ a b. R (f a) (f b)) xs → AllPairs R (map f xs)
 AllPairs-mapped R f [] pairs = λ i j d less within. absurd (omega arith)
 AllPairs-mapped {X} R f (x ∷ xs) pairs =
     let Q = λ (a b : X). R (f a) (f b) in
     AllPairs-cons R (f x) (map f xs) (All-map (R (f x)) f xs (AllPairs-head Q x xs pairs)) (AllPairs-mapped R f xs (AllPairs-tail Q x xs pairs))
 
 -- what passes a filter
-All-passed : {X : Type 0} (P : X → Type 0) (p : X → Bool) (xs : List X) → All P xs → All (λ x. P x × (p x ≡ true)) (filter p xs)
+pub All-passed : {X : Type 0} (P : X → Type 0) (p : X → Bool) (xs : List X) → All P xs → All (λ x. P x × (p x ≡ true)) (filter p xs)
 All-passed P p [] all = λ k d within. absurd (omega arith)
 All-passed {X} P p (x ∷ xs) all = by (p x) refl (All-passed P p xs (All-tail P x xs all))
   where
@@ -125,9 +125,9 @@ record AreShared (c : Component) (u w : Use) : Type 0 where
   in_time : (e : Event) → Contains c.events e → e.name ≡ w.at.event → IsWithin e.delay w u × IsWithin e.delay u w
 
 -- F2 and F10 of a use
-record IsFine (c : Component) (u : Use) : Type 0 where
-  named : NamesEvent c u.at.event
-  short : (e : Event) → Contains c.events e → e.name ≡ u.at.event → u.hold ≤ e.delay
+pub record IsFine (c : Component) (u : Use) : Type 0 where
+  pub named : NamesEvent c u.at.event
+  pub short : (e : Event) → Contains c.events e → e.name ≡ u.at.event → u.hold ≤ e.delay
 
 -- an invocation's hold by transaction m
 pub record IsHoldBy (scope : Scope) (m : ℕ) (s : Start) (v : Invocation) (h : Hold) : Type 0 where
@@ -186,7 +186,7 @@ module _ (earlier : Design) (c : Component) (named : KeepsNames earlier c) where
       (found.1 ∙ sym (find_more (λ (i : Instance). bytes_eq i.name inst) instances more found.0 found.1) ∙ ap (λ (is : List Instance). instance_named is inst) cut)
 
   module _ (k : ℕ) (s : Statement) (at : slice_get c.body k ≡ Some s) where
-    abbrev with : Scope
+    abbrev pub with : Scope
     with = scope_with earlier c (take k c.body) s
 
     abbrev before : Scope
@@ -200,7 +200,7 @@ module _ (earlier : Design) (c : Component) (named : KeepsNames earlier c) where
         ap (λ (is : List Instance). is ++ flat_map instances_at (drop (k + 1) c.body)) (sym (flat_next instances_at c.body k s at))
         ∙ sym (flat_map-append instances_at (take (k + 1) c.body) (drop (k + 1) c.body)) ∙ ap (flat_map instances_at) (take-append-drop (k + 1) c.body)
 
-    to_with : (v : Invocation) (u : Use) → IsFound (made_in k ++ instances_at s) v.inst → IsUseOf whole v u → IsUseOf with v u
+    pub to_with : (v : Invocation) (u : Use) → IsFound (made_in k ++ instances_at s) v.inst → IsUseOf whole v u → IsUseOf with v u
     to_with v u found (sig, is, used) = (sig, same_meaning (made_in k ++ instances_at s) (flat_map instances_at (drop (k + 1) c.body)) v.inst cut_with found ∙ is, used)
 
   -- the instance of each invocation is made by then
@@ -229,45 +229,63 @@ module _ (earlier : Design) (c : Component) (named : KeepsNames earlier c) where
       subst (λ (is : List Instance). P is (called_in (suc k))) instances
       (subst (λ (vs : List Invocation). P (made_in k ++ instances_at s) vs) calls (All-append (FoundIn (made_in k ++ instances_at s)) (called_in k) (invocations_at s) earlier (found_own k s at)))
 
-  module _ (sharing : KeepsShared earlier c) where
-    abbrev ShareWell : Invocation → Invocation → Type 0
-    ShareWell v w = (u x : Use) → IsUseOf whole v u → IsUseOf whole w x → u.inst ≡ x.inst → u.event ≡ x.event → AreShared c u x
+  -- an invocation's uses rise by their events
+  pub uses_of_call : (v : Invocation) → All (IsUseOf whole v) (uses_of whole v) × AllPairs (λ (u w : Use). u.event < w.event) (uses_of whole v)
+  uses_of_call v = by (instance_signature whole v.inst) refl
+    where
+      by : (o : Option Signature) → instance_signature whole v.inst ≡ o → All (IsUseOf whole v) (uses_by v o) × AllPairs (λ (u w : Use). u.event < w.event) (uses_by v o)
+      by None is = (λ i d within. absurd (omega arith), λ i j d less within. absurd (omega arith))
+      by (Some sig) is =
+          let all = uses_are sig v.inst v.gives.times 0 sig.events (λ j. let e : j ≡ 0 + j = omega arith in ap (slice_get sig.events) e) in
+          (All-weaker (IsFrom sig v.inst v.gives.times 0) (IsUseOf whole v) (λ u f. (sig, is, f.0)) (uses_from 0 sig.events v.inst v.gives.times) all.0, all.1)
 
-    one_call : (s : Statement) → AllPairs ShareWell (invocations_at s)
+  -- and its holds are those of its uses on the transaction's event
+  pub holds_of_call : (m : ℕ) (s : Start) (v : Invocation) → All (IsHoldBy whole m s v) (holds_by whole m s v)
+  holds_of_call m s v =
+      let test = λ (u : Use). bytes_eq u.at.event s.event in
+      let passed = All-passed (IsUseOf whole v) test (uses_of whole v) (uses_of_call v).0 in
+      All-map (IsHoldBy whole m s v) (hold_from m s.row v.name) (filter test (uses_of whole v))
+      (λ k d within.
+      let here = passed k d within in
+      record { use_now = get_or (filter test (uses_of whole v)) k d; uses = here.0; on = (bytes_eq-Decides (get_or (filter test (uses_of whole v)) k d).at.event s.event).0 here.1; is = refl })
+
+  -- what holds of the invocations of each of the first statements and of those before it holds of each two
+  module _ (R : Invocation → Invocation → Type 0) (last : ℕ) (short : last ≤ length c.body) (next : (k : ℕ) (s : Statement) → slice_get c.body k ≡ Some s → k < last → All (λ v. All (R v) (invocations_at s)) (called_in k)) where
+    one_call : (s : Statement) → AllPairs R (invocations_at s)
     one_call (New name made params) i j d less within = absurd (omega arith)
     one_call (Connect output value) i j d less within = absurd (omega arith)
     one_call (Call name inst gives) i j d less within = absurd (omega arith)
     one_call (Both name made params gives) i j d less within = absurd (omega arith)
 
-    share_next : (k : ℕ) (s : Statement) → slice_get c.body k ≡ Some s → k ≤ length c.body → All (λ v. All (ShareWell v) (invocations_at s)) (called_in k)
-    share_next k s at within i d below j e below' u x uses_u uses_x same_instance same_event =
-        let v = get_or (called_in k) i d in
-        let w = get_or (invocations_at s) j e in
-        let used_x = to_with k s at w x (found_own k s at j e below') uses_x in
-        let used_u = to_with k s at v u (found_more (made_in k) (instances_at s) v.inst (found_all k within i d below)) uses_u in
-        let earlier : IsEarlierUse (with k s at) x u = record { invocation = v; is_earlier = (i, below, get_or_default (called_in k) i v d below); uses = used_u; same_instance = same_instance; same_event = same_event } in
-        let kept = sharing.apart k s at j e below' x u used_x earlier in
-        record { event = kept.0; disjoint = kept.1; in_time = sharing.in_time k s at j e below' x u used_x earlier }
-
-    share_all : (k : ℕ) → k ≤ length c.body → AllPairs ShareWell (called_in k)
-    share_all zero within = λ i j d less below. absurd (omega arith)
-    share_all (suc k) within =
+    pub pairs_to : (k : ℕ) → k ≤ last → AllPairs R (called_in k)
+    pairs_to zero within = λ i j d less below. absurd (omega arith)
+    pairs_to (suc k) within =
         let s = get_or c.body k no_statement in
-        let below : k < length c.body = omega arith in
+        let below : k < length c.body = omega (arith, within, short) in
         let at : slice_get c.body k ≡ Some s = slice_get-get_or c.body k no_statement below in
         let calls : called_in k ++ invocations_at s ≡ called_in (suc k) = sym (flat_next invocations_at c.body k s at) ∙ ap called_in (add-one k) in
-        let P : List Invocation → Type 0 = AllPairs ShareWell in
-        subst P calls (AllPairs-append ShareWell (called_in k) (invocations_at s) (share_all k (omega arith)) (one_call s) (share_next k s at (omega arith)))
+        let P : List Invocation → Type 0 = AllPairs R in
+        subst P calls (AllPairs-append R (called_in k) (invocations_at s) (pairs_to k (omega arith)) (one_call s) (next k s at (omega arith)))
 
-    share : AllPairs ShareWell whole.invocations
-    share =
-        let P : List Statement → Type 0 = λ body. AllPairs ShareWell (flat_map invocations_at body) in
-        let all : length c.body ≤ length c.body = omega arith in
-        subst P (take-length c.body) (share_all (length c.body) all)
+  -- an invocation's uses of one event are one
+  pub one_use : (v : Invocation) (u x : Use) → IsUseOf whole v u → IsUseOf whole v x → u.event ≡ x.event → (u.at ≡ x.at) × (u.hold ≡ x.hold)
+  one_use v u x (sig, is, used) (sig', is', used') same =
+      let times = v.gives.times in
+      let signed : sig ≡ sig' = same_Some sig sig' (sym is ∙ is') in
+      let at : u.at ≡ x.at = same_Some u.at x.at (sym used.time ∙ ap (slice_get times) same ∙ used'.time) in
+      let event : used.event ≡ used'.event =
+      same_Some used.event used'.event (sym used.of ∙ ap₂ (λ (g : Signature) (k : ℕ). slice_get g.events k) signed same ∙ used'.of) in (
+        at,
+        same_Some u.hold x.hold
+            (sym used.held ∙ ap (λ (e : SigEvent). hold_of e.delay u.at (slice_get times (u.event + 1))) event
+            ∙ ap₂ (λ (t : TimeAt) (k : ℕ). hold_of used'.event.delay t (slice_get times (k + 1))) at same ∙ used'.held),
+      )
 
-    abbrev HasFineUses : Invocation → Type 0
-    HasFineUses v = (u : Use) → IsUseOf whole v u → IsFine c u
+  abbrev pub HasFineUses : Invocation → Type 0
+  HasFineUses v = (u : Use) → IsUseOf whole v u → IsFine c u
 
+  -- F2 and F10 of all uses
+  module _ (delays : (k : ℕ) (s : Statement) → slice_get c.body k ≡ Some s → OfInvocation (KeepsDelays (scope_after earlier c (take k c.body))) (scope_after earlier c (take k c.body)) s) where
     fine_by : (k : ℕ) (s : Statement) (at : slice_get c.body k ≡ Some s) (inst : Text) (gives : Giving) (o : Option Signature) → o ≡ instance_signature whole inst → IfSome o (λ sig. KeepsDelays (before k s at) sig inst gives) → All (λ (t : TimeAt). NamesEvent c t.event) gives.times
         → (name : Text) → HasFineUses (record { name = name; inst = inst; gives = gives })
     fine_by k s at inst gives o same kept times name u (sig, is, used) =
@@ -285,39 +303,41 @@ module _ (earlier : Design) (c : Component) (named : KeepsNames earlier c) where
         let known = named.known_names k s at in
         All-cons HasFineUses _ []
         (fine_by k s at inst gives (instance_signature (before k s at) inst)
-        (same_meaning (made_in k) (flat_map instances_at (drop k c.body)) inst (cut_before k s at) (some_there (instance_named (made_in k) inst) known.0)) (sharing.delays k s at) known.1.times name) (All-nil _)
+        (same_meaning (made_in k) (flat_map instances_at (drop k c.body)) inst (cut_before k s at) (some_there (instance_named (made_in k) inst) known.0)) (delays k s at) known.1.times name) (All-nil _)
     fine_at k (Both name made params gives) at =
         let s = Both name made params gives in
         let i : Instance = record { name = name; made = made; params = params } in
         let last = find_last (made_in k) i (All-head (λ (i : Instance). ¬ Contains (instance_names (made_in k)) i.name) i [] (named.new_names k s at).instances) in
         All-cons HasFineUses _ []
         (fine_by k s at name gives (signature_in earlier made params)
-        (sym (ap (option_and_then (signature_of earlier)) last) ∙ same_meaning (made_in k ++ i ∷ []) (flat_map instances_at (drop (k + 1) c.body)) name (cut_with k s at) (i, last)) (sharing.delays k s at) (named.known_names k s at).1.times name) (All-nil _)
+        (sym (ap (option_and_then (signature_of earlier)) last) ∙ same_meaning (made_in k ++ i ∷ []) (flat_map instances_at (drop (k + 1) c.body)) name (cut_with k s at) (i, last)) (delays k s at) (named.known_names k s at).1.times name) (All-nil _)
 
-    fine : All HasFineUses whole.invocations
+    pub fine : All HasFineUses whole.invocations
     fine = All-flat_map HasFineUses invocations_at c.body (λ k d within. fine_at k (get_or c.body k d) (slice_get-get_or c.body k d within))
+
+  module _ (sharing : KeepsShared earlier c) where
+    abbrev ShareWell : Invocation → Invocation → Type 0
+    ShareWell v w = (u x : Use) → IsUseOf whole v u → IsUseOf whole w x → u.inst ≡ x.inst → u.event ≡ x.event → AreShared c u x
+
+    share_next : (k : ℕ) (s : Statement) → slice_get c.body k ≡ Some s → k ≤ length c.body → All (λ v. All (ShareWell v) (invocations_at s)) (called_in k)
+    share_next k s at within i d below j e below' u x uses_u uses_x same_instance same_event =
+        let v = get_or (called_in k) i d in
+        let w = get_or (invocations_at s) j e in
+        let used_x = to_with k s at w x (found_own k s at j e below') uses_x in
+        let used_u = to_with k s at v u (found_more (made_in k) (instances_at s) v.inst (found_all k within i d below)) uses_u in
+        let earlier : IsEarlierUse (with k s at) x u = record { invocation = v; is_earlier = (i, below, get_or_default (called_in k) i v d below); uses = used_u; same_instance = same_instance; same_event = same_event } in
+        let kept = sharing.apart k s at j e below' x u used_x earlier in
+        record { event = kept.0; disjoint = kept.1; in_time = sharing.in_time k s at j e below' x u used_x earlier }
+
+    share : AllPairs ShareWell whole.invocations
+    share =
+        let P : List Statement → Type 0 = λ body. AllPairs ShareWell (flat_map invocations_at body) in
+        let all : length c.body ≤ length c.body = omega arith in
+        subst P (take-length c.body) (pairs_to ShareWell (length c.body) all (λ k s at below. share_next k s at (omega arith)) (length c.body) all)
 
     -- a hold by transaction m
     abbrev IsHoldOf : ℕ → Start → Hold → Type 0
     IsHoldOf m s h = (v : Invocation) × Contains whole.invocations v × IsHoldBy whole m s v h
-
-    uses_of_call : (v : Invocation) → All (IsUseOf whole v) (uses_of whole v) × AllPairs (λ (u w : Use). u.event < w.event) (uses_of whole v)
-    uses_of_call v = by (instance_signature whole v.inst) refl
-      where
-        by : (o : Option Signature) → instance_signature whole v.inst ≡ o → All (IsUseOf whole v) (uses_by v o) × AllPairs (λ (u w : Use). u.event < w.event) (uses_by v o)
-        by None is = (λ i d within. absurd (omega arith), λ i j d less within. absurd (omega arith))
-        by (Some sig) is =
-            let all = uses_are sig v.inst v.gives.times 0 sig.events (λ j. let e : j ≡ 0 + j = omega arith in ap (slice_get sig.events) e) in
-            (All-weaker (IsFrom sig v.inst v.gives.times 0) (IsUseOf whole v) (λ u f. (sig, is, f.0)) (uses_from 0 sig.events v.inst v.gives.times) all.0, all.1)
-
-    holds_of_call : (m : ℕ) (s : Start) (v : Invocation) → All (IsHoldBy whole m s v) (holds_by whole m s v)
-    holds_of_call m s v =
-        let test = λ (u : Use). bytes_eq u.at.event s.event in
-        let passed = All-passed (IsUseOf whole v) test (uses_of whole v) (uses_of_call v).0 in
-        All-map (IsHoldBy whole m s v) (hold_from m s.row v.name) (filter test (uses_of whole v))
-        (λ k d within.
-        let here = passed k d within in
-        record { use_now = get_or (filter test (uses_of whole v)) k d; uses = here.0; on = (bytes_eq-Decides (get_or (filter test (uses_of whole v)) k d).at.event s.event).0 here.1; is = refl })
 
     abbrev block : ℕ → Start → List Hold
     block m s = flat_map (holds_by whole m s) whole.invocations
@@ -368,19 +388,6 @@ module _ (earlier : Design) (c : Component) (named : KeepsNames earlier c) where
     later_rows s t u x e follows on_s on_t same has named within =
         let rows = (follows (sym on_s ∙ same ∙ on_t)).1 e has (named ∙ on_s) in omega arith
 
-    one_use : (v : Invocation) (u x : Use) → IsUseOf whole v u → IsUseOf whole v x → u.event ≡ x.event → (u.at ≡ x.at) × (u.hold ≡ x.hold)
-    one_use v u x (sig, is, used) (sig', is', used') same =
-        let times = v.gives.times in
-        let signed : sig ≡ sig' = same_Some sig sig' (sym is ∙ is') in
-        let at : u.at ≡ x.at = same_Some u.at x.at (sym used.time ∙ ap (slice_get times) same ∙ used'.time) in
-        let event : used.event ≡ used'.event =
-        same_Some used.event used'.event (sym used.of ∙ ap₂ (λ (g : Signature) (k : ℕ). slice_get g.events k) signed same ∙ used'.of) in (
-          at,
-          same_Some u.hold x.hold
-              (sym used.held ∙ ap (λ (e : SigEvent). hold_of e.delay u.at (slice_get times (u.event + 1))) event
-              ∙ ap₂ (λ (t : TimeAt) (k : ℕ). hold_of used'.event.delay t (slice_get times (k + 1))) at same ∙ used'.held),
-        )
-
     apart_later : (m m' : ℕ) (s t : Start) (h k : Hold) → Follows c s t → IsHoldOf m s h → IsHoldOf m' t k → AreApart h k
     apart_later m m' s t h k follows (v, has_v, of_h) (w, has_w, of_k) same_instance same_event =
         let u = of_h.use_now in
@@ -389,7 +396,7 @@ module _ (earlier : Design) (c : Component) (named : KeepsNames earlier c) where
         let event : u.event ≡ x.event = sym (ap (λ (h : Hold). h.event) of_h.is) ∙ same_event ∙ ap (λ (h : Hold). h.event) of_k.is in
         let h_to : h.to ≡ s.row + u.at.plus + u.hold = ap (λ (h : Hold). h.to) of_h.is in
         let k_from : k.from ≡ t.row + x.at.plus = ap (λ (h : Hold). h.from) of_k.is in
-        let good : IsFine c u = All-contains HasFineUses whole.invocations v fine has_v u of_h.uses in
+        let good : IsFine c u = All-contains HasFineUses whole.invocations v (fine sharing.delays) has_v u of_h.uses in
         let on = event_named c u.at.event good.named in
         let apart_by : u.at.event ≡ x.at.event → u.at.plus + u.hold ≤ x.at.plus + on.0.delay → h.to ≤ k.from = λ same within.
         (let rows = later_rows s t u x on.0 follows of_h.on of_k.on same on.1 on.2 within in omega arith) in

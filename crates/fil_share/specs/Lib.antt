@@ -4,3 +4,4 @@ pub mod Instances
 pub mod Uses
 pub mod Own
 pub mod Inner
+pub mod Carried

@@ -6,6 +6,7 @@ use Rattle.fil_ast.specs.Numbers.{IsNumberOf}
 use Rattle.fil_ast.specs.Scope.{Scope, Invocation}
 use Rattle.fil_ast.specs.Timeline as tree
 use Rattle.fil_ast.specs.Tree.{Component}
+use Rattle.fil_ast.specs.declared.tree.TheConstants.{MOST_OFFSET}
 use Rattle.fil_ast.specs.declared.tx.Tx.{Tx}
 use Rattle.fil_share.specs.declared.hold.Hold as shown
 use Rattle.fil_share.specs.declared.hold.TheConstants.{MOST_ROWS}
@@ -54,6 +55,7 @@ HoldHasNumbers names h = IsNumberOf names h.inst × IsNumberOf names h.call
 -- the use has numbers of the names, and is within few rows after its event
 pub record IsGoodUse (names : List Text) (u : Use) : Type 0 where
   pub numbered : UseHasNumbers names u
+  pub early : u.from ≤ MOST_OFFSET
   pub ordered : u.from ≤ u.to
   pub small : u.to ≤ MOST_ROWS
 

@@ -28,14 +28,14 @@ pub struct Meet {
 }
 
 /// Whether one of the two ends before or where the other starts.
-pub fn are_apart(first: &Hold, second: &Hold) -> bool
+fn are_apart(first: &Hold, second: &Hold) -> bool
     ensures { IsTrue result ↔ AreApart first.now second.now }
 {
     first.to <= second.from || second.to <= first.from
 }
 
 /// The place of the first of the earlier uses that overlaps this one.
-pub fn first_overlap(earlier: &[Hold], use_now: &Hold) -> Option<usize>
+pub(crate) fn first_overlap(earlier: &[Hold], use_now: &Hold) -> Option<usize>
     ensures none { IsNone result ↔ All (λ hold. AreApart hold use_now.now) earlier.now }
     ensures first { IfSome result (IsFirstOverlap earlier.now use_now.now) }
 {

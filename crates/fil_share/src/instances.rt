@@ -1,9 +1,11 @@
 //! The instances of a component, with the signatures of what they are made of.
-ghost use Rattle.std.specs.Prelude.{◌≡◌, ◌<◌, List, ◌∷◌, [], ◌++◌, Some, length, map, take, option_map, slice_get, All, Contains, IfOk, IfSome, OnOk};
+ghost use Rattle.std.specs.Prelude.{◌≡◌, ◌<◌, ◌↔◌, List, ◌∷◌, [], ◌++◌, Some, length, map, take, option_map, slice_get, All, Contains, IfOk, IfSome, IsSome, OnOk};
+ghost use Rattle.hw_names.specs.Name.{Text};
 ghost use Rattle.fil_ast.specs.Limits.{KeepsLimits};
-ghost use Rattle.fil_ast.specs.Naming.{component_names};
+ghost use Rattle.fil_ast.specs.Naming.{component_names, instance_names};
 ghost use Rattle.fil_ast.specs.Numbers.{ComponentHasNumbers, StatementHasNumbers};
 ghost use Rattle.fil_ast.specs.Scope.{Instance, Scope, instance_signature, instances_at, signature_in};
+ghost use Rattle.fil_ast.specs.Signature.{Signature};
 ghost use Rattle.fil_ast.specs.Tree.{Component, Design, component_tree, design_of, statement_tree};
 ghost use Rattle.fil_ast.specs.Wires.{whole_scope};
 ghost use Rattle.fil_sig.specs.Seen.{seen};
@@ -111,6 +113,29 @@ impl Instances {
         let _new = add_name(&mut self.names, name)?;
         self.sigs.push(sig)?;
         Ok(())
+    }
+
+    /// How many instances there are.
+    pub fn len(&self) -> usize
+        ensures { (scope : Scope) → Shows self.now scope → result ≡ length scope.instances }
+    {
+        self.names.len()
+    }
+
+    /// The number of the instance of this name, counted from 0 in their order.
+    pub fn number(&self, name: &[u8]) -> Option<usize>
+        ensures at { (scope : Scope) → Shows self.now scope → IfSome result (λ number. slice_get (instance_names scope.instances) number ≡ Some name.now) }
+        ensures present { (scope : Scope) → Shows self.now scope → IsSome result ↔ Contains (instance_names scope.instances) name.now }
+    {
+        Some(self.names.find(name)?.0 as usize)
+    }
+
+    /// The signatures of what the instances are made of, in their order.
+    pub fn sigs(&self) -> &[TimeSig]
+        ensures { (scope : Scope) (name : Text) (sig : Signature) → Shows self.now scope → instance_signature scope name ≡ Some sig
+            → Contains (map seen result.now) sig }
+    {
+        self.sigs.as_slice()
     }
 
     /// The signature of the instance of this name.

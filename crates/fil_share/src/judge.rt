@@ -7,7 +7,7 @@ use crate::span::overrun;
 
 /// What a use breaks of F11 and F12, after uses that keep both: the earlier ones, in their order, are of the same
 /// event of the same unit by the same transaction, which starts at row 0. It takes no memory.
-pub fn meets(earlier: &[Hold], use_now: &Hold, delay: u64) -> Option<Meet>
+fn meets(earlier: &[Hold], use_now: &Hold, delay: u64) -> Option<Meet>
     requires held { All IsHeld (earlier.now ++ use_now.now ∷ []) }
     requires small { All (EndsBy MOST_ROWS) (earlier.now ++ use_now.now ∷ []) }
     requires delay { delay ≤ MOST_ROWS }

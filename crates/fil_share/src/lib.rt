@@ -2,6 +2,7 @@
 #![tactic(auto)]
 
 mod callees;
+mod carried;
 mod hold;
 mod instances;
 mod judge;
@@ -12,9 +13,11 @@ mod transactions;
 mod uses;
 
 pub use callees::add_component_name;
-pub use hold::{Hold, MOST_ROWS, Meet, are_apart, first_overlap};
+pub use carried::{transactions_are_legal, transactions_have_own_values, transactions_keep_flow};
+pub use hold::{Hold, MOST_ROWS, Meet};
 pub use instances::Instances;
-pub use judge::{meeting, meets};
+pub use judge::meeting;
 pub use laws::{forms_agree, meet_is_real, rules_are_exact, sharing_keeps_apart};
 pub use own::{inner_starts_are_spaced, own_holds_are_apart, spaced_holds_are_apart};
 pub use transactions::holds;
+pub use uses::{Use, component_uses};

@@ -11,7 +11,7 @@ ghost use Rattle.fil_share.specs.Uses.{HoldHasNumbers, IsGoodUse, LATEST, held_b
 use crate::callees::component_names;
 use crate::hold::Hold;
 use crate::instances::Instances;
-use crate::uses::{Use, uses};
+use crate::uses::{Use, component_uses};
 use fil_ast::{FilComp, FilOk, Tx};
 use hw_bits::Memory;
 use hw_names::Names;
@@ -84,6 +84,6 @@ pub fn holds(alloc: Global, ok: &FilOk, comp: usize, txs: &[Tx]) -> Result<Vec<H
     let design = ok.design();
     let known = component_names(alloc, &design.names, &design.comps[..comp])?;
     let instances = Instances::make(alloc, ok, &known, comp)?;
-    let uses = uses(alloc, &design.names, &instances, &design.comps[comp])?;
+    let uses = component_uses(alloc, &design.names, &instances, &design.comps[comp])?;
     all_holds(alloc, &design.names, &design.comps[comp], &uses, txs)
 }

@@ -24,7 +24,7 @@ use std::alloc::Global;
 /// The event with this number of the callee of `inst`, which the invocation `call` holds in the rows `[from, to)` after
 /// the component's event `on`.
 #[derive(Clone, Copy, Debug, PartialEq, Eq)]
-pub(crate) struct Use {
+pub struct Use {
     pub on: NameId,
     pub inst: NameId,
     pub event: u8,
@@ -147,7 +147,7 @@ fn push_statement(
 }
 
 /// What one transaction uses: the invocations in order, in each the callee's events.
-pub(crate) fn uses(
+pub fn component_uses(
     alloc: Global,
     names: &Names,
     instances: &Instances,

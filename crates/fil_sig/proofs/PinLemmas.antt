@@ -3,7 +3,7 @@ use Rattle.std.proofs.Common.{◌≡◌, ℕ, ◌+◌, ◌≤◌, Bool, true, fa
 use Rattle.std.proofs.lemmas.List.{map-append, append-nil as append_nothing}
 use Rattle.std.proofs.lemmas.List.Elements.{filter_more}
 use Rattle.std.proofs.lemmas.Option.{get_or_from_slice_get, slice_get_within}
-use Rattle.fil_ast.specs.Primitives.{is_data_pin}
+use Rattle.hw_prims.specs.Filament.{is_data_pin}
 use Rattle.fil_ast.specs.Signature as tree
 use Rattle.hw_names.specs.Name.{Text}
 use Rattle.hw_prims.proofs.PortNameLemmas.{unknown_makes_none}

@@ -30,7 +30,7 @@ pub fn component_named<'a>(design: &'a FilDesign, name: &[u8]) -> Option<&'a Fil
 }
 
 /// The interface port of an event: the first that is its.
-fn interface_of(names: &Names, gos: &[GoPort], event: &[u8]) -> Option<NameId>
+pub fn interface_of(names: &Names, gos: &[GoPort], event: &[u8]) -> Option<NameId>
     requires { All (InterfaceHasNumbers names.now) gos.now }
     ensures found { option_map (text_of names.now) result ≡ interface_of (map (interface_tree names.now) gos.now) event.now }
     ensures numbered { IfSome result (IsNumberOf names.now) }
@@ -44,7 +44,7 @@ fn interface_of(names: &Names, gos: &[GoPort], event: &[u8]) -> Option<NameId>
 }
 
 /// The number of an event, counted from 0; past the last where no event has the name.
-fn event_number(names: &Names, events: &[EventDef], event: NameId) -> u8
+pub fn event_number(names: &Names, events: &[EventDef], event: NameId) -> u8
     requires events { All (EventHasNumber names.now) events.now }
     requires few { length events.now ≤ 16 }
     requires numbered { IsNumberOf names.now event }

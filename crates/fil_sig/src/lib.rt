@@ -8,7 +8,7 @@ mod primitive;
 mod shape;
 mod time_sig;
 
-pub use component::{component_named, component_signature};
+pub use component::{component_named, component_signature, event_number, interface_of};
 pub use named::{SigEnd, signature, used_signature};
 pub use names::add_name;
 pub use primitive::table_name;

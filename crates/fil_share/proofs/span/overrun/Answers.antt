@@ -1,7 +1,7 @@
 use Rattle.std.proofs.Common.{◌≤◌, ◌<◌, ◌+◌, [], ◌∷◌, ◌++◌, length, refl, arith}
 use Rattle.std.proofs.lemmas.Grind.{common_steps}
 use Rattle.std.proofs.lemmas.List.{length-append}
-use Rattle.fil_share.specs.Sharing.{AreApart, EndsInTime}
+use Rattle.fil_share.specs.Sharing.{AreApart}
 use Rattle.fil_share.proofs.ListLemmas.{AllPairs-last}
 use Rattle.fil_share.proofs.SharingLemmas.{ends_in_span, spans_in_time}
 use Rattle.fil_share.proofs.span.overrun.Goals as goal

@@ -36,16 +36,16 @@ make-requires-clause-known c =
     ∙ ap component_names (ap (λ (cs : List FilComp). map (component_tree d.names) (take n cs)) c.deref.ensures.value ∙ map_take (component_tree d.names) n d.comps.items)
     ∙ ap (λ (e : FilDesign). component_names (take n (design_of e))) c.design-design.ensures.same
 
-pub uses-requires-clause-small : goal.uses-requires-clause-small
-uses-requires-clause-small c =
+pub component_uses-requires-clause-small : goal.component_uses-requires-clause-small
+component_uses-requires-clause-small c =
     let d = c.design-design.result.now in
     let n = c.args.comp in
     let within : n < length d.comps.items = subst (λ (e : FilDesign). n < length e.comps.items) (sym c.design-design.ensures.same) c.requires.comp in
     let K : FilComp → Type 0 = KeepsLimits in
     subst K (sym c.index.ensures) (c.design-design.ensures.small n c.index.result.now within)
 
-pub uses-requires-clause-shown : goal.uses-requires-clause-shown
-uses-requires-clause-shown c =
+pub component_uses-requires-clause-shown : goal.component_uses-requires-clause-shown
+component_uses-requires-clause-shown c =
     let d = c.design-design.result.now in
     let n = c.args.comp in
     let x = c.index.result.now in

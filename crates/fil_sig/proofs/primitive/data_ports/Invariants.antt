@@ -1,6 +1,6 @@
 use Rattle.std.proofs.Common.{◌≡◌, take, drop, map}
 use Rattle.std.specs.List.{filter}
-use Rattle.fil_ast.specs.Primitives.{is_data_pin}
+use Rattle.hw_prims.specs.Filament.{is_data_pin}
 use Rattle.hw_prims.specs.Table.{pins_of}
 use Rattle.fil_sig.specs.Kinds.{port_in}
 use Rattle.fil_sig.specs.Seen.{seen_offset, seen_port}

@@ -3,7 +3,7 @@ use Rattle.fil_ast.specs.Scope.{Scope, invocations_at}
 use Rattle.fil_ast.specs.Tree.{component_tree}
 use Rattle.fil_share.specs.Instances.{Shows}
 use Rattle.fil_share.specs.Uses.{IsGoodUse, held_by, shown_use}
-use Rattle.fil_share.proofs.uses.uses.Given as goal
+use Rattle.fil_share.proofs.uses.component_uses.Given as goal
 
 -- the uses of the statements so far
 abbrev pub invariant-loop-stmt : goal.invariant-loop-stmt

@@ -5,7 +5,7 @@ use Rattle.fil_ast.specs.Tree.{statement_tree}
 use Rattle.fil_share.specs.Uses.{held_by}
 use Rattle.fil_share.proofs.Lookup.{at_mapped}
 use Rattle.fil_share.proofs.MakesLemmas.{flat_next}
-use Rattle.fil_share.proofs.uses.uses.Goals as goal
+use Rattle.fil_share.proofs.uses.component_uses.Goals as goal
 
 pub loop-stmt-preserved : goal.loop-stmt-preserved
 loop-stmt-preserved c =
