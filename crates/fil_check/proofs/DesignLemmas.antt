@@ -21,7 +21,7 @@ use Rattle.fil_ast.specs.declared.tree.FilComp.{FilComp}
 use Rattle.fil_ast.specs.declared.tree.FilDesign.{FilDesign}
 use Rattle.fil_check.specs.Callees.{HasGoodDelay, HasSmallInterval, HasGoodTimes}
 use Rattle.fil_check.specs.First.{ComponentIs, IsFirstItem, TellsFirst, TellsItem}
-use Rattle.fil_check.specs.Least.{evidence_of, loop_of}
+use Rattle.fil_check.specs.Least.{evidence_of}
 use Rattle.fil_check.specs.Outputs.{output_names}
 use Rattle.fil_check.specs.Wired.{IsFirstLoop}
 use Rattle.fil_check.specs.declared.rules.CompEnd.{CompEnd}
@@ -135,7 +135,7 @@ component_ends d n comp (component.Broken item broken) r at before first is =
 component_ends d n comp component.Memory r at before first is = subst (TellsFirst d) (sym is) tt
 
 -- where all components keep the rules, the first loop is what is refused
-pub looped : (comps : Design) (name : Text) (ports : List Text) → KeepsRules all_rules comps → IsFirstLoop comps name ports → IsRefusal comps name 0 (loop_of ports) 14
+pub looped : (comps : Design) (name : Text) (ports : List Text) → KeepsRules all_rules comps → IsFirstLoop comps name ports → IsRefusal comps name 0 (shown.ALoop ports) 14
 looped comps name ports keeps is =
     let first : HasFirstLoop comps is.number is.first is.others = record {
       others_keep = keeps;
@@ -144,7 +144,7 @@ looped comps name ports keeps is =
       components = is.components;
       loop = is.loop;
     } in
-    HasLoop is.number is.first is.others first is.named refl (ap loop_of is.are)
+    HasLoop is.number is.first is.others first is.named refl (ap shown.ALoop is.are)
 
 -- the delays and offsets of a component that keeps F5 and the limits are those of a callee
 pub good_times : (names : List Text) (comp : FilComp) → KeepsLimits comp → HasShape (component_tree names comp) → HasGoodTimes (component_signature (component_tree names comp))

@@ -29,7 +29,7 @@ use Rattle.fil_share.proofs.CalleeLemmas.{named_among}
 use Rattle.fil_share.proofs.ListLemmas.{All-flat_map, Contains-at}
 use Rattle.fil_share.proofs.OwnLemmas.{FoundIn, IsFound, KeepsNames, KeepsShared, cut_before, cut_with, find_last, found_all, found_more, found_own, made_in, own_apart, same_meaning, some_there}
 use Rattle.fil_check.specs.Callees.{HasGoodDelay, IsGoodDelay}
-use Rattle.fil_check.specs.Needed.{Collide, HoldsTwice, NothingIsHeldTwice, SharingRulesAreExact, first_ten, sharing_rules, start_at}
+use Rattle.fil_check.specs.Needed.{Collide, HoldsTwice, NothingIsHeldTwice, SharingRulesAreExact, first_ten, gap_starts, later_of, meeting_starts, sharing_rules}
 use Rattle.fil_check.specs.Place.{AreHeld}
 use Rattle.fil_check.proofs.MadeLemmas.{primitive_times}
 use Rattle.fil_check.proofs.NeededLemmas.{in_flat, meet, overrun}
@@ -102,8 +102,8 @@ apart_or_not u x = by (bytes_eq u.at.event x.at.event) refl
     by false is = inr (λ apart. (let bad : true ≡ false = sym ((bytes_eq-Decides u.at.event x.at.event).1 apart.0) ∙ is in absurd (cc)))
 
 -- holds that are apart don't meet
-not_twice : (holds : List Hold) (row : ℕ) → AllPairs held.AreApart holds → HoldsTwice holds row → ⊥
-not_twice holds row apart two =
+not_twice : (holds : List Hold) (inst : Text) (event row : ℕ) → AllPairs held.AreApart holds → HoldsTwice holds inst event row → ⊥
+not_twice holds inst event row apart two =
     let within_i = slice_get_within holds two.i two.one two.at_one in
     let within_j = slice_get_within holds two.j two.other two.at_other in
     let one : get_or holds two.i two.one ≡ two.one = get_or_from_slice_get holds two.i two.one two.one two.at_one in
@@ -113,9 +113,9 @@ not_twice holds row apart two =
     subst (P two.one) other (subst (λ (h : Hold). P h (get_or holds two.j two.one)) one (apart two.i two.j two.one two.differ within_j)) in
     let a = two.held_one in
     let b = two.held_other in
-    elim (both two.same_instance two.same_event) [ inl h ↦ (let x = a.1 in let y = b.0 in omega arith) | inr h ↦ (let x = a.0 in let y = b.1 in omega arith) ]
+    elim (both (two.of_one.0 ∙ sym two.of_other.0) (two.of_one.1 ∙ sym two.of_other.1)) [ inl h ↦ (let x = a.1 in let y = b.0 in omega arith) | inr h ↦ (let x = a.0 in let y = b.1 in omega arith) ]
 
-call_there : (s : Statement) (j : ℕ) (d : Invocation) → j < length (invocations_at s) → Contains (invocations_at s) (get_or (invocations_at s) j d)
+pub call_there : (s : Statement) (j : ℕ) (d : Invocation) → j < length (invocations_at s) → Contains (invocations_at s) (get_or (invocations_at s) j d)
 call_there s j d within = (j, within, get_or_default (invocations_at s) j (get_or (invocations_at s) j d) d within)
 
 -- every use of a component is held for a row or more, where its statements keep F1, F2 and F7, and delays are a row or more
@@ -167,7 +167,7 @@ module _ (earlier : Design) (c : Component) (names : KeepsNames earlier c) (shap
       lasts (Some i) e = callee_lasts earlier shapes i.made i.params sig e
 
 module _ (earlier : Design) (c : Component) (others : KeepsRules first_ten earlier) (kept : KeepsComponent first_ten earlier c) where
-  names : KeepsNames earlier c
+  pub names : KeepsNames earlier c
   names = record {
     new_names = λ k s at. kept (suc k) (TheStatement (take k c.body) s) (inl (s, at, refl)) 0 F1 (omega arith);
     known_names = λ k s at. kept (suc k) (TheStatement (take k c.body) s) (inl (s, at, refl)) 1 F1 (omega arith);
@@ -176,21 +176,59 @@ module _ (earlier : Design) (c : Component) (others : KeepsRules first_ten earli
   shapes : All HasShape earlier
   shapes k d within = others k (get_or earlier k d) (slice_get-get_or earlier k d within) 0 TheSignature refl 4 F1 (omega arith)
 
-  abbrev full : Scope
+  abbrev pub full : Scope
   full = whole_scope earlier c
 
-  all_held : AreHeld full
+  pub all_held : AreHeld full
   all_held = are_held earlier c names shapes (λ k s at. kept (suc k) (TheStatement (take k c.body) s) (inl (s, at, refl)) 6 F1 (omega arith))
 
-  distinct : AreDistinct (event_names c)
+  pub distinct : AreDistinct (event_names c)
   distinct = (kept 0 TheSignature refl 0 F1 (omega arith)).events
 
-  shape : HasShape c
+  pub shape : HasShape c
   shape = kept 0 TheSignature refl 4 F1 (omega arith)
 
+  -- an invocation of a statement, and those before and from it on
+  module _ (k : ℕ) (s : Statement) (at : slice_get c.body k ≡ Some s) (w : Invocation) (there : Contains (invocations_at s) w) where
+    abbrev pub with : Scope
+    with = scope_with earlier c (take k c.body) s
+
+    abbrev pub before : List Invocation
+    before = flat_map invocations_at (take k c.body)
+
+    abbrev pub after : List Invocation
+    after = flat_map invocations_at (drop k c.body)
+
+    pub cut : before ++ after ≡ full.invocations
+    cut = sym (flat_map-append invocations_at (take k c.body) (drop k c.body)) ∙ ap (flat_map invocations_at) (take-append-drop k c.body)
+
+    pub is_after : Contains after w
+    is_after = in_flat invocations_at (drop k c.body) s w (in_drop c.body k s at) there
+
+    pub in_whole : (v : Invocation) → Contains before v → Contains full.invocations v × Contains full.invocations w
+    in_whole v has =
+        let C : Invocation → List Invocation → Type 0 = λ i vs. Contains vs i in
+        (subst (C v) cut (Contains-append_left before after v has), subst (C w) cut (Contains-append_right before after w is_after))
+
+    -- what is used here is used in the whole component
+    to_whole : (v : Invocation) (u : Use) → IsFound earlier c names (made_in earlier c names k ++ instances_at s) v.inst → IsUseOf with v u → IsUseOf full v u
+    to_whole v u found (sig, is, used) =
+        (sig, sym (same_meaning earlier c names (made_in earlier c names k ++ instances_at s) (flat_map instances_at (drop (k + 1) c.body)) v.inst (cut_with earlier c names k s at) found) ∙ is, used)
+
+    pub own_whole : (u : Use) → IsUseOf with w u → IsUseOf full w u
+    own_whole u used =
+        let F : Invocation → Type 0 = FoundIn earlier c names (made_in earlier c names k ++ instances_at s) in
+        to_whole w u (All-contains F (invocations_at s) w (found_own earlier c names k s at) there) used
+
+    pub earlier_whole : (v : Invocation) (u : Use) → Contains before v → IsUseOf with v u → IsUseOf full v u
+    earlier_whole v u has used =
+        let F : Invocation → Type 0 = FoundIn earlier c names (made_in earlier c names k) in
+        let within = slice_get_within c.body k s at in
+        to_whole v u (found_more earlier c names (made_in earlier c names k) (instances_at s) v.inst (All-contains F before v (found_all earlier c names k (omega arith)) has)) used
+
   module _ (apart : NothingIsHeldTwice earlier c) where
-    no_collision : (starts : List Start) (row : ℕ) → Collide full starts row → ⊥
-    no_collision starts row met = not_twice (holds_of full starts) row (apart starts met.legal) met.twice
+    no_collision : (starts : List Start) (inst : Text) (event row : ℕ) → Collide full starts inst event row → ⊥
+    no_collision starts inst event row met = not_twice (holds_of full starts) inst event row (apart starts met.legal) met.twice
 
     -- under F12 by holds
     fits : (v w : Invocation) (first last : Use) → IsUseOf full v first → IsUseOf full w last → Contains full.invocations v → Contains full.invocations w → first.inst ≡ last.inst → first.event ≡ last.event → first.at.event ≡ last.at.event
@@ -200,65 +238,29 @@ module _ (earlier : Design) (c : Component) (others : KeepsRules first_ten earli
           | inr le ↦ le
           | inl late ↦
               let gap = max e.delay (last.at.plus - first.at.plus) in
-              absurd (no_collision (start_at first.at.event 0 ∷ start_at first.at.event gap ∷ []) (gap + first.at.plus)
+              absurd (no_collision (gap_starts first.at.event gap) last.inst last.event (gap + first.at.plus)
               (overrun full v w first last of_v of_w has_v has_w same_instance same_event on held_first held_last e has_e named distinct shape (λ fit. (let fit' : last.at.plus + last.hold ≤ first.at.plus + e.delay = fit in omega arith)) gap refl))
         ]
 
     module _ (k : ℕ) (s : Statement) (at : slice_get c.body k ≡ Some s) (w : Invocation) (there : Contains (invocations_at s) w) where
-      abbrev with : Scope
-      with = scope_with earlier c (take k c.body) s
-
-      abbrev before : List Invocation
-      before = flat_map invocations_at (take k c.body)
-
-      abbrev after : List Invocation
-      after = flat_map invocations_at (drop k c.body)
-
-      cut : before ++ after ≡ full.invocations
-      cut = sym (flat_map-append invocations_at (take k c.body) (drop k c.body)) ∙ ap (flat_map invocations_at) (take-append-drop k c.body)
-
-      is_after : Contains after w
-      is_after = in_flat invocations_at (drop k c.body) s w (in_drop c.body k s at) there
-
-      in_whole : (v : Invocation) → Contains before v → Contains full.invocations v × Contains full.invocations w
-      in_whole v has =
-          let C : Invocation → List Invocation → Type 0 = λ i vs. Contains vs i in
-          (subst (C v) cut (Contains-append_left before after v has), subst (C w) cut (Contains-append_right before after w is_after))
-
-      -- what is used here is used in the whole component
-      to_whole : (v : Invocation) (u : Use) → IsFound earlier c names (made_in earlier c names k ++ instances_at s) v.inst → IsUseOf with v u → IsUseOf full v u
-      to_whole v u found (sig, is, used) =
-          (sig, sym (same_meaning earlier c names (made_in earlier c names k ++ instances_at s) (flat_map instances_at (drop (k + 1) c.body)) v.inst (cut_with earlier c names k s at) found) ∙ is, used)
-
-      own_whole : (u : Use) → IsUseOf with w u → IsUseOf full w u
-      own_whole u used =
-          let F : Invocation → Type 0 = FoundIn earlier c names (made_in earlier c names k ++ instances_at s) in
-          to_whole w u (All-contains F (invocations_at s) w (found_own earlier c names k s at) there) used
-
-      earlier_whole : (v : Invocation) (u : Use) → Contains before v → IsUseOf with v u → IsUseOf full v u
-      earlier_whole v u has used =
-          let F : Invocation → Type 0 = FoundIn earlier c names (made_in earlier c names k) in
-          let within = slice_get_within c.body k s at in
-          to_whole v u (found_more earlier c names (made_in earlier c names k) (instances_at s) v.inst (All-contains F before v (found_all earlier c names k (omega arith)) has)) used
-
-      keeps_apart : KeepsApart with w
+      keeps_apart : KeepsApart (with k s at w there) w
       keeps_apart u other used known = elim (apart_or_not other u) [
         | inl good ↦ good
         | inr met ↦
             let v = known.invocation in
-            let used_v = earlier_whole v other known.is_earlier known.uses in
-            let used_w = own_whole u used in
-            let both = in_whole v known.is_earlier in
-            let found = meet full v w other u used_v used_w known.same_instance known.same_event before after cut known.is_earlier is_after (all_held v other both.0 used_v) (all_held w u both.1 used_w) met in
-            absurd (no_collision found.0 (max other.at.plus u.at.plus) found.1)
+            let used_v = earlier_whole k s at w there v other known.is_earlier known.uses in
+            let used_w = own_whole k s at w there u used in
+            let both = in_whole k s at w there v known.is_earlier in
+            let found = meet full v w other u used_v used_w known.same_instance known.same_event (before k s at w there) (after k s at w there) (cut k s at w there) known.is_earlier (is_after k s at w there) (all_held v other both.0 used_v) (all_held w u both.1 used_w) met in
+            absurd (no_collision (meeting_starts other.at u.at) other.inst other.event (later_of other.at u.at) found)
       ]
 
-      ends_in_time : EndsInTime with w
+      ends_in_time : EndsInTime (with k s at w there) w
       ends_in_time u other used known e has_e named =
           let v = known.invocation in
-          let used_v = earlier_whole v other known.is_earlier known.uses in
-          let used_w = own_whole u used in
-          let both = in_whole v known.is_earlier in
+          let used_v = earlier_whole k s at w there v other known.is_earlier known.uses in
+          let used_w = own_whole k s at w there u used in
+          let both = in_whole k s at w there v known.is_earlier in
           let on = (keeps_apart u other used known).0 in
           let held_v = all_held v other both.0 used_v in
           let held_w = all_held w u both.1 used_w in (

@@ -9,13 +9,14 @@ use Rattle.hw_graph.proofs.MemberLemmas.{In, in_at, at_of, in_of, contains_of, f
 use Rattle.hw_names.proofs.NameLemmas.{same_number, Contains-slice_get}
 use Rattle.hw_names.specs.Name.{Text, AreDistinct}
 use Rattle.hw_prims.proofs.PortNameLemmas.{keeps_words-made}
+use Rattle.hw_prims.specs.Filament.{is_data_pin}
 use Rattle.hw_prims.specs.Meaning.{is_through}
 use Rattle.hw_prims.specs.Memory.{keeps_words}
 use Rattle.hw_prims.specs.Table.{Pin, inputs_of, outputs_of, is_memory, is_primitive, prim_names, prim_of}
 use Rattle.hw_prims.specs.declared.prim.Primitive.{Primitive}
 use Rattle.hw_prims.specs.declared.prim.Primitive.TheVariants.{StdMemD1, StdMemD2}
 use Rattle.fil_ast.specs.Items.{TheSignature}
-use Rattle.fil_ast.specs.Primitives.{filament_primitive, input_port, is_data_pin, is_filament_primitive, output_port, primitive_signature, signature_by, table_name, timing_of}
+use Rattle.fil_ast.specs.Primitives.{filament_primitive, input_port, is_filament_primitive, output_port, primitive_signature, signature_by, table_name, timing_of}
 use Rattle.fil_ast.specs.Rules.{F1, KeepsRules, all_rules}
 use Rattle.fil_ast.specs.Scope.{Scope, Instance, bare_signature, component_named, instance_signature, signature_in}
 use Rattle.fil_ast.specs.Signature.{SigPort, Signature, component_signature, sig_port}

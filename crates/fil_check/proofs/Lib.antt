@@ -34,3 +34,5 @@ pub mod UseLemmas
 pub mod WiredLemmas
 pub mod WiringLemmas
 pub mod WeightLemmas
+pub mod UnitLemmas
+pub mod UnitMeetLemmas

@@ -9,10 +9,11 @@ use Rattle.std.proofs.lemmas.List.Elements.{All-cons, All-nil}
 use Rattle.std.proofs.lemmas.Option.{same_Some, slice_get-map}
 use Rattle.hw_bits.specs.declared.memory.Memory.{Memory}
 use Rattle.hw_names.specs.Name.{Text, AreDistinct}
+use Rattle.hw_prims.specs.Filament.{is_data_pin}
 use Rattle.hw_prims.specs.Table.{inputs_of, outputs_of}
 use Rattle.hw_prims.specs.declared.prim.Primitive.{Primitive}
 use Rattle.hw_prims.specs.declared.prim.Primitive.TheVariants.{StdConst, StdWire, StdAdd, StdSub, StdAnd, StdOr, StdXor, StdNot, StdEq, StdNeq, StdLt, StdGt, StdLe, StdGe, StdLsh, StdRsh, StdSlice, StdPad, FilMux, FilSlice, FilConcat, StdReg, StdMemD1, StdMemD2, StdMultPipe, FilDelay, FilFastMult, FilSeqMult}
-use Rattle.fil_ast.specs.Primitives.{Timing, event, filament_primitive, input_port, is_data_pin, is_filament_primitive, output_port, register_timing, table_name, primitive_signature, signature_by, timing, timing_of}
+use Rattle.fil_ast.specs.Primitives.{Timing, event, filament_primitive, input_port, is_filament_primitive, output_port, register_timing, table_name, primitive_signature, signature_by, timing, timing_of}
 use Rattle.fil_ast.specs.Scope.{bare_signature, component_named, signature_in}
 use Rattle.fil_ast.specs.Signature.{Fixed, Gap, End, SigPort, Signature, component_signature}
 use Rattle.fil_ast.specs.Tree.{Component, Design}

@@ -19,7 +19,7 @@ use Rattle.fil_ast.specs.Signature.{SigEvent, Signature}
 use Rattle.fil_ast.specs.Timeline.{Use, IsUse, hold_of}
 use Rattle.fil_ast.specs.Tree.{TimeAt, Event, Component}
 use Rattle.fil_ast.specs.Typing.{HasShape}
-use Rattle.fil_check.specs.Needed.{HoldsTwice, Collide, MeetingIsReal, GapIsReal, start_at, with_invocation}
+use Rattle.fil_check.specs.Needed.{HoldsTwice, Collide, MeetingIsReal, GapIsReal, gap_starts, later_of, meeting_starts, start_at, with_invocation}
 
 -- elements of lists that are made of others
 in_map : {X Y : Type 0} (f : X → Y) (xs : List X) (x : X) → Contains xs x → Contains (map f xs) (f x)
@@ -28,7 +28,7 @@ in_map f (y ∷ xs) x (zero, within, same) = (zero, omega arith, ap f same)
 in_map f (y ∷ xs) x (suc k, within, same) =
     let there = in_map f xs x (k, omega arith, same) in (suc there.0, omega (arith, there.1), there.2)
 
-in_filter : {X : Type 0} (p : X → Bool) (xs : List X) (x : X) → Contains xs x → p x ≡ true → Contains (filter p xs) x
+pub in_filter : {X : Type 0} (p : X → Bool) (xs : List X) (x : X) → Contains xs x → p x ≡ true → Contains (filter p xs) x
 in_filter p [] x (k, within, same) is = absurd (omega arith)
 in_filter {X} p (y ∷ xs) x (zero, within, same) is =
     let here : p y ≡ true = ap p same ∙ is in
@@ -48,24 +48,24 @@ in_flat f (z ∷ xs) x y (suc k, within, same) has =
 
 -- two elements stand at different places
 pub record StandApart (X : Type 0) (xs : List X) (x y : X) : Type 0 where
-  i : ℕ
-  j : ℕ
-  differ : i < j
-  at_x : slice_get xs i ≡ Some x
-  at_y : slice_get xs j ≡ Some y
+  pub i : ℕ
+  pub j : ℕ
+  pub differ : i < j
+  pub at_x : slice_get xs i ≡ Some x
+  pub at_y : slice_get xs j ≡ Some y
 
-at_left : {X : Type 0} (xs ys : List X) (k : ℕ) (x : X) → slice_get xs k ≡ Some x → slice_get (xs ++ ys) k ≡ Some x
+pub at_left : {X : Type 0} (xs ys : List X) (k : ℕ) (x : X) → slice_get xs k ≡ Some x → slice_get (xs ++ ys) k ≡ Some x
 at_left [] ys k x at = absurd (cc)
 at_left (z ∷ xs) ys zero x at = at
 at_left (z ∷ xs) ys (suc k) x at = at_left xs ys k x at
 
-at_right : {X : Type 0} (xs ys : List X) (k : ℕ) (y : X) → slice_get ys k ≡ Some y → slice_get (xs ++ ys) (length xs + k) ≡ Some y
+pub at_right : {X : Type 0} (xs ys : List X) (k : ℕ) (y : X) → slice_get ys k ≡ Some y → slice_get (xs ++ ys) (length xs + k) ≡ Some y
 at_right [] ys k y at = let e : k ≡ 0 + k = omega arith in ap (slice_get ys) (sym e) ∙ at
 at_right (z ∷ xs) ys k y at =
     let e : length (z ∷ xs) + k ≡ suc (length xs + k) = omega arith in
     ap (slice_get (z ∷ xs ++ ys)) e ∙ at_right xs ys k y at
 
-across : {X : Type 0} (xs ys : List X) (x y : X) → Contains xs x → Contains ys y → StandApart X (xs ++ ys) x y
+pub across : {X : Type 0} (xs ys : List X) (x y : X) → Contains xs x → Contains ys y → StandApart X (xs ++ ys) x y
 across xs ys x y has_x has_y = record {
   i = has_x.0;
   j = length xs + has_y.0;
@@ -107,7 +107,7 @@ use_listed scope v u (sig, is, used) =
     subst (λ (o : Option Signature). Contains (uses_by v o) u) (sym is) (listed_from sig v.inst v.gives.times u used 0 sig.events u.event (omega arith) used.of)
 
 -- a use by a transaction on its event is among the holds
-hold_there : (scope : Scope) (m : ℕ) (s : Start) (v : Invocation) (u : Use) → IsUseOf scope v u → u.at.event ≡ s.event → Contains (holds_by scope m s v) (hold_from m s.row v.name u)
+pub hold_there : (scope : Scope) (m : ℕ) (s : Start) (v : Invocation) (u : Use) → IsUseOf scope v u → u.at.event ≡ s.event → Contains (holds_by scope m s v) (hold_from m s.row v.name u)
 hold_there scope m s v u used on =
     let test = λ (u : Use). bytes_eq u.at.event s.event in
     in_map (hold_from m s.row v.name) (filter test (uses_of scope v)) u (in_filter test (uses_of scope v) u (use_listed scope v u used) ((bytes_eq-Decides u.at.event s.event).1 on))
@@ -119,7 +119,7 @@ legal_two c s t follows zero (suc (suc j)) d less within = absurd (omega arith)
 legal_two c s t follows (suc i) j d less within = absurd (omega arith)
 
 -- two holds that stand apart in the list, of one event of an instance
-twice : (holds : List Hold) (one other : Hold) (row : ℕ) → StandApart Hold holds one other → one.inst ≡ other.inst → one.event ≡ other.event → IsHeldIn row one → IsHeldIn row other → HoldsTwice holds row
+twice : (holds : List Hold) (one other : Hold) (row : ℕ) → StandApart Hold holds one other → one.inst ≡ other.inst → one.event ≡ other.event → IsHeldIn row one → IsHeldIn row other → HoldsTwice holds one.inst one.event row
 twice holds one other row two same_instance same_event held_one held_other = record {
   i = two.i;
   j = two.j;
@@ -128,8 +128,8 @@ twice holds one other row two same_instance same_event held_one held_other = rec
   other = other;
   at_one = two.at_x;
   at_other = two.at_y;
-  same_instance = same_instance;
-  same_event = same_event;
+  of_one = (refl, refl);
+  of_other = (sym same_instance, sym same_event);
   held_one = held_one;
   held_other = held_other;
 }
@@ -138,7 +138,7 @@ twice holds one other row two same_instance same_event held_one held_other = rec
 module _ (scope : Scope) (v w : Invocation) (u x : Use) (of_v : IsUseOf scope v u) (of_w : IsUseOf scope w x) (same_instance : u.inst ≡ x.inst) (same_event : u.event ≡ x.event) where
   -- by two transactions
   by_two : (s t : Start) → Contains scope.invocations v → Contains scope.invocations w → u.at.event ≡ s.event → x.at.event ≡ t.event → (row : ℕ) → IsHeldIn row (hold_from 0 s.row v.name u) → IsHeldIn row (hold_from 1 t.row w.name x)
-      → HoldsTwice (holds_of scope (s ∷ t ∷ [])) row
+      → HoldsTwice (holds_of scope (s ∷ t ∷ [])) u.inst u.event row
   by_two s t has_v has_w on_s on_t row held_u held_x =
       let one = hold_from 0 s.row v.name u in
       let other = hold_from 1 t.row w.name x in
@@ -151,7 +151,7 @@ module _ (scope : Scope) (v w : Invocation) (u x : Use) (of_v : IsUseOf scope v 
 
   -- by two invocations in one transaction
   module _ (before after : List Invocation) (cut : before ++ after ≡ scope.invocations) (has_v : Contains before v) (has_w : Contains after w) where
-    by_one : (s : Start) → u.at.event ≡ s.event → x.at.event ≡ s.event → (row : ℕ) → IsHeldIn row (hold_from 0 s.row v.name u) → IsHeldIn row (hold_from 0 s.row w.name x) → HoldsTwice (holds_of scope (s ∷ [])) row
+    by_one : (s : Start) → u.at.event ≡ s.event → x.at.event ≡ s.event → (row : ℕ) → IsHeldIn row (hold_from 0 s.row v.name u) → IsHeldIn row (hold_from 0 s.row w.name x) → HoldsTwice (holds_of scope (s ∷ [])) u.inst u.event row
     by_one s on_u on_x row held_u held_x =
         let one = hold_from 0 s.row v.name u in
         let other = hold_from 0 s.row w.name x in
@@ -168,32 +168,29 @@ module _ (scope : Scope) (v w : Invocation) (u x : Use) (of_v : IsUseOf scope v 
         (subst (C v) cut (Contains-append_left before after v has_v), subst (C w) cut (Contains-append_right before after w has_w))
 
     -- F11 is needed
-    pub meet : 0 < u.hold → 0 < x.hold → ¬ AreApart u x → (starts : List Start) × Collide scope starts (max u.at.plus x.at.plus)
+    pub meet : 0 < u.hold → 0 < x.hold → ¬ AreApart u x → Collide scope (meeting_starts u.at x.at) u.inst u.event (later_of u.at x.at)
     meet held_u held_x met = by (bytes_eq u.at.event x.at.event) refl
       where
-        by : (b : Bool) → bytes_eq u.at.event x.at.event ≡ b → (starts : List Start) × Collide scope starts (max u.at.plus x.at.plus)
+        by : (b : Bool) → bytes_eq u.at.event x.at.event ≡ b
+            → Collide scope (cond b (start_at u.at.event 0 ∷ []) (start_at u.at.event (max u.at.plus x.at.plus - u.at.plus) ∷ start_at x.at.event (max u.at.plus x.at.plus - x.at.plus) ∷ [])) u.inst u.event (max u.at.plus x.at.plus)
         by true is =
             let same = (bytes_eq-Decides u.at.event x.at.event).0 is in
             let s = start_at u.at.event 0 in
             let a : u.at.plus < x.at.plus + x.hold = elim (cases_lt u.at.plus (x.at.plus + x.hold)) [ inl h ↦ h | inr h ↦ absurd (met (same, inr h)) ] in
-            let b : x.at.plus < u.at.plus + u.hold = elim (cases_lt x.at.plus (u.at.plus + u.hold)) [ inl h ↦ h | inr h ↦ absurd (met (same, inl h)) ] in (
-              s ∷ [],
-              record {
-                legal = λ i j d less within. absurd (omega arith);
-                twice = by_one s refl (sym same) (max u.at.plus x.at.plus) (omega arith, omega arith) (omega arith, omega arith);
-              },
-            )
+            let b : x.at.plus < u.at.plus + u.hold = elim (cases_lt x.at.plus (u.at.plus + u.hold)) [ inl h ↦ h | inr h ↦ absurd (met (same, inl h)) ] in
+            record {
+              legal = λ i j d less within. absurd (omega arith);
+              twice = by_one s refl (sym same) (max u.at.plus x.at.plus) (omega arith, omega arith) (omega arith, omega arith);
+            }
         by false is =
             let m = max u.at.plus x.at.plus in
             let s = start_at u.at.event (m - u.at.plus) in
             let t = start_at x.at.event (m - x.at.plus) in
-            let differ : u.at.event ≡ x.at.event → ⊥ = λ same. (let bad : true ≡ false = sym ((bytes_eq-Decides u.at.event x.at.event).1 same) ∙ is in absurd (cc)) in (
-              s ∷ t ∷ [],
-              record {
-                legal = legal_two scope.comp s t (λ same. absurd (differ same));
-                twice = by_two s t has_both.0 has_both.1 refl refl m (omega arith, omega arith) (omega arith, omega arith);
-              },
-            )
+            let differ : u.at.event ≡ x.at.event → ⊥ = λ same. (let bad : true ≡ false = sym ((bytes_eq-Decides u.at.event x.at.event).1 same) ∙ is in absurd (cc)) in
+            record {
+              legal = legal_two scope.comp s t (λ same. absurd (differ same));
+              twice = by_two s t has_both.0 has_both.1 refl refl m (omega arith, omega arith) (omega arith, omega arith);
+            }
 
 at_any : (c : Component) (k : ℕ) (e : Event) (t : Text) → k < length c.events → get_or c.events k e ≡ e → get_or (event_names c) k t ≡ e.name
 at_any c k e t within at = get_or-map (λ (e : Event). e.name) c.events k e t within ∙ ap (λ (e : Event). e.name) at
@@ -213,7 +210,7 @@ one_event c distinct e f (j, within_j, at_j) (k, within_k, at_k) same = elim (ca
 -- F12 is needed
 pub overrun : (scope : Scope) (v w : Invocation) (first last : Use) → IsUseOf scope v first → IsUseOf scope w last → Contains scope.invocations v → Contains scope.invocations w → first.inst ≡ last.inst → first.event ≡ last.event
     → first.at.event ≡ last.at.event → 0 < first.hold → 0 < last.hold → (e : Event) → Contains scope.comp.events e → e.name ≡ first.at.event → AreDistinct (event_names scope.comp) → HasShape scope.comp → ¬ Fits first last e.delay
-    → (gap : ℕ) → gap ≡ max e.delay (last.at.plus - first.at.plus) → Collide scope (start_at first.at.event 0 ∷ start_at first.at.event gap ∷ []) (gap + first.at.plus)
+    → (gap : ℕ) → gap ≡ max e.delay (last.at.plus - first.at.plus) → Collide scope (gap_starts first.at.event gap) last.inst last.event (gap + first.at.plus)
 overrun scope v w first last of_first of_last has_v has_w same_instance same_event on held_first held_last e has_e named distinct shape broken gap is =
     let s = start_at first.at.event 0 in
     let t = start_at first.at.event gap in
@@ -228,7 +225,7 @@ overrun scope v w first last of_first of_last has_v has_w same_instance same_eve
     }
 
 module _ (scope : Scope) (v : Invocation) where
-  abbrev with : Scope
+  abbrev pub with : Scope
   with = with_invocation scope v
 
   has_own : Contains with.invocations v
@@ -238,14 +235,14 @@ module _ (scope : Scope) (v : Invocation) where
   has_earlier w has = Contains-append_left scope.invocations (v ∷ []) w has
 
   -- an invocation that uses the event
-  record IsUser (event : ℕ) (u : Use) : Type 0 where
-    user : Invocation
-    among : Contains with.invocations user
-    uses : IsUseOf with user u
-    number : u.event ≡ event
-    of : u.inst ≡ v.inst
+  pub record IsUser (event : ℕ) (u : Use) : Type 0 where
+    pub user : Invocation
+    pub among : Contains with.invocations user
+    pub uses : IsUseOf with user u
+    pub number : u.event ≡ event
+    pub of : u.inst ≡ v.inst
 
-  user : (event : ℕ) (u : Use) → UsesEvent scope v event u → IsUser event u
+  pub user : (event : ℕ) (u : Use) → UsesEvent scope v event u → IsUser event u
   user event u (Own used number) = record { user = v; among = has_own; uses = used; number = number; of = used.2.named }
   user event u (Another own used number earlier) = record {
     user = earlier.invocation;
@@ -260,7 +257,7 @@ module _ (scope : Scope) (v : Invocation) where
       same_Some u.at x.at (sym used.time ∙ ap (slice_get v.gives.times) same ∙ used'.time)
 
   -- under F11 all uses of the event are on one event of the component
-  on_one : KeepsApart scope v → (event : ℕ) (u x : Use) → UsesEvent scope v event u → UsesEvent scope v event x → u.at.event ≡ x.at.event
+  pub on_one : KeepsApart scope v → (event : ℕ) (u x : Use) → UsesEvent scope v event u → UsesEvent scope v event x → u.at.event ≡ x.at.event
   on_one kept event u x (Own used number) (Own used' number') = ap (λ (t : TimeAt). t.event) (one_use u x used used' (number ∙ sym number'))
   on_one kept event u x (Own used number) (Another own used' number' earlier) =
       ap (λ (t : TimeAt). t.event) (one_use u own used used' (number ∙ sym number')) ∙ sym (kept own x used' earlier).0
@@ -271,18 +268,25 @@ module _ (scope : Scope) (v : Invocation) where
 
 pub meeting_is_real : MeetingIsReal
 meeting_is_real scope v cycle held m =
+    let with = with_invocation scope v in
     let within = slice_get_within scope.invocations m.number m.earlier m.at in
     let there : Contains scope.invocations m.earlier = (m.number, within, get_or_from_slice_get scope.invocations m.number m.earlier m.earlier m.at) in
-    let found = meet (with_invocation scope v) m.earlier v m.other m.own m.triggered m.triggers m.same_instance m.same_event scope.invocations (v ∷ []) refl there (0, omega arith, refl)
+    let found = meet with m.earlier v m.other m.own m.triggered m.triggers m.same_instance m.same_event scope.invocations (v ∷ []) refl there (0, omega arith, refl)
     (held m.earlier m.other (has_earlier scope v m.earlier there) m.triggered) (held v m.own (has_own scope v) m.triggers) m.meet in
-    (found.0, subst (Collide (with_invocation scope v) found.0) (sym m.later) found.1)
+    let C : Text → ℕ → ℕ → Type 0 = Collide with (meeting_starts m.other.at m.own.at) in
+    subst (C v.inst m.own.event) (sym m.later)
+    (subst (λ (k : ℕ). C v.inst k (later_of m.other.at m.own.at)) m.same_event
+    (subst (λ (i : Text). C i m.other.event (later_of m.other.at m.own.at)) (m.same_instance ∙ m.triggers.2.named) found))
 
 pub gap_is_real : GapIsReal
 gap_is_real scope v gap cycle held distinct shape kept g =
+    let with = with_invocation scope v in
     let span = g.span in
     let p = user scope v g.event g.first span.has_first in
     let q = user scope v g.event g.last span.has_last in
     let late : ¬ Fits g.first g.last span.on.delay = subst (λ (d : ℕ). ¬ Fits g.first g.last d) span.delayed g.broken in
-    let found = overrun (with_invocation scope v) p.user q.user g.first g.last p.uses q.uses p.among q.among (p.of ∙ sym q.of) (p.number ∙ sym q.number) (on_one scope v kept g.event g.first g.last span.has_first span.has_last)
+    let found = overrun with p.user q.user g.first g.last p.uses q.uses p.among q.among (p.of ∙ sym q.of) (p.number ∙ sym q.number) (on_one scope v kept g.event g.first g.last span.has_first span.has_last)
     (held p.user g.first p.among p.uses) (held q.user g.last q.among q.uses) span.on span.is_own span.named distinct shape late gap (g.distance ∙ ap (λ (d : ℕ). max d (g.last.at.plus - g.first.at.plus)) span.delayed) in
-    (g.first.at.event, subst (Collide (with_invocation scope v) (start_at g.first.at.event 0 ∷ start_at g.first.at.event gap ∷ [])) (sym g.row) found)
+    let C : Text → ℕ → ℕ → Type 0 = Collide with (gap_starts g.first.at.event gap) in
+    subst (C v.inst g.event) (sym g.row)
+    (subst (λ (k : ℕ). C v.inst k (gap + g.first.at.plus)) q.number (subst (λ (i : Text). C i g.last.event (gap + g.first.at.plus)) q.of found))

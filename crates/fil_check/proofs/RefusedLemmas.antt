@@ -5,8 +5,7 @@ use Rattle.std.proofs.lemmas.List.{length-take}
 use Rattle.std.proofs.lemmas.List.Elements.{All-contains}
 use Rattle.std.proofs.lemmas.Option.{same_Some, slice_get-get_or, slice_get_within}
 use Rattle.hw_names.specs.Name.{Text, AreDistinct}
-use Rattle.fil_ast.specs.Evidence.{Evidence, Nothing, ACycle, AGap, MeetsAt, OverrunsAt}
-use Rattle.fil_ast.specs.Holds.{Start}
+use Rattle.fil_ast.specs.Evidence.{Evidence, Nothing, ACycle, AGap, IsGap, IsMeetingCycle, MeetsAt, OverrunsAt}
 use Rattle.fil_ast.specs.Items.{Item, TheSignature, TheStatement, TheEnd, scope_after, scope_with}
 use Rattle.fil_ast.specs.Naming.{MakesNewNames, UsesKnownNames, event_names}
 use Rattle.fil_ast.specs.Refusal.{IsRefusal, BreaksRule, HasLoop, Shows}
@@ -19,7 +18,7 @@ use Rattle.fil_ast.specs.Typing.{HasShape}
 use Rattle.fil_share.proofs.ListLemmas.{Contains-at, slice_get-take}
 use Rattle.fil_share.proofs.MakesLemmas.{flat_next}
 use Rattle.fil_share.proofs.OwnLemmas.{KeepsNames}
-use Rattle.fil_check.specs.Needed.{Collide, CollidesAfter, RefusedGapIsReal, RefusedMeetingIsReal, start_at, with_invocation}
+use Rattle.fil_check.specs.Needed.{Collide, MeetsTwice, OverrunsTwice, RefusedGapIsReal, RefusedMeetingIsReal, gap_starts, meeting_starts, with_invocation}
 use Rattle.fil_check.specs.Place.{AreHeld}
 use Rattle.fil_check.proofs.ExactLemmas.{are_held}
 use Rattle.fil_check.proofs.NeededLemmas.{gap_is_real, meeting_is_real}
@@ -31,7 +30,7 @@ take_less (suc j) (suc n) [] less = refl
 take_less (suc j) (suc n) (x ∷ xs) less = ap (λ ys. x ∷ ys) (take_less j n xs (omega arith))
 
 -- an invocation of a statement is its only one
-only_one : (s : Statement) (v : Invocation) → Contains (invocations_at s) v → invocations_at s ≡ v ∷ []
+pub only_one : (s : Statement) (v : Invocation) → Contains (invocations_at s) v → invocations_at s ≡ v ∷ []
 only_one (New name made params) v (j, within, same) = absurd (omega arith)
 only_one (Connect output value) v (j, within, same) = absurd (omega arith)
 only_one (Call name inst gives) v (zero, within, same) = ap (λ (w : Invocation). w ∷ []) same
@@ -112,16 +111,16 @@ module _ (earlier : Design) (c : Component) (k : ℕ) (s : Statement) (at : slic
     held_called : AreHeld called
     held_called = subst AreHeld same_scope held_after
 
-  pub meeting_after : (cycle : ℕ) → MeetsAt (scope_with earlier c (take k c.body) s) s cycle → (starts : List Start) × Collide after starts cycle
-  meeting_after cycle (v, there, meets) =
-      let found = meeting_is_real (scope_with earlier c (take k c.body) s) v cycle (held_called v there) meets in
-      (found.0, subst (λ (scope : Scope). Collide scope found.0 cycle) (sym (same_scope v there)) found.1)
+    pub meeting_after : (cycle : ℕ) (first : IsMeetingCycle (scope_with earlier c (take k c.body) s) v cycle) → Collide after (meeting_starts first.other.at first.own.at) v.inst first.own.event cycle
+    meeting_after cycle first =
+        subst (λ (scope : Scope). Collide scope (meeting_starts first.other.at first.own.at) v.inst first.own.event cycle) (sym same_scope)
+        (meeting_is_real (scope_with earlier c (take k c.body) s) v cycle held_called first)
 
-  pub gap_after : (gap cycle : ℕ) → AreDistinct (event_names c) → HasShape c → All (KeepsApart (scope_with earlier c (take k c.body) s)) (invocations_at s) → OverrunsAt (scope_with earlier c (take k c.body) s) s gap cycle
-      → (event : Text) × Collide after (start_at event 0 ∷ start_at event gap ∷ []) cycle
-  gap_after gap cycle distinct shape apart (v, there, told) =
-      let found = gap_is_real (scope_with earlier c (take k c.body) s) v gap cycle (held_called v there) distinct shape (All-contains (KeepsApart (scope_with earlier c (take k c.body) s)) (invocations_at s) v apart there) told in
-      (found.0, subst (λ (scope : Scope). Collide scope (start_at found.0 0 ∷ start_at found.0 gap ∷ []) cycle) (sym (same_scope v there)) found.1)
+    pub gap_after : (gap cycle : ℕ) → AreDistinct (event_names c) → HasShape c → All (KeepsApart (scope_with earlier c (take k c.body) s)) (invocations_at s) → (first : IsGap (scope_with earlier c (take k c.body) s) v gap cycle)
+        → Collide after (gap_starts first.first.at.event gap) v.inst first.event cycle
+    gap_after gap cycle distinct shape apart first =
+        subst (λ (scope : Scope). Collide scope (gap_starts first.first.at.event gap) v.inst first.event cycle) (sym same_scope)
+        (gap_is_real (scope_with earlier c (take k c.body) s) v gap cycle held_called distinct shape (All-contains (KeepsApart (scope_with earlier c (take k c.body) s)) (invocations_at s) v apart there) first)
 
 -- what stands before the first broken rule
 module _ (comps : Design) (n k r : ℕ) (first : IsFirstBroken all_rules comps n (suc k) r) (s : Statement) (at : slice_get first.c.body k ≡ Some s) (is : first.item ≡ TheStatement (take k first.c.body) s) (late : 10 ≤ r) where
@@ -172,7 +171,7 @@ cycle_of a b same = cc
 gap_of : (a b x y : ℕ) → AGap a x ≡ AGap b y → (a ≡ b) × (x ≡ y)
 gap_of a b x y same = (cc, cc)
 
-meeting_told : (comps : Design) (name : Text) (n item r cycle : ℕ) (first : IsFirstBroken all_rules comps n item r) → r ≡ 10 → first.c.name ≡ name → ShowsAt comps n first.c (ACycle cycle) first.item first.rule → (starts : List Start) × CollidesAfter comps name item starts cycle
+meeting_told : (comps : Design) (name : Text) (n item r cycle : ℕ) (first : IsFirstBroken all_rules comps n item r) → r ≡ 10 → first.c.name ≡ name → ShowsAt comps n first.c (ACycle cycle) first.item first.rule → MeetsTwice comps name item cycle
 meeting_told comps name n zero r cycle first place named told =
     let rule = the_rule comps n zero r first 10 F11 place refl in
     let shown : ACycle cycle ≡ Nothing = told_at comps n first.c (ACycle cycle) first.item TheSignature first.rule F11 first.here rule told in
@@ -182,7 +181,7 @@ meeting_told comps name n (suc k) r cycle first place named told = by first.here
     rule : first.rule ≡ F11
     rule = the_rule comps n (suc k) r first 10 F11 place refl
 
-    by : ((s : Statement) × (slice_get first.c.body k ≡ Some s) × (first.item ≡ TheStatement (take k first.c.body) s)) ⊎ ((k ≡ length first.c.body) × (first.item ≡ TheEnd)) → (starts : List Start) × CollidesAfter comps name (suc k) starts cycle
+    by : ((s : Statement) × (slice_get first.c.body k ≡ Some s) × (first.item ≡ TheStatement (take k first.c.body) s)) ⊎ ((k ≡ length first.c.body) × (first.item ≡ TheEnd)) → MeetsTwice comps name (suc k) cycle
     by (inr (end, is)) =
         let shown : ACycle cycle ≡ Nothing = told_at comps n first.c (ACycle cycle) first.item TheEnd first.rule F11 is rule told in
         absurd (cc)
@@ -191,11 +190,18 @@ meeting_told comps name n (suc k) r cycle first place named told = by first.here
         let shown = told_at comps n c (ACycle cycle) first.item (TheStatement (take k c.body) s) first.rule F11 is rule told in
         let same = cycle_of shown.0 cycle (sym shown.1) in
         let meets : MeetsAt (scope_with (take n comps) c (take k c.body) s) s cycle = subst (MeetsAt (scope_with (take n comps) c (take k c.body) s) s) same shown.2 in
-        let found = meeting_after (take n comps) c k s at (shapes_before comps n k r first s at is (omega arith)) (kept_to comps n k r first s at is (omega arith)) cycle meets in
-        (found.0, record { n = n; c = c; at = first.at; named = named; collide = subst (λ (m : ℕ). Collide (scope_after (take n comps) c (take m c.body)) found.0 cycle) (add-one k) found.1 })
+        let v = meets.0 in
+        let there = meets.1 in
+        let met = meets.2 in
+        let found = meeting_after (take n comps) c k s at (shapes_before comps n k r first s at is (omega arith)) (kept_to comps n k r first s at is (omega arith)) v there cycle met in
+        record {
+          refused = record { n = n; c = c; at = first.at; named = named; k = k; s = s; stands = at; is_item = add-one k; v = v; invoked = there };
+          first = met;
+          collide = subst (λ (m : ℕ). Collide (scope_after (take n comps) c (take m c.body)) (meeting_starts met.other.at met.own.at) v.inst met.own.event cycle) (add-one k) found;
+        }
 
 gap_told : (comps : Design) (name : Text) (n item r gap cycle : ℕ) (first : IsFirstBroken all_rules comps n item r) → r ≡ 11 → first.c.name ≡ name → ShowsAt comps n first.c (AGap gap cycle) first.item first.rule
-    → (event : Text) × CollidesAfter comps name item (start_at event 0 ∷ start_at event gap ∷ []) cycle
+    → OverrunsTwice comps name item gap cycle
 gap_told comps name n zero r gap cycle first place named told =
     let rule = the_rule comps n zero r first 11 F12 place refl in
     let shown : AGap gap cycle ≡ Nothing = told_at comps n first.c (AGap gap cycle) first.item TheSignature first.rule F12 first.here rule told in
@@ -205,8 +211,7 @@ gap_told comps name n (suc k) r gap cycle first place named told = by first.here
     rule : first.rule ≡ F12
     rule = the_rule comps n (suc k) r first 11 F12 place refl
 
-    by : ((s : Statement) × (slice_get first.c.body k ≡ Some s) × (first.item ≡ TheStatement (take k first.c.body) s)) ⊎ ((k ≡ length first.c.body) × (first.item ≡ TheEnd))
-        → (event : Text) × CollidesAfter comps name (suc k) (start_at event 0 ∷ start_at event gap ∷ []) cycle
+    by : ((s : Statement) × (slice_get first.c.body k ≡ Some s) × (first.item ≡ TheStatement (take k first.c.body) s)) ⊎ ((k ≡ length first.c.body) × (first.item ≡ TheEnd)) → OverrunsTwice comps name (suc k) gap cycle
     by (inr (end, is)) =
         let shown : AGap gap cycle ≡ Nothing = told_at comps n first.c (AGap gap cycle) first.item TheEnd first.rule F12 is rule told in
         absurd (cc)
@@ -217,16 +222,22 @@ gap_told comps name n (suc k) r gap cycle first place named told = by first.here
         let same = gap_of shown.0 gap shown.1 cycle (sym shown.2) in
         let overruns : OverrunsAt with s gap cycle = subst (λ (y : ℕ). OverrunsAt with s gap y) same.1 (subst (λ (x : ℕ). OverrunsAt with s x shown.1) same.0 shown.3) in
         let apart : All (KeepsApart with) (invocations_at s) = subst (λ (i : Item). Keeps (take n comps) c i F11) is (first.lesser 10 F11 (omega arith) refl) in
-        let found = gap_after (take n comps) c k s at (shapes_before comps n k r first s at is (omega arith)) (kept_to comps n k r first s at is (omega arith)) gap cycle
-        (distinct_here comps n k r first s at is (omega arith)) (shape_here comps n k r first s at is (omega arith)) apart overruns in
-        let starts = start_at found.0 0 ∷ start_at found.0 gap ∷ [] in
-        (found.0, record { n = n; c = c; at = first.at; named = named; collide = subst (λ (m : ℕ). Collide (scope_after (take n comps) c (take m c.body)) starts cycle) (add-one k) found.1 })
+        let v = overruns.0 in
+        let there = overruns.1 in
+        let told = overruns.2 in
+        let found = gap_after (take n comps) c k s at (shapes_before comps n k r first s at is (omega arith)) (kept_to comps n k r first s at is (omega arith)) v there gap cycle
+        (distinct_here comps n k r first s at is (omega arith)) (shape_here comps n k r first s at is (omega arith)) apart told in
+        record {
+          refused = record { n = n; c = c; at = first.at; named = named; k = k; s = s; stands = at; is_item = add-one k; v = v; invoked = there };
+          first = told;
+          collide = subst (λ (m : ℕ). Collide (scope_after (take n comps) c (take m c.body)) (gap_starts told.first.at.event gap) v.inst told.event cycle) (add-one k) found;
+        }
 
-meeting_by : (comps : Design) (name : Text) (item cycle number : ℕ) → number ≡ 11 → IsRefusal comps name item (ACycle cycle) number → (starts : List Start) × CollidesAfter comps name item starts cycle
+meeting_by : (comps : Design) (name : Text) (item cycle number : ℕ) → number ≡ 11 → IsRefusal comps name item (ACycle cycle) number → MeetsTwice comps name item cycle
 meeting_by comps name item cycle number is (BreaksRule n place first named shows) = meeting_told comps name n item place cycle first (omega arith) named shows
 meeting_by comps name item cycle number is (HasLoop n port others loop named at_0 shown) = absurd (cc)
 
-gap_by : (comps : Design) (name : Text) (item gap cycle number : ℕ) → number ≡ 12 → IsRefusal comps name item (AGap gap cycle) number → (event : Text) × CollidesAfter comps name item (start_at event 0 ∷ start_at event gap ∷ []) cycle
+gap_by : (comps : Design) (name : Text) (item gap cycle number : ℕ) → number ≡ 12 → IsRefusal comps name item (AGap gap cycle) number → OverrunsTwice comps name item gap cycle
 gap_by comps name item gap cycle number is (BreaksRule n place first named shows) = gap_told comps name n item place gap cycle first (omega arith) named shows
 gap_by comps name item gap cycle number is (HasLoop n port others loop named at_0 shown) = absurd (cc)
 

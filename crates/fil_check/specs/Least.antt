@@ -1,6 +1,5 @@
 -- The least of the rules F1 to F13 that is broken at one item, with what it shows. This project's.
-use Rattle.std.specs.Prelude.{◌≡◌, ℕ, ◌+◌, ◌<◌, List, [], ◌∷◌, slice_get, Some}
-use Rattle.hw_names.specs.Name.{Text}
+use Rattle.std.specs.Prelude.{◌≡◌, ℕ, ◌+◌, ◌<◌, slice_get, Some}
 use Rattle.fil_ast.specs.Evidence as shown
 use Rattle.fil_ast.specs.Rules.{Rule, all_rules}
 use Rattle.fil_check.specs.declared.rules.Evidence.{Evidence}
@@ -8,17 +7,13 @@ use Rattle.fil_check.specs.declared.rules.Evidence.TheVariants.{Nothing, Offset,
 use Rattle.fil_check.specs.declared.rules.ItemEnd.{ItemEnd}
 use Rattle.fil_check.specs.declared.rules.ItemEnd.TheVariants.{Broken, Memory}
 
-abbrev pub loop_of : List Text → shown.Evidence
-loop_of [] = shown.Nothing
-loop_of (first ∷ others) = shown.ALoop first others
-
 -- evidence as callers get it, seen as evidence of the rules
 abbrev pub evidence_of : Evidence → shown.Evidence
 evidence_of Nothing = shown.Nothing
 evidence_of (Offset offset) = shown.AnOffset offset
 evidence_of (Cycle cycle) = shown.ACycle cycle
 evidence_of (Gap meet) = shown.AGap meet.gap meet.cycle
-evidence_of (Loop ports) = loop_of ports.items
+evidence_of (Loop ports) = shown.ALoop ports.items
 
 -- rules have the numbers 1 to 13; `keeps` says which hold at the item, and `shows` what one that does not shows
 pub record IsLeastBroken (keeps : Rule → Type 0) (shows : Rule → shown.Evidence → Type 0) (number : ℕ) (evidence : shown.Evidence) : Type 0 where

@@ -20,3 +20,4 @@ pub mod Uses
 pub mod Wired
 pub mod Wiring
 pub mod Weights
+pub mod Units

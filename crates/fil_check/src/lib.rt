@@ -37,7 +37,8 @@ mod wires;
 
 pub use check::check_fil;
 pub use laws::{
-    gap_is_real, meeting_is_real, refused_gap_is_real, refused_meeting_is_real,
+    gap_has_one_meaning, gap_is_real, meeting_has_one_meaning, meeting_is_real,
+    refused_gap_is_real, refused_meeting_is_real, sharing_goes_by_events, sharing_has_one_meaning,
     sharing_rules_are_exact,
 };
 pub use rules::{Evidence, FilEnd};

@@ -7,11 +7,12 @@ use Rattle.std.proofs.lemmas.List.{get_or-reverse, length-reverse, reverse-appen
 use Rattle.std.proofs.lemmas.Option.{none-some, same_Some, slice_get-map, slice_get_within, slice_get-get_or, get_or_from_slice_get}
 use Rattle.std.proofs.lemmas.Simd.{map-map}
 use Rattle.hw_names.specs.Name.{Text, AreDistinct}
+use Rattle.hw_prims.specs.Filament.{is_data_pin}
 use Rattle.hw_prims.specs.Table.{IsMade, Pin, pin, inputs_of, outputs_of, pin_widths}
 use Rattle.hw_prims.specs.declared.prim.Primitive.{Primitive}
 use Rattle.fil_ast.specs.Flow.{Named, component_flow, flow, flow_of, made_flow, primitive_outputs}
 use Rattle.fil_ast.specs.Naming.{component_names}
-use Rattle.fil_ast.specs.Primitives.{Timing, filament_primitive, input_port, is_data_pin, is_filament_primitive, output_port, primitive_signature, signature_by, table_name, timing_of}
+use Rattle.fil_ast.specs.Primitives.{Timing, filament_primitive, input_port, is_filament_primitive, output_port, primitive_signature, signature_by, table_name, timing_of}
 use Rattle.fil_ast.specs.Scope.{Instance, bare_signature, component_named, signature_in}
 use Rattle.fil_ast.specs.Signature.{SigPort, Signature, component_signature, sig_port}
 use Rattle.fil_ast.specs.Tree.{Component, Design}

@@ -7,14 +7,13 @@ use Rattle.std.proofs.lemmas.List.{length-map, get_or-map}
 use Rattle.hw_bits.specs.Width.{product_bits}
 use Rattle.hw_bits.specs.Values.{values_of, widths_of}
 use Rattle.hw_bits.specs.declared.bits.Bits.{Bits}
+use Rattle.hw_prims.specs.Filament.{is_data_pin, primitive_flow}
 use Rattle.hw_prims.specs.Meaning.{is_stateless, output_values}
 use Rattle.hw_prims.specs.Memory.{keeps_words}
 use Rattle.hw_prims.specs.State.{Stateless}
 use Rattle.hw_prims.specs.Table.{inputs_of, outputs_of}
 use Rattle.hw_prims.specs.declared.prim.Primitive.{Primitive}
 use Rattle.hw_prims.specs.declared.prim.Primitive.TheVariants.{StdReg, StdMemD1, StdMemD2, StdMultPipe, FilDelay, FilFastMult, FilSeqMult}
-use Rattle.fil_ast.specs.Flow.{primitive_flow}
-use Rattle.fil_ast.specs.Primitives.{is_data_pin}
 use Rattle.fil_flow.specs.Plans.{Shape, has_flow, primitive_shape}
 
 -- it gives what it is given

@@ -5,6 +5,7 @@ use Rattle.std.specs.Prelude.{if◌then◌else◌, bytes_eq, codes}
 use Rattle.std.proofs.lemmas.Bool.{false≢true}
 use Rattle.std.proofs.lemmas.Option.{same_Some, option_and_then_some, cond_some}
 use Rattle.hw_names.specs.Name.{Text}
+use Rattle.hw_prims.specs.Filament.{is_data_pin}
 use Rattle.hw_prims.specs.Meaning.{is_stateless}
 use Rattle.hw_prims.specs.Memory.{keeps_words}
 use Rattle.hw_prims.specs.Table.{pin, is_made, is_primitive, one, two, three, outputs_of, prim_in_range, prim_name, prim_names, prim_of, with_params}
@@ -14,7 +15,7 @@ use Rattle.hw_prims.specs.declared.prim.PrimEnd.{PrimEnd}
 use Rattle.hw_prims.specs.declared.prim.PrimEnd.TheVariants.{UnknownPrim, BadParams}
 use Rattle.hw_prims.specs.declared.prim.Primitive.{Primitive}
 use Rattle.hw_prims.specs.declared.prim.Primitive.TheVariants.{StdMemD1, StdMemD2, StdMultPipe}
-use Rattle.fil_ast.specs.Primitives.{filament_primitive, is_data_pin, table_name}
+use Rattle.fil_ast.specs.Primitives.{filament_primitive, table_name}
 use Rattle.fil_sig.specs.Kinds.{table_name_in}
 use Rattle.fil_flow.specs.Plans.{has_flow}
 

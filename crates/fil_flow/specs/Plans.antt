@@ -1,12 +1,11 @@
 -- What a plan gives on values, and that the widths in it fit. This project's.
 use Rattle.std.specs.Prelude.{◌≡◌, ℕ, ◌+◌, List, [], ◌∷◌, ◌++◌, ◌==◌, map, filter, take, slice_index, slice_get, length, Option, Some, true, Bool, if◌then◌else◌}
 use Rattle.std.specs.List.{sum_by}
+use Rattle.hw_prims.specs.Filament.{is_data_pin, primitive_flow}
 use Rattle.hw_prims.specs.Meaning.{is_stateless}
 use Rattle.hw_prims.specs.Table.{IsMade, inputs_of, outputs_of, pin_widths}
 use Rattle.hw_prims.specs.declared.prim.Primitive.{Primitive}
 use Rattle.hw_prims.specs.declared.prim.Primitive.TheVariants.{StdReg, FilDelay, FilFastMult, FilSeqMult}
-use Rattle.fil_ast.specs.Flow.{primitive_flow}
-use Rattle.fil_ast.specs.Primitives.{is_data_pin}
 use Rattle.fil_flow.specs.declared.plan.Source.{Source}
 use Rattle.fil_flow.specs.declared.plan.Source.TheVariants as source
 use Rattle.fil_flow.specs.declared.plan.Callee.{Callee}

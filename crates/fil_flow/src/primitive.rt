@@ -1,8 +1,8 @@
 //! The functions of Filament's primitives.
 ghost use Rattle.std.specs.Prelude.{◌≡◌, [], ◌∷◌, true};
 ghost use Rattle.hw_bits.specs.Values.{values_of, widths_of};
+ghost use Rattle.hw_prims.specs.Filament.{primitive_flow};
 ghost use Rattle.hw_prims.specs.Table.{IsMade};
-ghost use Rattle.fil_ast.specs.Flow.{primitive_flow};
 ghost use Rattle.fil_flow.specs.Plans.{has_flow, primitive_shape};
 
 use hw_bits::Bits;

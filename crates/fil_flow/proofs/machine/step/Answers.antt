@@ -4,7 +4,7 @@ use Rattle.std.proofs.lemmas.Option.{slice_get_read}
 use Rattle.std.proofs.lemmas.Result.{IfOk-weaker}
 use Rattle.hw_bits.specs.Values.{values_of, widths_of}
 use Rattle.hw_bits.specs.declared.bits.Bits.{Bits}
-use Rattle.fil_ast.specs.Flow.{primitive_flow}
+use Rattle.hw_prims.specs.Filament.{primitive_flow}
 use Rattle.fil_flow.specs.Frames.{AreFrom, StandsOn, given_over, steps_left, value_of_run, waiting_cost}
 use Rattle.fil_flow.specs.Plans.{PlansFit, Shape}
 use Rattle.fil_flow.specs.declared.machine.Progress.{Progress}
