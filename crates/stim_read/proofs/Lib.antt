@@ -16,3 +16,4 @@ pub mod TxStartLemmas
 pub mod TxValueLemmas
 pub mod TxMeaningLemmas
 pub mod TxFitLemmas
+pub mod TxLegalLemmas

@@ -1,8 +1,8 @@
 -- What is read fits what it is for: the inputs and memories of a netlist, or the signature of a component. This project's.
-use Rattle.std.specs.Prelude.{◌≡◌, ◌≤◌, ◌<◌, List, length, slice_get, Some, All}
+use Rattle.std.specs.Prelude.{◌≡◌, ℕ, ◌+◌, ◌≤◌, ◌<◌, List, length, slice_get, Some, All, AllPairs}
 use Rattle.std.specs.List.Sorted.{IsNonDecreasingBy}
 use Rattle.hw_bits.specs.Values.{widths_of}
-use Rattle.fil_ast.specs.Signature.{Signature}
+use Rattle.fil_ast.specs.Signature.{Fixed, SigEvent, Signature}
 use Rattle.fil_ast.specs.declared.tx.Tx.{Tx}
 use Rattle.fil_sig.specs.declared.time_sig.SigPort.{SigPort}
 use Rattle.net_core.specs.declared.stimulus.CycleList.{CycleList}
@@ -11,6 +11,7 @@ use Rattle.net_core.specs.declared.stimulus.MemLoad.{MemLoad}
 use Rattle.net_core.specs.declared.stimulus.MemShape.{MemShape}
 use Rattle.stim_read.specs.CycleRules.{input_targets}
 use Rattle.stim_read.specs.TxEvents.{ports_after, port_targets}
+use Rattle.stim_read.specs.TxRun.{Transaction}
 use Rattle.stim_read.specs.declared.limits.TheConstants.{MOST_CYCLES}
 
 -- one of these inputs, by its place, is set to a value of that input's width
@@ -35,3 +36,13 @@ pub record FitsSignature (sig : Signature) (tx : Tx) : Type 0 where
   pub event : tx.event < length sig.events
   pub start : tx.start ≤ MOST_CYCLES
   pub widths : widths_of tx.values.items ≡ (port_targets (ports_after tx.event sig.ins)).widths
+
+-- of one event, the second starts after the first, at least the event's delay after it
+abbrev pub Follows : Signature → Transaction → Transaction → Type 0
+Follows sig first second =
+    first.event ≡ second.event → (e : SigEvent) (rows : ℕ) → slice_get sig.events first.event ≡ Some e → e.delay ≡ Fixed rows →
+    first.start + rows ≤ second.start
+
+-- a legal list: the starts of each event are at least its delay apart, in their order
+abbrev pub AreLegal : Signature → List Transaction → Type 0
+AreLegal sig txs = AllPairs (Follows sig) txs

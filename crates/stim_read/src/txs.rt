@@ -10,7 +10,7 @@ ghost use Rattle.stim_read.specs.TxEvents.{event_names, port_targets, events_of,
 ghost use Rattle.stim_read.specs.TxRules.{starts_of, starts_in, event_number, txs_fault};
 ghost use Rattle.stim_read.specs.TxWalk.{IsEntry, HasWidths, AreUsable, start_rows, last_after, last_by, entry_fault};
 ghost use Rattle.stim_read.specs.TxRun.{count_of, count_fault, end_of, run_rows, rows_fault, transaction_of, tx_run_of, transactions_fault, transaction_seen, tx_run_seen, SayTransactions, GiveTransactions, IsNoTransactions, IsTxCause};
-ghost use Rattle.stim_read.specs.Fits.{FitsSignature};
+ghost use Rattle.stim_read.specs.Fits.{AreLegal, FitsSignature};
 
 use crate::cycles::read_value;
 use crate::events::{EventInputs, Events};
@@ -184,6 +184,7 @@ pub fn read_txs(alloc: Global, bytes: &[u8], sig: &TimeSig) -> Result<TxList, St
     requires widths { All (λ (p : SigPort). (1 ≤ p.width) × (p.width ≤ MAX_WIDTH)) (seen sig.now).ins }
     ensures run { IfOk result (λ list. GiveTransactions bytes.now (events_of (seen sig.now)) (tx_run_seen list)) }
     ensures fits { IfOk result (λ list. All (FitsSignature (seen sig.now)) list.txs.items) }
+    ensures legal { IfOk result (λ list. AreLegal (seen sig.now) (map transaction_seen list.txs.items)) }
     ensures cause { IfErr result (IsTxCause bytes.now (events_of (seen sig.now))) }
 {
     let text = read_text(alloc, bytes)?;

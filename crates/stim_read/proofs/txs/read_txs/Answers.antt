@@ -8,6 +8,7 @@ use Rattle.stim_read.specs.TxWalk.{AreUsable}
 use Rattle.stim_read.specs.declared.stim_end.StimEnd.TheVariants.{Memory}
 use Rattle.stim_read.proofs.FaultLemmas.{passes_cause}
 use Rattle.stim_read.proofs.TxFitLemmas.{result_fits_signature}
+use Rattle.stim_read.proofs.TxLegalLemmas.{result_is_legal}
 use Rattle.stim_read.proofs.TxSaidLemmas.{entries_said, usable, gives_transactions, tells_tx_cause}
 use Rattle.stim_read.proofs.txs.read_txs.Goals as goal
 
@@ -34,6 +35,9 @@ returns-clause-run c =
 
 pub returns-clause-fits : goal.returns-clause-fits
 returns-clause-fits c = result_fits_signature c.args.bytes.now (seen c.args.sig.now) c.judge.result (returns-clause-run c)
+
+pub returns-clause-legal : goal.returns-clause-legal
+returns-clause-legal c = result_is_legal c.args.bytes.now (seen c.args.sig.now) c.judge.result (returns-clause-run c)
 
 pub returns-clause-cause : goal.returns-clause-cause
 returns-clause-cause c =
