@@ -1,45 +1,44 @@
--- From what a command and its line leave in the sinks to the causes of each answer.
-use Rattle.std.proofs.Common.{◌≡◌, ◌≢◌, ℕ, ◌⊎◌, List, [], Option, Some, None, refl, sym, ap, subst, ◌∙◌, inl, inr, ⊎_elim}
+-- From what a command performs and how its line is told to the causes of each answer.
+use Rattle.std.proofs.Common.{◌≡◌, ◌≢◌, ℕ, List, [], Option, Ok, Err, refl, sym, ap, subst, ◌∙◌, inl, inr, ⊎_elim}
+use Rattle.std.specs.Prelude.{Contains}
 use Rattle.std.specs.Io.KnownBytes.{Keeps}
 use Rattle.hw_io.proofs.WritingLemmas.{appends_none}
+use Rattle.hw_io.specs.Faults.{Rose}
 use Rattle.hw_io.specs.Writing.{AppendsPrefix}
 use Rattle.hw_names.specs.Name.{Text}
-use Rattle.filc_core.specs.Ending.{IsVerdictEnd, IsCalledFor, IsToldFor, AreTold, HasReadCause, OfDesign, OfStimulus, IsAnswered, HasReadFault, HasWriteFault, InReport, InLine, InReadFault, HasPartOfReport, MeetsNoFault, IsGranted, IsEndOf}
-use Rattle.filc_core.specs.Lines.{as_line, usage_line, read_fault_line, memory_line}
-use Rattle.filc_core.specs.Report.{HasReport, LeavesAt}
-use Rattle.filc_core.specs.Request.{Request, CheckOf, RowsOf, RunOf, TransactionsOf, file_of, stimulus_of, stimulus_name, Asks, AskNothing}
-use Rattle.filc_core.specs.Stops.{IsLineTold, IsTold, IsStopOf, answer_of, refusal_line, ended_of, untold_of, line_of}
-use Rattle.filc_core.specs.Verdict.{Verdict, NotAsked}
-use Rattle.filc_core.specs.declared.ended.Ended.{Ended}
-use Rattle.filc_core.specs.declared.ended.Ended.TheVariants.{Done, Refused, Usage, ReadFault, WriteFault, Memory, Stimulus, Conflict, Limit}
-use Rattle.filc_core.specs.declared.refusal.Refusal.{Refusal}
-use Rattle.filc_core.specs.declared.refusal.Refusal.TheVariants as refusal
-use Rattle.filc_core.specs.declared.stop.Stop.{Stop}
-use Rattle.filc_core.specs.declared.stop.Stop.TheVariants as stop
-use Rattle.filc_core.proofs.SinkLemmas.{keeps_none, keeps_no_prefix, whole_prefix}
+use Rattle.filc_stop.proofs.SinkLemmas.{keeps_none, keeps_no_prefix, whole_prefix}
+use Rattle.filc_stop.specs.Lines.{as_line, usage_line, read_fault_line, memory_line}
+use Rattle.filc_stop.specs.Outcome.{Contents, refused_with, usage_told}
+use Rattle.filc_stop.specs.Stops.{IsLineTold, IsTold, answer_of, refusal_line}
+use Rattle.filc_stop.specs.declared.ended.Ended.{Ended}
+use Rattle.filc_stop.specs.declared.ended.Ended.TheVariants.{Done, Usage, ReadFault, WriteFault, Memory, Conflict}
+use Rattle.filc_stop.specs.declared.refusal.Refusal.{Refusal}
+use Rattle.filc_stop.specs.declared.refusal.Refusal.TheVariants as refusal
+use Rattle.filc_stop.specs.declared.stop.Stop.{Stop}
+use Rattle.filc_stop.specs.declared.stop.Stop.TheVariants as stop
 use Rattle.filc_core.proofs.AskLemmas.{asks_once}
-use Rattle.filc_core.proofs.VerdictLemmas.{granted_verdict, granted_asks, granted_told}
+use Rattle.filc_core.proofs.FileLemmas.{keeps_but_more}
+use Rattle.filc_core.proofs.GrantLemmas.{granted_ends, granted_told}
+use Rattle.filc_core.specs.Ending.{IsVerdictEnd, IsCalledFor, IsAnswered, RestsOnStimulus, KnowsWhatIsAsked, HasReadFault, HasWriteFault, InReport, InLine, InReadFault, HasPartOfReport, IsAskedFor, MeetsNoFault, IsEndOf, IsComplete}
+use Rattle.filc_core.specs.Files.{IsDesignOf, IsStimulusOf, AreTold, HasReadCause, KeepsFilesBut, MayBeRead}
+use Rattle.filc_core.specs.Performing.{Performs, HasReadStimulus}
+use Rattle.filc_core.specs.Request.{Request, command_of, Asks, AskNothing, design_name, stimulus_name}
+use Rattle.filc_core.specs.Verdict.{NotAsked, Asked}
 
--- words that ask for nothing
-module _ (words : List Text) (contents : Text → Option Text) (ended : Ended) (out err err' : Option Text) (err_rose : Type 0) (nothing : AskNothing words) (told : IsLineTold usage_line Usage WriteFault ended err err' err_rose) where
+-- ---- words that ask for nothing
+
+module _ (words : List Text) (contents : Contents) (ended : Ended) (out err err' : Option Text) (err_rose : Type 0) (nothing : AskNothing words) (told : IsLineTold usage_line Usage WriteFault ended err err' err_rose) where
   pub unasked_verdict : IsVerdictEnd ended → IsAnswered words contents ended out out err err'
   unasked_verdict is =
-      ⊎_elim (λ whole. record { report = []; line = usage_line; verdict = NotAsked nothing whole.0 refl refl; reported = appends_none out; told = whole.1 })
+      ⊎_elim (λ whole. record { made = []; report = []; line = usage_line; verdict = NotAsked nothing (ap (λ (e : Ended). refused_with e usage_line) whole.0); reported = appends_none out; told = whole.1 })
       (λ part. absurd (subst IsVerdictEnd part.0 is)) told
-
-  pub unasked_call : IsCalledFor words ended
-  unasked_call = ⊎_elim (λ whole. subst (IsCalledFor words) (sym whole.0) nothing) (λ part. subst (IsCalledFor words) (sym part.0) tt) told
-
-  pub unasked_is : (other : Ended) → ended ≡ other → (Usage ≢ other) → (WriteFault ≢ other) → ⊥
-  unasked_is other is not_usage not_fault = ⊎_elim (λ whole. not_usage (sym whole.0 ∙ is)) (λ part. not_fault (sym part.0 ∙ is)) told
-
-  pub unasked_rose : ended ≡ WriteFault → err_rose
-  unasked_rose is = ⊎_elim (λ whole. absurd (let e : Usage ≡ WriteFault = sym whole.0 ∙ is in cc e)) (λ part. part.1) told
 
   pub unasked_write : (names : List Text) (before after : Text → ℕ) (out_rose : Type 0) → ended ≡ WriteFault → HasWriteFault words contents names before after out out err err' out_rose err_rose
   unasked_write names before after out_rose is =
       ⊎_elim (λ whole. absurd (let e : Usage ≡ WriteFault = sym whole.0 ∙ is in cc e))
-      (λ part. InLine Usage [] usage_line (NotAsked nothing refl refl refl) (λ e. cc e) part.1 (appends_none out) part.2) told
+      (λ part. InLine part.1 (record { made = []; outcome = usage_told; verdict = NotAsked nothing refl; has_line = λ e. cc e; reported = appends_none out; part = part.2 })) told
+
+-- ---- refusals
 
 -- each refusal is a verdict, and has a line
 is_verdict : (why : Refusal) → IsVerdictEnd (answer_of why)
@@ -72,158 +71,230 @@ has_line (refusal.BreaksStimulusRule rule entry first second delay) e = cc e
 has_line (refusal.StimulusTooLarge count limit cycles) e = cc e
 has_line (refusal.Conflict cycle port) e = cc e
 
-ends_in_memory : (r : Request) → IsEndOf r Memory
-ends_in_memory (CheckOf language file) = tt
-ends_in_memory (RowsOf file cycles) = tt
-ends_in_memory (RunOf command file stimulus) = tt
-ends_in_memory (TransactionsOf command file stimulus) = tt
+-- a refusal that rests on the stimulus
+rests : (contents : Contents) (r : Request) (why : Refusal) → RestsOnStimulus contents r (answer_of why) → HasReadStimulus contents r (Err (stop.Refused why))
+rests contents r (refusal.SourceTooLong language) accepted = inl accepted
+rests contents r (refusal.HasNoTokens at) accepted = inl accepted
+rests contents r (refusal.NestsTooDeep language depth) accepted = inl accepted
+rests contents r (refusal.HasNoGrammar at) accepted = inl accepted
+rests contents r (refusal.HasLargeOffset offset) accepted = inl accepted
+rests contents r (refusal.BreaksRule language rule name item evidence) accepted = inl accepted
+rests contents r (refusal.IsTooHeavy weight) accepted = inl accepted
+rests contents r (refusal.HasTooManyWords words) accepted = inl accepted
+rests contents r (refusal.TooManyCycles cycles) accepted = inl accepted
+rests contents r refusal.StimulusTooLong accepted = inl accepted
+rests contents r (refusal.BreaksStimulusRule rule entry first second delay) accepted = inr (λ of. of)
+rests contents r (refusal.StimulusTooLarge count limit cycles) accepted = inl accepted
+rests contents r (refusal.Conflict cycle port) accepted = inr (λ of. of)
 
--- a command that stopped, and the line that tells it
-module _ (words : List Text) (contents : Text → Option Text) (request : Request) (ended : Ended) (out out' err err' : Option Text) (err_rose : Type 0) (asks : Asks words request) where
-  -- the line of a verdict's refusal
-  line_verdict : (e : Ended) (line : Text) → HasReport words contents e line out out' → IsLineTold line e WriteFault ended err err' err_rose → IsVerdictEnd ended → IsAnswered words contents ended out out' err err'
-  line_verdict e line has told is =
-      ⊎_elim (λ whole. record { report = has.report; line = line; verdict = subst (λ a. Verdict words contents a has.report line) (sym whole.0) has.verdict; reported = has.reported; told = whole.1 })
-      (λ part. absurd (subst IsVerdictEnd part.0 is)) told
+-- a request calls for each of its answers, but for the answers of faults
+called_for : (words : List Text) (r : Request) (why : Refusal) → Asks words r → (command_of r).stops (stop.Refused why) → IsCalledFor words (answer_of why)
+called_for words r (refusal.SourceTooLong language) asks stops = (r, asks, inr (stop.Refused (refusal.SourceTooLong language), stops, refl))
+called_for words r (refusal.HasNoTokens at) asks stops = (r, asks, inr (stop.Refused (refusal.HasNoTokens at), stops, refl))
+called_for words r (refusal.NestsTooDeep language depth) asks stops = (r, asks, inr (stop.Refused (refusal.NestsTooDeep language depth), stops, refl))
+called_for words r (refusal.HasNoGrammar at) asks stops = (r, asks, inr (stop.Refused (refusal.HasNoGrammar at), stops, refl))
+called_for words r (refusal.HasLargeOffset offset) asks stops = (r, asks, inr (stop.Refused (refusal.HasLargeOffset offset), stops, refl))
+called_for words r (refusal.BreaksRule language rule name item evidence) asks stops = (r, asks, inr (stop.Refused (refusal.BreaksRule language rule name item evidence), stops, refl))
+called_for words r (refusal.IsTooHeavy weight) asks stops = (r, asks, inr (stop.Refused (refusal.IsTooHeavy weight), stops, refl))
+called_for words r (refusal.HasTooManyWords count) asks stops = (r, asks, inr (stop.Refused (refusal.HasTooManyWords count), stops, refl))
+called_for words r (refusal.TooManyCycles cycles) asks stops = (r, asks, inr (stop.Refused (refusal.TooManyCycles cycles), stops, refl))
+called_for words r refusal.StimulusTooLong asks stops = (r, asks, inr (stop.Refused refusal.StimulusTooLong, stops, refl))
+called_for words r (refusal.BreaksStimulusRule rule entry first second delay) asks stops = (r, asks, inr (stop.Refused (refusal.BreaksStimulusRule rule entry first second delay), stops, refl))
+called_for words r (refusal.StimulusTooLarge count limit cycles) asks stops = (r, asks, inr (stop.Refused (refusal.StimulusTooLarge count limit cycles), stops, refl))
+called_for words r (refusal.Conflict cycle port) asks stops = (r, asks, inr (stop.Refused (refusal.Conflict cycle port), stops, refl))
 
-  line_write : (names : List Text) (before after : Text → ℕ) (out_rose : Type 0) (e : Ended) (line : Text) → line ≢ [] → e ≢ WriteFault → HasReport words contents e line out out' → IsLineTold line e WriteFault ended err err' err_rose → ended ≡ WriteFault → HasWriteFault words contents names before after out out' err err' out_rose err_rose
-  line_write names before after out_rose e line some apart has told is =
-      ⊎_elim (λ whole. absurd (apart (sym whole.0 ∙ is)))
-      (λ part. InLine e has.report line has.verdict some part.1 has.reported part.2) told
+-- ---- what holds at any end of a command
 
+-- the design of what the words ask for is one file, known if the request's is
+asked_design : (words : List Text) (r : Request) (claim : Text → Type 0) → Asks words r → ((file : Text) → IsDesignOf r file → claim file) → (r' : Request) (file : Text) → Asks words r' → IsDesignOf r' file → claim file
+asked_design words r claim asks all r' file asks' of = all file (subst (λ (q : Request). IsDesignOf q file) (asks_once words r' r asks' asks) of)
+
+asked_stimulus : (words : List Text) (r : Request) (contents : Contents) (ended : Ended) (claim : Text → Type 0) → Asks words r → ((file : Text) → IsStimulusOf r file → RestsOnStimulus contents r ended → claim file) → (r' : Request) (file : Text) → Asks words r' → IsStimulusOf r' file → RestsOnStimulus contents r' ended → claim file
+asked_stimulus words r contents ended claim asks all r' file asks' of rests' =
+    let same = asks_once words r' r asks' asks in
+    all file (subst (λ (q : Request). IsStimulusOf q file) same of) (subst (λ (q : Request). RestsOnStimulus contents q ended) same rests')
+
+-- the files that are read are among those that the words ask for
+pub asked_files : {F : Type 0} (words : List Text) (r : Request) (names : F → List Text) (contents : F → Contents) (faults : F → Text → ℕ) (old new : F) → Asks words r → KeepsFilesBut (MayBeRead (contents old) r) names contents faults old new → KeepsFilesBut (IsAskedFor words (contents old)) names contents faults old new
+asked_files words r names contents faults old new asks kept = keeps_but_more (MayBeRead (contents old) r) (IsAskedFor words (contents old)) names contents faults old new (λ file read. (r, asks, read)) kept
+
+-- ---- a command that is done
+
+module _ {F : Type 0} {r : Request} {names : F → List Text} {contents : F → Contents} {faults : F → Text → ℕ} {old new : F} {out out' : Option Text} {before after : ℕ} (words : List Text) (asks : Asks words r) (performs : Performs r names contents faults old new (Ok tt) out out' before after) where
+  pub done_verdict : (err : Option Text) → AreTold words (contents old) → IsAnswered words (contents old) Done out out' err err
+  done_verdict err told =
+      let has = performs.leaves (told r asks) in
+      record { made = has.made; report = has.report; line = []; verdict = Asked r asks has.outcome; reported = has.reported; told = appends_none err }
+
+  pub done_known : KnowsWhatIsAsked words (contents old) (names old) Done
+  done_known = record {
+    design = asked_design words r (Contains (names old)) asks performs.known;
+    stimulus = asked_stimulus words r (contents old) Done (Contains (names old)) asks (λ file of rests'. performs.known_stimulus file of tt);
+  }
+
+-- the names of the files, as the command tells them
+pub told_by : (r : Request) (design stimulus : Text) (why : Stop) (ended : Ended) (err err' : Option Text) (err_rose : Type 0) → design ≡ design_name r → stimulus ≡ stimulus_name r → IsTold design stimulus why ended err err' err_rose → IsTold (design_name r) (stimulus_name r) why ended err err' err_rose
+told_by r design stimulus why ended err err' err_rose is is' told =
+    subst (λ (name : Text). IsTold (design_name r) name why ended err err' err_rose) is' (subst (λ (name : Text). IsTold name stimulus why ended err err' err_rose) is told)
+
+-- ---- a command that stopped, and the line that tells it
+
+module _ {F : Type 0} {r : Request} {names : F → List Text} {contents : F → Contents} {faults : F → Text → ℕ} {old new : F} {why : Stop} {out out' : Option Text} {before after : ℕ} (words : List Text) (asks : Asks words r) (performs : Performs r names contents faults old new (Err why) out out' before after) (ended : Ended) (err err' : Option Text) (err_rose : Type 0) (told : IsTold (design_name r) (stimulus_name r) why ended err err' err_rose) where
+  abbrev had : Contents
+  had = contents old
+
+  -- what holds by the stop, however it is told
+  abbrev StopsBy : Stop → Type 0
+  StopsBy w = Performs r names contents faults old new (Err w) out out' before after
+
+  abbrev ToldAs : Stop → Type 0
+  ToldAs w = IsTold (design_name r) (stimulus_name r) w ended err err' err_rose
+
+  -- the line of a refusal
+  verdict_at : (w : Stop) → StopsBy w → ToldAs w → IsVerdictEnd ended → AreTold words had → IsAnswered words had ended out out' err err'
+  verdict_at stop.ReadFault by tells is content = absurd (⊎_elim (λ whole. subst IsVerdictEnd whole.0 is) (λ part. subst IsVerdictEnd part.0 is) tells)
+  verdict_at stop.StimulusReadFault by tells is content = absurd (⊎_elim (λ whole. subst IsVerdictEnd whole.0 is) (λ part. subst IsVerdictEnd part.0 is) tells)
+  verdict_at (stop.Refused why') by tells is content =
+      let has = by.leaves (content r asks) in
+      ⊎_elim (λ whole. subst (λ (e : Ended). IsAnswered words had e out out' err err') (sym whole.0)
+      (record { made = has.made; report = has.report; line = refusal_line why'; verdict = Asked r asks has.outcome; reported = has.reported; told = whole.1 }))
+      (λ part. absurd (subst IsVerdictEnd part.0 is)) tells
+  verdict_at stop.WriteFault by tells is content = absurd (⊎_elim (λ whole. subst IsVerdictEnd whole.0 is) (λ part. subst IsVerdictEnd part.0 is) tells)
+  verdict_at stop.Memory by tells is content = absurd (⊎_elim (λ whole. subst IsVerdictEnd whole.0 is) (λ part. subst IsVerdictEnd part.0 is) tells)
+
+  pub stop_verdict : IsVerdictEnd ended → AreTold words had → IsAnswered words had ended out out' err err'
+  stop_verdict = verdict_at why performs told
+
+  called_at : (w : Stop) → StopsBy w → ToldAs w → IsCalledFor words ended
+  called_at stop.ReadFault by tells =
+      ⊎_elim (λ whole. subst (IsCalledFor words) (sym whole.0) (r, asks, inr (stop.ReadFault, by.stops, refl))) (λ part. subst (IsCalledFor words) (sym part.0) tt) tells
+  called_at stop.StimulusReadFault by tells =
+      ⊎_elim (λ whole. subst (IsCalledFor words) (sym whole.0) (r, asks, inr (stop.StimulusReadFault, by.stops, refl))) (λ part. subst (IsCalledFor words) (sym part.0) tt) tells
+  called_at (stop.Refused why') by tells =
+      ⊎_elim (λ whole. subst (IsCalledFor words) (sym whole.0) (called_for words r why' asks by.stops)) (λ part. subst (IsCalledFor words) (sym part.0) tt) tells
+  called_at stop.WriteFault by tells = ⊎_elim (λ whole. subst (IsCalledFor words) (sym whole.0) tt) (λ part. subst (IsCalledFor words) (sym part.0) tt) tells
+  called_at stop.Memory by tells = ⊎_elim (λ whole. subst (IsCalledFor words) (sym whole.0) tt) (λ part. subst (IsCalledFor words) (sym part.0) tt) tells
+
+  pub stop_called : IsCalledFor words ended
+  stop_called = called_at why performs told
+
+  abbrev Known : Type 0
+  Known = KnowsWhatIsAsked words had (names old) ended
+
+  known_at : (w : Stop) → StopsBy w → ToldAs w → IsVerdictEnd ended → Known
+  known_at stop.ReadFault by tells is = absurd (⊎_elim (λ whole. subst IsVerdictEnd whole.0 is) (λ part. subst IsVerdictEnd part.0 is) tells)
+  known_at stop.StimulusReadFault by tells is = absurd (⊎_elim (λ whole. subst IsVerdictEnd whole.0 is) (λ part. subst IsVerdictEnd part.0 is) tells)
+  known_at (stop.Refused why') by tells is =
+      ⊎_elim (λ whole. record {
+        design = asked_design words r (Contains (names old)) asks by.known;
+        stimulus = asked_stimulus words r had ended (Contains (names old)) asks (λ file of rests'. by.known_stimulus file of (rests had r why' (subst (λ (e : Ended). RestsOnStimulus had r e) whole.0 rests')));
+      }) (λ part. absurd (subst IsVerdictEnd part.0 is)) tells
+  known_at stop.WriteFault by tells is = absurd (⊎_elim (λ whole. subst IsVerdictEnd whole.0 is) (λ part. subst IsVerdictEnd part.0 is) tells)
+  known_at stop.Memory by tells is = absurd (⊎_elim (λ whole. subst IsVerdictEnd whole.0 is) (λ part. subst IsVerdictEnd part.0 is) tells)
+
+  pub stop_known : IsVerdictEnd ended → Known
+  stop_known = known_at why performs told
+
+  -- ---- faults
+
+  abbrev Cause : Text → Type 0
+  Cause file = HasReadCause r had (names old) (faults old) (faults new) file
+
+  fault_told : (file : Text) → Cause file × Keeps out out' → IsLineTold (read_fault_line file) ReadFault WriteFault ended err err' err_rose → ended ≡ ReadFault → HasReadFault words had (names old) (faults old) (faults new) out out' err err'
+  fault_told file cause tells is =
+      ⊎_elim (λ whole. record { r = r; asks = asks; file = file; has_cause = cause.0; unreported = cause.1; told = whole.1 })
+      (λ part. absurd (let e : WriteFault ≡ ReadFault = sym part.0 ∙ is in cc e)) tells
+
+  -- a line that tells of no fault in reading
   told_is : (line : Text) (e other : Ended) → e ≢ other → WriteFault ≢ other → IsLineTold line e WriteFault ended err err' err_rose → ended ≡ other → ⊥
-  told_is line e other apart not_fault told is = ⊎_elim (λ whole. apart (sym whole.0 ∙ is)) (λ part. not_fault (sym part.0 ∙ is)) told
+  told_is line e other apart not_fault tells is = ⊎_elim (λ whole. apart (sym whole.0 ∙ is)) (λ part. not_fault (sym part.0 ∙ is)) tells
 
-  pub stop_verdict : (why : Stop) → (AreTold words contents → LeavesAt words contents (file_of request) why out out') → IsTold request why ended err err' err_rose → IsVerdictEnd ended → AreTold words contents → IsAnswered words contents ended out out' err err'
-  stop_verdict stop.ReadFault leaves told is content = absurd (⊎_elim (λ whole. subst IsVerdictEnd whole.0 is) (λ part. subst IsVerdictEnd part.0 is) told)
-  stop_verdict stop.StimulusReadFault leaves told is content = absurd (⊎_elim (λ whole. subst IsVerdictEnd whole.0 is) (λ part. subst IsVerdictEnd part.0 is) told)
-  stop_verdict (stop.Refused why) leaves told is content = line_verdict (answer_of why) (refusal_line why) (leaves content) told is
-  stop_verdict stop.WriteFault leaves told is content = absurd (⊎_elim (λ whole. subst IsVerdictEnd whole.0 is) (λ part. subst IsVerdictEnd part.0 is) told)
-  stop_verdict stop.Memory leaves told is content = absurd (⊎_elim (λ whole. subst IsVerdictEnd whole.0 is) (λ part. subst IsVerdictEnd part.0 is) told)
+  -- a line of want of memory
+  memory_is : (line : Text) (other : Ended) → Memory ≢ other → IsLineTold line Memory Memory ended err err' err_rose → ended ≡ other → ⊥
+  memory_is line other apart tells is = ⊎_elim (λ whole. apart (sym whole.0 ∙ is)) (λ part. apart (sym part.0 ∙ is)) tells
 
-  -- what a fault in reading leaves, and its cause
-  pub record IsUnreadCause (names : List Text) (before after : Text → ℕ) (why : Stop) : Type 0 where
-    pub of_design : why ≡ stop.ReadFault → HasReadCause words contents names before after (file_of request)
-    pub of_stimulus : why ≡ stop.StimulusReadFault → HasReadCause words contents names before after (stimulus_name request)
-    pub keeps : why ≡ stop.ReadFault → Keeps out out'
-    pub keeps_still : why ≡ stop.StimulusReadFault → Keeps out out'
+  read_at : (w : Stop) → StopsBy w → ToldAs w → ended ≡ ReadFault → HasReadFault words had (names old) (faults old) (faults new) out out' err err'
+  read_at stop.ReadFault by tells is = fault_told (design_name r) (by.read_fault refl) tells is
+  read_at stop.StimulusReadFault by tells is = fault_told (stimulus_name r) (by.stimulus_read_fault refl) tells is
+  read_at (stop.Refused why') by tells is = absurd (told_is (refusal_line why') (answer_of why') ReadFault (λ e. subst IsVerdictEnd e (is_verdict why')) (λ e. cc e) tells is)
+  read_at stop.WriteFault by tells is = absurd (told_is [] WriteFault ReadFault (λ e. cc e) (λ e. cc e) tells is)
+  read_at stop.Memory by tells is = absurd (memory_is memory_line ReadFault (λ e. cc e) tells is)
 
-  fault_told : (names : List Text) (before after : Text → ℕ) (file : Text) → HasReadCause words contents names before after file → Keeps out out' → IsLineTold (read_fault_line file) ReadFault WriteFault ended err err' err_rose → ended ≡ ReadFault → HasReadFault words contents names before after out out' err err'
-  fault_told names before after file cause kept told is =
-      ⊎_elim (λ whole. record { file = file; has_cause = cause; unreported = kept; told = whole.1 })
-      (λ part. absurd (let e : WriteFault ≡ ReadFault = sym part.0 ∙ is in cc e)) told
+  pub stop_read : ended ≡ ReadFault → HasReadFault words had (names old) (faults old) (faults new) out out' err err'
+  stop_read = read_at why performs told
 
-  fault_untold : (names : List Text) (before after : Text → ℕ) (out_rose : Type 0) (file : Text) → HasReadCause words contents names before after file → Keeps out out' → IsLineTold (read_fault_line file) ReadFault WriteFault ended err err' err_rose → ended ≡ WriteFault → HasWriteFault words contents names before after out out' err err' out_rose err_rose
-  fault_untold names before after out_rose file cause kept told is =
+  abbrev Fault : Type 0
+  Fault = HasWriteFault words had (names old) (faults old) (faults new) out out' err err' (Rose before after) err_rose
+
+  fault_untold : (file : Text) → Cause file × Keeps out out' → IsLineTold (read_fault_line file) ReadFault WriteFault ended err err' err_rose → ended ≡ WriteFault → Fault
+  fault_untold file cause tells is =
       ⊎_elim (λ whole. absurd (let e : ReadFault ≡ WriteFault = sym whole.0 ∙ is in cc e))
-      (λ part. InReadFault file cause part.1 kept part.2) told
+      (λ part. InReadFault part.1 (record { r = r; asks = asks; file = file; has_cause = cause.0; unreported = cause.1; part = part.2 })) tells
 
-  pub stop_read : (names : List Text) (before after : Text → ℕ) (why : Stop) → IsUnreadCause names before after why → IsTold request why ended err err' err_rose → ended ≡ ReadFault → HasReadFault words contents names before after out out' err err'
-  stop_read names before after stop.ReadFault cause told is = fault_told names before after (file_of request) (cause.of_design refl) (cause.keeps refl) told is
-  stop_read names before after stop.StimulusReadFault cause told is = fault_told names before after (stimulus_name request) (cause.of_stimulus refl) (cause.keeps_still refl) told is
-  stop_read names before after (stop.Refused why) cause told is = absurd (told_is (refusal_line why) (answer_of why) ReadFault (λ e. subst IsVerdictEnd e (is_verdict why)) (λ e. cc e) told is)
-  stop_read names before after stop.WriteFault cause told is = absurd (told_is (line_of request stop.WriteFault) WriteFault ReadFault (λ e. cc e) (λ e. cc e) told is)
-  stop_read names before after stop.Memory cause told is =
-      absurd (⊎_elim (λ whole. let e : Memory ≡ ReadFault = sym whole.0 ∙ is in cc e) (λ part. let e : Memory ≡ ReadFault = sym part.0 ∙ is in cc e) told)
+  write_at : (w : Stop) → StopsBy w → ToldAs w → ended ≡ WriteFault → AreTold words had → Fault
+  write_at stop.ReadFault by tells is content = fault_untold (design_name r) (by.read_fault refl) tells is
+  write_at stop.StimulusReadFault by tells is content = fault_untold (stimulus_name r) (by.stimulus_read_fault refl) tells is
+  write_at (stop.Refused why') by tells is content =
+      let has = by.leaves (content r asks) in
+      ⊎_elim (λ whole. absurd (subst IsVerdictEnd (sym whole.0 ∙ is) (is_verdict why')))
+      (λ part. InLine part.1 (record {
+        made = has.made;
+        outcome = record { ended = answer_of why'; report = has.report; line = refusal_line why' };
+        verdict = Asked r asks has.outcome;
+        has_line = has_line why';
+        reported = has.reported;
+        part = part.2;
+      })) tells
+  write_at stop.WriteFault by tells is content =
+      InReport (by.write_fault refl) (r, asks, by.leaves (content r asks)) (⊎_elim (λ whole. keeps_none err err' whole.1) (λ part. keeps_no_prefix err err' part.2) tells)
+  write_at stop.Memory by tells is content = absurd (memory_is memory_line WriteFault (λ e. cc e) tells is)
 
-  pub stop_write : (names : List Text) (before after : Text → ℕ) (out_rose : Type 0) (why : Stop) → IsUnreadCause names before after why → (why ≡ stop.WriteFault → out_rose) → (AreTold words contents → LeavesAt words contents (file_of request) why out out') → IsTold request why ended err err' err_rose → ended ≡ WriteFault → AreTold words contents → HasWriteFault words contents names before after out out' err err' out_rose err_rose
-  stop_write names before after out_rose stop.ReadFault cause rose leaves told is content = fault_untold names before after out_rose (file_of request) (cause.of_design refl) (cause.keeps refl) told is
-  stop_write names before after out_rose stop.StimulusReadFault cause rose leaves told is content = fault_untold names before after out_rose (stimulus_name request) (cause.of_stimulus refl) (cause.keeps_still refl) told is
-  stop_write names before after out_rose (stop.Refused why) cause rose leaves told is content =
-      line_write names before after out_rose (answer_of why) (refusal_line why) (has_line why) (λ e. subst IsVerdictEnd e (is_verdict why)) (leaves content) told is
-  stop_write names before after out_rose stop.WriteFault cause rose leaves told is content =
-      InReport (rose refl) (leaves content) (⊎_elim (λ whole. keeps_none err err' whole.1) (λ part. keeps_no_prefix err err' part.2) told)
-  stop_write names before after out_rose stop.Memory cause rose leaves told is content =
-      absurd (⊎_elim (λ whole. let e : Memory ≡ WriteFault = sym whole.0 ∙ is in cc e) (λ part. let e : Memory ≡ WriteFault = sym part.0 ∙ is in cc e) told)
+  pub stop_write : ended ≡ WriteFault → AreTold words had → Fault
+  stop_write = write_at why performs told
 
-  is_memory : (why : Stop) → IsTold request why ended err err' err_rose → ended ≡ Memory → why ≡ stop.Memory
-  is_memory stop.ReadFault told is = absurd (told_is (line_of request stop.ReadFault) ReadFault Memory (λ e. cc e) (λ e. cc e) told is)
-  is_memory stop.StimulusReadFault told is = absurd (told_is (line_of request stop.StimulusReadFault) ReadFault Memory (λ e. cc e) (λ e. cc e) told is)
-  is_memory (stop.Refused why) told is = absurd (told_is (refusal_line why) (answer_of why) Memory (λ e. subst IsVerdictEnd e (is_verdict why)) (λ e. cc e) told is)
-  is_memory stop.WriteFault told is = absurd (told_is (line_of request stop.WriteFault) WriteFault Memory (λ e. cc e) (λ e. cc e) told is)
-  is_memory stop.Memory told is = refl
+  -- ---- want of memory
 
-  pub stop_memory : (why : Stop) → (AreTold words contents → LeavesAt words contents (file_of request) why out out') → IsTold request why ended err err' err_rose → ended ≡ Memory → AreTold words contents → HasPartOfReport words contents out out'
-  stop_memory why leaves told is content = subst (λ w. LeavesAt words contents (file_of request) w out out') (is_memory why told is) (leaves content)
+  memory_at : (w : Stop) → StopsBy w → ToldAs w → ended ≡ Memory → (AreTold words had → HasPartOfReport words had out out') × AppendsPrefix err err' (as_line memory_line)
+  memory_at stop.ReadFault by tells is = absurd (told_is (read_fault_line (design_name r)) ReadFault Memory (λ e. cc e) (λ e. cc e) tells is)
+  memory_at stop.StimulusReadFault by tells is = absurd (told_is (read_fault_line (stimulus_name r)) ReadFault Memory (λ e. cc e) (λ e. cc e) tells is)
+  memory_at (stop.Refused why') by tells is = absurd (told_is (refusal_line why') (answer_of why') Memory (λ e. subst IsVerdictEnd e (is_verdict why')) (λ e. cc e) tells is)
+  memory_at stop.WriteFault by tells is = absurd (told_is [] WriteFault Memory (λ e. cc e) (λ e. cc e) tells is)
+  memory_at stop.Memory by tells is = (
+    λ content. (r, asks, by.leaves (content r asks)),
+    ⊎_elim (λ whole. whole_prefix err err' (as_line memory_line) whole.1) (λ part. part.2) tells,
+  )
 
-  pub stop_memory_line : (why : Stop) → IsTold request why ended err err' err_rose → ended ≡ Memory → AppendsPrefix err err' (as_line memory_line)
-  stop_memory_line why told is =
-      ⊎_elim (λ whole. whole_prefix err err' (as_line memory_line) whole.1) (λ part. part.2)
-      (subst (λ w. IsTold request w ended err err' err_rose) (is_memory why told is) told)
+  pub stop_memory : ended ≡ Memory → AreTold words had → HasPartOfReport words had out out'
+  stop_memory is = (memory_at why performs told is).0
 
-  -- a stimulus is refused only where words ask for what takes one
-  with_stimulus : (r : Request) (rule entry first second delay : ℕ) → Asks words r → IsStopOf r (stop.Refused (refusal.BreaksStimulusRule rule entry first second delay)) → IsCalledFor words Stimulus
-  with_stimulus (CheckOf language file) rule entry first second delay asked is = absurd is
-  with_stimulus (RowsOf file cycles) rule entry first second delay asked is = absurd is
-  with_stimulus (RunOf command file name) rule entry first second delay asked is = (RunOf command file name, asked, refl)
-  with_stimulus (TransactionsOf command file name) rule entry first second delay asked is = (TransactionsOf command file name, asked, refl)
+  pub stop_memory_line : ended ≡ Memory → AppendsPrefix err err' (as_line memory_line)
+  stop_memory_line is = (memory_at why performs told is).1
 
-  called_refused : (why : Refusal) → IsStopOf request (stop.Refused why) → IsCalledFor words (answer_of why)
-  called_refused (refusal.SourceTooLong language) is = (request, asks)
-  called_refused (refusal.HasNoTokens at) is = (request, asks)
-  called_refused (refusal.NestsTooDeep language depth) is = (request, asks)
-  called_refused (refusal.HasNoGrammar at) is = (request, asks)
-  called_refused (refusal.HasLargeOffset offset) is = (request, asks)
-  called_refused (refusal.BreaksRule language rule name item evidence) is = (request, asks)
-  called_refused (refusal.IsTooHeavy weight) is = (request, asks)
-  called_refused (refusal.HasTooManyWords words') is = (request, asks)
-  called_refused (refusal.TooManyCycles cycles) is = (request, asks)
-  called_refused refusal.StimulusTooLong is = (request, asks)
-  called_refused (refusal.BreaksStimulusRule rule entry first second delay) is = with_stimulus request rule entry first second delay asks is
-  called_refused (refusal.StimulusTooLarge count limit cycles) is = (request, asks)
-  called_refused (refusal.Conflict cycle port) is = (request, asks)
+  -- ---- what is granted is done, by the causes of the other answers
 
-  called : (why : Stop) → IsStopOf request why → IsCalledFor words (ended_of why)
-  called stop.ReadFault is = (request, asks)
-  called stop.StimulusReadFault is = (request, asks)
-  called (stop.Refused why) is = called_refused why is
-  called stop.WriteFault is = tt
-  called stop.Memory is = tt
+  abbrev NoFault : Type 0
+  NoFault = MeetsNoFault words had (names old) (faults old) (faults new) (Rose before after) err_rose
 
-  called_untold : (why : Stop) → IsCalledFor words (untold_of why)
-  called_untold stop.ReadFault = tt
-  called_untold stop.StimulusReadFault = tt
-  called_untold (stop.Refused why) = tt
-  called_untold stop.WriteFault = tt
-  called_untold stop.Memory = tt
+  no_cause : (file : Text) → NoFault → Cause file → ⊥
+  no_cause file clear cause = ⊎_elim (λ unknown. unknown (clear.known file (r, asks, cause.read))) (λ rose. clear.read file (r, asks, cause.read) rose) cause.fault
 
-  pub stop_called : (why : Stop) → IsStopOf request why → IsTold request why ended err err' err_rose → IsCalledFor words ended
-  stop_called why is told =
-      ⊎_elim (λ whole. subst (IsCalledFor words) (sym whole.0) (called why is)) (λ part. subst (IsCalledFor words) (sym part.0) (called_untold why)) told
+  granted_end : (e : Ended) → ended ≡ e → IsEndOf r e → IsEndOf r ended
+  granted_end e is end = subst (IsEndOf r) (sym is) end
 
-  -- the answer is a fault's only where its line says so
-  is_fault : (why : Stop) → ended_of why ≡ WriteFault → why ≡ stop.WriteFault
-  is_fault stop.ReadFault is = cc is
-  is_fault stop.StimulusReadFault is = cc is
-  is_fault (stop.Refused why) is = absurd (subst IsVerdictEnd is (is_verdict why))
-  is_fault stop.WriteFault is = refl
-  is_fault stop.Memory is = cc is
+  granted_at : (w : Stop) → StopsBy w → ToldAs w → (command_of r).granted had → NoFault → IsEndOf r ended
+  granted_at stop.ReadFault by tells granted clear = absurd (no_cause (design_name r) clear (by.read_fault refl).0)
+  granted_at stop.StimulusReadFault by tells granted clear = absurd (no_cause (stimulus_name r) clear (by.stimulus_read_fault refl).0)
+  granted_at (stop.Refused why') by tells granted clear =
+      let has = by.leaves (granted_told r had granted) in
+      ⊎_elim (λ whole. ⊎_elim (λ done. granted_end Done (whole.0 ∙ done) tt)
+      (λ clash. granted_end Conflict (whole.0 ∙ clash) (inr (stop.Refused why', by.stops, sym clash)))
+      (granted_ends r had has.made (record { ended = answer_of why'; report = has.report; line = refusal_line why' }) granted has.outcome))
+      (λ part. absurd (clear.told part.1)) tells
+  granted_at stop.WriteFault by tells granted clear = absurd (clear.reported (by.write_fault refl))
+  granted_at stop.Memory by tells granted clear = ⊎_elim (λ whole. granted_end Memory whole.0 tt) (λ part. granted_end Memory part.0 tt) tells
 
-  pub stop_rose : (out_rose : Type 0) (why : Stop) → (why ≡ stop.WriteFault → out_rose) → IsTold request why ended err err' err_rose → ended ≡ WriteFault → out_rose ⊎ err_rose
-  stop_rose out_rose why rose told is = ⊎_elim (λ whole. inl (rose (is_fault why (sym whole.0 ∙ is)))) (λ part. inr part.1) told
-
--- what is granted is done, by the causes of the other answers
-module _ (words : List Text) (contents : Text → Option Text) (names : List Text) (before after : Text → ℕ) (out out' err err' : Option Text) (out_rose err_rose : Type 0) (r : Request) (granted : IsGranted words contents r) (no_fault : MeetsNoFault words names before after out_rose err_rose) where
-  told_file : AreTold words contents
-  told_file r' asked = subst (IsToldFor words contents) (asks_once words r r' (granted_asks words contents r granted).1.asks asked) (granted_told words contents r granted)
-
-  answered_end : (ended : Ended) → IsAnswered words contents ended out out' err err' → IsEndOf r ended
-  answered_end ended answered = granted_verdict words contents r granted ended answered.report answered.line answered.verdict
-
-  fault_of : (file : Text) → HasReadCause words contents names before after file → ⊥
-  fault_of file (OfDesign request asked named cause) =
-      ⊎_elim (λ unknown. unknown (no_fault.known request file asked (inl named))) (λ rose. no_fault.read request file asked (inl named) rose) cause
-  fault_of file (OfStimulus request asked named reads cause) =
-      ⊎_elim (λ unknown. unknown (no_fault.known request file asked (inr named))) (λ rose. no_fault.read request file asked (inr named) rose) cause
-
-  pub granted_ends : (ended : Ended) → (IsVerdictEnd ended → AreTold words contents → IsAnswered words contents ended out out' err err') → IsCalledFor words ended → (ended ≡ ReadFault → HasReadFault words contents names before after out out' err err') → (ended ≡ WriteFault → out_rose ⊎ err_rose) → IsEndOf r ended
-  granted_ends Done verdict called read write = answered_end Done (verdict tt told_file)
-  granted_ends Refused verdict called read write = answered_end Refused (verdict tt told_file)
-  granted_ends Usage verdict called read write = answered_end Usage (verdict tt told_file)
-  granted_ends ReadFault verdict called read write =
-      let has = read refl in absurd (fault_of has.file has.has_cause)
-  granted_ends WriteFault verdict called read write = absurd (⊎_elim no_fault.reported no_fault.told (write refl))
-  granted_ends Memory verdict called read write = ends_in_memory r
-  granted_ends Stimulus verdict called read write = answered_end Stimulus (verdict tt told_file)
-  granted_ends Conflict verdict called read write = answered_end Conflict (verdict tt told_file)
-  granted_ends Limit verdict called read write = answered_end Limit (verdict tt told_file)
+  pub stop_complete : IsComplete words had ended NoFault
+  stop_complete r' asks' granted clear =
+      let same = asks_once words r r' asks asks' in
+      subst (λ (q : Request). IsEndOf q ended) same
+      (granted_at why performs told (subst (λ (q : Request). (command_of q).granted had) (sym same) granted) clear)

@@ -7,25 +7,16 @@ pub use Rattle.hw_lex.specs.Nesting
 pub use Rattle.fil_ast.specs.Rules as FilRules
 pub use Rattle.fil_parse.specs.Spelling as FilSpelling
 pub use Rattle.stim_read.specs.CycleRun
-pub mod Language
-pub mod Request
+pub use Rattle.filc_stop.specs.Outcome
+pub use Rattle.filc_stop.specs.Leaving
+pub use Rattle.filc_load.specs.Source
+pub use Rattle.filc_report.specs.Runs
 pub mod Words
-pub mod Lines
-pub mod Rows
-pub mod Status
-pub mod Stops
-pub mod NetFile
-pub mod FilFile
-pub mod Settable
-pub mod Given
-pub mod StimulusFile
-pub mod Reads
-pub mod Runs
-pub mod Transactions
+pub mod Command
+pub mod commands
+pub mod Request
 pub mod Verdict
+pub mod Files
+pub mod Performing
 pub mod Ending
-pub mod Report
-pub mod Slots
-pub mod Inputs
-pub mod Streams
-pub mod Built
+pub mod Told

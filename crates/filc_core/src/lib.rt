@@ -1,35 +1,15 @@
-//! The program's one top call: from the words to the answer.
+//! The program's one top call: from the words to the answer. Each command is a pair of files, `src/commands/X.rt` and
+//! `specs/commands/X.antt`; `src/request.rt` and `specs/Request.antt` list them.
 #![tactic(auto)]
 
-mod check;
-mod command;
-mod ended;
-mod fil_file;
-mod flows;
-mod holds;
-mod inputs;
-mod language;
-mod limits;
-mod line;
-mod memories;
-mod net_file;
-mod refusal;
-mod report;
+mod commands;
 mod request;
-mod rows;
-mod run;
-mod settable;
-mod simulate;
-mod source;
-mod stimulus;
-mod stop;
-mod stream;
-mod top;
-mod transact;
+mod top_call;
+mod words;
 
-pub use command::filc;
-pub use ended::Ended;
-pub use limits::{
-    MOST_FIL_BYTES, MOST_NET_BYTES, MOST_NET_NESTING, MOST_STIMULUS_BYTES, MOST_WEIGHT, MOST_WORDS,
+pub use filc_report::{Drive, RowEnd};
+pub use filc_stop::{
+    Ended, MOST_FIL_BYTES, MOST_NET_BYTES, MOST_NET_NESTING, MOST_STIMULUS_BYTES, MOST_WEIGHT,
+    MOST_WORDS,
 };
-pub use stream::{Drive, RowEnd, stream_rows};
+pub use top_call::filc;

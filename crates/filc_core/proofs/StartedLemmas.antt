@@ -1,0 +1,72 @@
+-- What comes of the transactions of a design's top component.
+use Rattle.std.proofs.Common.{◌≡◌, List, [], Option, Some, IsSome, Result, refl, sym, ap₂, subst, ◌∙◌, inl, inr}
+use Rattle.std.proofs.lemmas.Option.{same_Some}
+use Rattle.std.specs.Prelude.{slice_get, IfErr, OnOk, OnErr}
+use Rattle.std.specs.Io.KnownBytes.{Appends}
+use Rattle.hw_io.specs.Writing.{AppendsPrefix}
+use Rattle.hw_names.specs.Name.{Text}
+use Rattle.fil_ast.specs.Top.{IsTop}
+use Rattle.fil_ast.specs.declared.tx.TxList.{TxList}
+use Rattle.fil_ast.specs.Tree.{Design}
+use Rattle.stim_read.specs.TxRun.{Transaction, TxRun, tx_run_seen}
+use Rattle.filc_load.proofs.TopLemmas.{one_number}
+use Rattle.filc_load.specs.Built.{AreGivenBy}
+use Rattle.filc_load.specs.FilFile.{HasTop}
+use Rattle.filc_load.specs.Source.{FileGivesFil}
+use Rattle.filc_load.specs.StimulusFile.{FileGivesTransactions, IsRefusedForStimulus, transaction_causes}
+use Rattle.filc_stop.specs.Leaving.{MakesNone, Leaves}
+use Rattle.filc_stop.specs.Outcome.{Contents, Outcome, done_with}
+use Rattle.filc_stop.specs.Stops.{IsWritingStop}
+use Rattle.filc_stop.specs.declared.language.Language.TheVariants.{Filament}
+use Rattle.filc_stop.specs.declared.stop.Stop.{Stop}
+use Rattle.filc_core.proofs.PerformLemmas.{ReadsDesign, text_leaves, by_earlier, design_told, stimulus_told}
+use Rattle.filc_core.proofs.SourceLemmas.{accepted_not_refused, one_fil, one_given_list, list_not_refused}
+use Rattle.filc_core.specs.Files.{IsToldFor}
+use Rattle.filc_core.specs.Request.{Request, command_of}
+use Rattle.filc_core.specs.commands.Transactions.{Started, Top, GivesTop, GivesTransactionsOf, transactions}
+
+-- a file gives one top component
+same_top : (contents : Contents) (file : Text) (top other : Top) → GivesTop contents file top → GivesTop contents file other → top ≡ other
+same_top contents file top other gives gives' =
+    let design = one_fil contents file top.design other.design gives.gives gives'.gives in
+    let number = one_number other.design top.number other.number (subst (λ (d : Design). IsTop d top.number) design gives.top) gives'.top in
+    let comp = same_Some top.comp other.comp (sym gives.at ∙ ap₂ slice_get design number ∙ gives'.at) in
+    λ k. record { design = design k; number = number k; comp = comp k }
+
+module _ (word : Text) (told : Top → List Transaction → Text) (c : Started) where
+  pub started_reads : ReadsDesign (transactions word told c) Filament c.file
+  started_reads = record { design = refl; refused = λ contents o refused. inl refused; stops = λ why of. inl of }
+
+  module _ (contents : Contents) (top : Top) where
+    -- a stimulus that gives the top component nothing
+    pub started_refused : GivesTop contents c.file top → (o : Outcome) → IsRefusedForStimulus contents c.stimulus (λ bytes. transaction_causes bytes top.comp) o → (made : Text) → (transactions word told c).comes contents made o
+    started_refused gives o refused made = inr (inl (record { top = top; gives = gives; refused = refused }))
+
+    -- of transactions comes what is told of them alone
+    pub started_comes : (run : TxRun) → GivesTransactionsOf c contents top run → (made : Text) (o : Outcome) → (transactions word told c).comes contents made o → o ≡ done_with (told top run.transactions)
+    started_comes run gives made o (inl refused) = absurd (accepted_not_refused contents c.file Filament o (top.design, gives.gives_top.gives) refused)
+    started_comes run gives made o (inr (inl refused)) =
+        absurd (list_not_refused contents c.stimulus top.comp run o gives.gives_transactions
+        (subst (λ (t : Top). IsRefusedForStimulus contents c.stimulus (λ bytes. transaction_causes bytes t.comp) o) (same_top contents c.file refused.top top refused.gives gives.gives_top) refused.refused))
+    started_comes run gives made o (inr (inr prints)) =
+        let same = same_top contents c.file prints.top top prints.gives.gives_top gives.gives_top in
+        let same_run = one_given_list contents c.stimulus top.comp prints.run run (subst (λ (t : Top). FileGivesTransactions contents c.stimulus t.comp prints.run) same prints.gives.gives_transactions) gives.gives_transactions in
+        prints.outcome ∙ ap₂ (λ (t : Top) (a : TxRun). done_with (told t a.transactions)) same same_run
+
+    -- what was written of them is what the command leaves
+    pub started_leaves : (run : TxRun) → GivesTransactionsOf c contents top run → (result : Result (Unit {0}) Stop) (out out' : Option Text)
+        → OnOk result (Appends out out' (told top run.transactions)) → OnErr result (AppendsPrefix out out' (told top run.transactions)) → IfErr result IsWritingStop
+        → Leaves MakesNone ((transactions word told c).comes contents) result out out'
+    started_leaves run gives result out out' written part stops =
+        text_leaves ((transactions word told c).comes contents) (told top run.transactions) result out out'
+        (inr (inr (record { top = top; run = run; gives = gives; outcome = refl }))) (λ o comes. started_comes run gives [] o comes) written part stops
+
+-- what a design's file and a stimulus's file give, where both are told: the second by the contents after the first was read
+pub transactions_given : (r : Request) (c : Started) → ReadsDesign (command_of r) Filament c.file → (command_of r).stimulus ≡ Some c.stimulus → (contents now : Contents) → ((name : Text) → now name ≡ contents name) → IsToldFor contents r
+    → (top : Top) → HasTop top.design top.number top.comp → (IsSome (contents c.file) → FileGivesFil contents c.file top.design) → (list : TxList) → (IsSome (now c.stimulus) → AreGivenBy now c.stimulus top.comp list) → GivesTransactionsOf c contents top (tx_run_seen list)
+transactions_given r c reads takes contents now kept told top has gives list given =
+    let gives_fil = gives (design_told r Filament c.file reads contents told) in
+    record {
+      gives_top = record { gives = gives_fil; top = has.is_top; at = has.at };
+      gives_transactions = by_earlier contents now c.stimulus (λ (k : Contents). AreGivenBy k c.stimulus top.comp list) kept (stimulus_told r Filament c.file reads c.stimulus takes contents told (top.design, gives_fil)) given;
+    }

@@ -1,4 +1,0 @@
-use Rattle.filc_core.proofs.fil_file.read.Goals as goal
-
-pub returns-in-Err-clause-refused : goal.returns-in-Err-clause-refused
-returns-in-Err-clause-refused c = c.stop_of.ensures c.args.text.now c.in-Err.ensures.refused

@@ -1,8 +1,0 @@
-use Rattle.std.proofs.Common.{◌≡◌, map, take}
-use Rattle.net_core.specs.Netlist.{netlist_of}
-use Rattle.filc_core.specs.Settable.{input_port}
-use Rattle.filc_core.proofs.settable.settable_inputs.Given as goal
-
--- the inputs so far are there
-abbrev pub invariant-loop-port : goal.invariant-loop-port
-invariant-loop-port l = l.inputs.items ≡ map input_port (take l.port (netlist_of l.built.net).ins)

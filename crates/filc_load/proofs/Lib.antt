@@ -1,0 +1,10 @@
+pub mod TopLemmas
+pub mod FilLemmas
+pub mod StimulusLemmas
+mod LoadLemmas
+pub mod CauseLemmas
+pub mod InputPortLemmas
+pub mod SettableLemmas
+pub mod FitLemmas
+pub mod TransactionLemmas
+pub mod LegalLemmas

@@ -1,0 +1,14 @@
+pub mod RowLemmas
+pub mod PortLemmas
+pub mod NetLaws
+pub mod MemoryLemmas
+pub mod InputLemmas
+pub mod StandLemmas
+pub mod StreamLemmas
+pub mod LoadedLemmas
+pub mod PartLemmas
+pub mod RunLemmas
+pub mod GivenLemmas
+pub mod PassingLemmas
+pub mod FlowLemmas
+pub mod HoldLemmas
