@@ -1,0 +1,33 @@
+use Rattle.std.proofs.Common.{◌++◌, List, sym, subst}
+use Rattle.std.specs.List.{flat_map}
+use Rattle.net_core.specs.Netlist.{CellLine}
+use Rattle.net_core.specs.Netlist.{cell_of}
+use Rattle.net_core.specs.Numbers.{CellHasNumbers}
+use Rattle.cal_ast.specs.Tree.{component_tree}
+use Rattle.net_flat.specs.Listing as listing
+use Rattle.net_flat.specs.Listing.{cells_at}
+use Rattle.net_flat.specs.StandFor.{AreCells}
+use Rattle.net_flat.proofs.FoundLemmas.{all_listed, next_instance}
+use Rattle.net_flat.proofs.StandLemmas.{Keeps-then, stand_append, stable_cell}
+use Rattle.net_flat.proofs.TakeLemmas.{flat_map_push}
+use Rattle.net_flat.proofs.listing.cells.Goals as goal
+
+pub loop-instance-preserved : goal.loop-instance-preserved
+loop-instance-preserved c =
+    let source = c.args.source.now in
+    let names = c.cells_of.new.names in
+    let i = c.instance-item.result in
+    record {
+      kept = Keeps-then c.args.names.now c.loop-instance.names names c.loop-instance.invariant.kept c.cells_of.ensures.kept;
+      listed = λ listed h.
+          let next = next_instance source listed c.args.instances.now c.loop-instance.instance-index i h c.loop-instance-test.true c.instance-item.is in
+          let more = flat_map_push cells_at _ _ (next.path, component_tree source i.comp.now) next.more in
+          rw c.in_ok-append.ensures.items
+          (subst (λ (ls : List CellLine). AreCells names ls (c.loop-instance.found.items ++ c.in_ok-more.more.items)) (sym more)
+          (stand_append CellHasNumbers cell_of stable_cell c.loop-instance.names names _ _ c.loop-instance.found.items c.in_ok-more.more.items c.cells_of.ensures.kept (c.loop-instance.invariant.listed listed h) (c.in_ok-more.ensures.cells next.path next.prefix)));
+    }
+
+pub returns-clause-cells : goal.returns-clause-cells
+returns-clause-cells c = λ listed h.
+    let all = all_listed c.args.source.now listed c.args.instances.now c.loop-instance.instance-index h c.loop-instance-test.false in
+    subst (λ (js : List listing.Instance). AreCells c.loop-instance.names (flat_map cells_at js) c.loop-instance.found.items) all (c.loop-instance.invariant.listed listed h)
