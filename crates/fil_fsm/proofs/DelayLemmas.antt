@@ -15,6 +15,7 @@ use Rattle.hw_prims.specs.declared.prim.Primitive.TheVariants.{StdReg}
 use Rattle.net_core.specs.Circuit.{settled, states_before}
 use Rattle.net_core.specs.Guard.{guard_holds, source_value}
 use Rattle.cal_ast.proofs.LocalLemmas.{drives_are_local}
+use Rattle.cal_ast.proofs.SideLemmas.{cell_input_destination}
 use Rattle.cal_ast.specs.CalRun.{BareRun, look}
 use Rattle.cal_ast.specs.Instances.{component_at, port_name}
 use Rattle.cal_ast.specs.Laws.{local_values}
@@ -33,7 +34,7 @@ AreDistinct-head name names distinct k d within = distinct 0 (suc k) d (omega ar
 -- ---- what drives a register
 
 -- a port of a cell is driven by the assignments of that cell alone
-local_values-filter : (see : PortName → ℕ) (cell pin : Text) (sets : List Assignment) → local_values see (port_of cell pin) (filter (drives_cell cell) sets) ≡ local_values see (port_of cell pin) sets
+pub local_values-filter : (see : PortName → ℕ) (cell pin : Text) (sets : List Assignment) → local_values see (port_of cell pin) (filter (drives_cell cell) sets) ≡ local_values see (port_of cell pin) sets
 local_values-filter see cell pin [] = refl
 local_values-filter see cell pin (a ∷ sets) = by (drives_cell cell a) refl (local_values-filter see cell pin sets)
   where
@@ -134,10 +135,11 @@ module _ (design : Design) (top : Component) (asked : ℕ) (inputs : Trace) (loa
       → ((row : Row) → local_values (look path row) (port_of name pin) (takes bit name) ≡ value row ∷ []) → (t : ℕ) → t < height → trace t (port_at path (Some name) pin) ≡ value (trace t)
   input_is bit name pin value link plain_pin has gives t within =
       let known : Contains (pin_names (cell_inputs design c name)) pin = subst (λ prim. Contains (pin_names (made_inputs prim (part_in design c name))) pin) (sym link.made) has in
+      let sink = cell_input_destination design c name pin known in
       let see = look path (trace t) in
       let local = drives_are_local path (trace t) (port_of name pin) c.sets (link.plain, plain_pin) plain in
       let alone = sym (local_values-filter see name pin c.sets) ∙ ap (local_values see (port_of name pin)) link.driven ∙ gives (trace t) in
-      (run.rows t within).driven (port_at path (Some name) pin) _ (inl (record { path = path; c = c; at = here; cell = Some name; pin = pin; sink = known; named = refl; drives = refl }))
+      (run.rows t within).driven (port_at path (Some name) pin) _ (inl (record { path = path; c = c; at = here; cell = Some name; pin = pin; sink = sink; named = refl; drives = refl }))
       ∙ ap settled (local ∙ alone)
 
   register_shows : (bit : PortName) (name : Text) → IsLink c bit name → (t : ℕ) → t < height → trace t (port_at path (Some name) (codes "out")) ≡ out_of (states_before t trace loads (full_name path name) (StdReg 1))

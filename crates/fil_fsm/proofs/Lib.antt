@@ -1,3 +1,5 @@
-mod DelayLemmas
+pub mod DelayLemmas
 pub mod FreshLemmas
 pub mod GrownLemmas
+mod PartLemmas
+pub mod NumberLemmas

@@ -17,7 +17,8 @@ bit_of name = port_of name (codes "out")
 -- the register takes this bit in every row
 abbrev pub takes : PortName → Text → List Assignment
 takes bit name =
-    record { dst = port_of name (codes "in"); guard = None; src = Port bit } ∷ record { dst = port_of name (codes "write_en"); guard = None; src = Lit 1 1 } ∷ []
+    record { dst = port_of name (codes "in"); guard = None; src = Port bit } ∷
+    record { dst = port_of name (codes "write_en"); guard = None; src = Lit 1 1 } ∷ []
 
 -- the first register takes this bit, each other the one before it
 abbrev pub chain_sets : PortName → List Text → List Assignment

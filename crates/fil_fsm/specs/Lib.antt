@@ -1,3 +1,4 @@
 pub mod Chain
 pub mod Delays
 pub mod Registers
+pub mod Refines

@@ -6,5 +6,5 @@ mod names;
 mod register;
 mod shift;
 
-pub use laws::chains_delay;
+pub use laws::{chains_delay, parts_make_chains};
 pub use shift::{FsmParts, MOST_BITS, shift_register};

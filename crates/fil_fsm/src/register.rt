@@ -1,9 +1,11 @@
 //! One register of a chain.
 ghost use Rattle.std.specs.Prelude.{◌≡◌, ◌∷◌, ◌++◌, [], List, map, IfOk, OnOk};
+ghost use Rattle.cal_ast.specs.Numbers.{PortHasNumbers};
 ghost use Rattle.cal_ast.specs.Tree.{cell_tree, assignment_tree, port_tree};
 ghost use Rattle.fil_fsm.specs.Chain.{register, takes, bit_of};
-ghost use Rattle.fil_fsm.specs.Registers.{AreRegisterTexts};
+ghost use Rattle.fil_fsm.specs.Registers.{AreRegisterTexts, PartsHaveNumbers};
 ghost use Rattle.hw_names.specs.Name.{Text, KeepsTexts, text_of};
+ghost use Rattle.net_core.specs.Numbers.{IsNumberOf};
 
 use crate::names::intern;
 use crate::shift::FsmParts;
@@ -64,6 +66,9 @@ pub fn add_register(
     ensures bits { OnOk result ((names : List Text) → AreRegisterTexts names texts →
         map (port_tree names) parts.new.bits.items ≡ map (port_tree names) parts.old.bits.items ++ bit_of (text_of names name) ∷ []) }
     ensures bit { IfOk result (λ out. (names : List Text) → AreRegisterTexts names texts → port_tree names out ≡ bit_of (text_of names name)) }
+    ensures numbers { OnOk result ((names : List Text) → AreRegisterTexts names texts → IsNumberOf names name → PortHasNumbers names bit
+        → PartsHaveNumbers names parts.old → PartsHaveNumbers names parts.new) }
+    ensures bit_numbers { IfOk result (λ out. (names : List Text) → AreRegisterTexts names texts → IsNumberOf names name → PortHasNumbers names out) }
 {
     parts.cells.push(CalCell {
         name,

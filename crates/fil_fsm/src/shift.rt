@@ -2,6 +2,7 @@
 ghost use Rattle.std.specs.Prelude.{◌≡◌, ◌≤◌, ◌∷◌, [], IfOk};
 ghost use Rattle.cal_ast.specs.Numbers.{PortHasNumbers};
 ghost use Rattle.fil_fsm.specs.Chain.{IsShiftRegister};
+ghost use Rattle.fil_fsm.specs.Registers.{PartsHaveNumbers};
 ghost use Rattle.hw_names.specs.Name.{KeepsTexts};
 
 use crate::names::fresh;
@@ -47,6 +48,7 @@ pub fn shift_register(
     requires bits { (1 ≤ n) × (n ≤ MOST_BITS) }
     ensures kept { KeepsTexts names.old names.new }
     ensures chain { IfOk result (λ parts. IsShiftRegister names.old names.new go n parts) }
+    ensures numbers { IfOk result (PartsHaveNumbers names.new) }
 {
     let texts = register_texts(names)?;
     let mut parts = source_alone(alloc, go)?;

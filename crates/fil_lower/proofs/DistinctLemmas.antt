@@ -1,0 +1,103 @@
+-- A component's instances have distinct names, and its outputs are connected once each.
+use Rattle.std.proofs.Common.{◌≡◌, ◌⊎◌, ℕ, zero, suc, ◌<◌, ◌≤◌, List, [], ◌∷◌, ◌++◌, length, map, flat_map, take, get_or, slice_get, Some, option_map, refl, sym, ap, subst, ◌∙◌, inl, inr, add-one, arith}
+use Rattle.std.specs.Prelude.{Contains}
+use Rattle.std.proofs.lemmas.List.{append-nil, map-append}
+use Rattle.std.proofs.lemmas.List.Elements.{All-head}
+use Rattle.std.proofs.lemmas.List.Folds.{flat_map-map}
+use Rattle.std.proofs.lemmas.Option.{slice_get-get_or, slice_get-map}
+use Rattle.std.proofs.Math.Seq.{take-length}
+use Rattle.hw_names.specs.Name.{Text, AreDistinct}
+use Rattle.hw_names.proofs.NameLemmas.{AreDistinct-push, same_number}
+use Rattle.fil_ast.specs.Connections.{ConnectsOnce, connected_at}
+use Rattle.fil_ast.specs.Items.{scope_after}
+use Rattle.fil_ast.specs.Naming.{instance_names}
+use Rattle.fil_ast.specs.Rules.{F1, FilRules}
+use Rattle.fil_ast.specs.Scope.{Instance, instances_at}
+use Rattle.fil_ast.specs.Tree.{Component, Design, Statement, New, Call, Both, Connect}
+use Rattle.fil_ast.specs.Wires.{whole_scope}
+use Rattle.fil_share.proofs.MakesLemmas.{at_statement, flat_next}
+use Rattle.fil_share.proofs.OwnLemmas.{names_of}
+use Rattle.fil_lower.proofs.ChainLemmas.{all_of, apart_at}
+
+-- ---- lists to which each statement adds a new name at most
+
+module _ (f : Statement → List Text) (body : List Statement) where
+  abbrev AddsNew : ℕ → Statement → Type 0
+  AddsNew k s = (f s ≡ []) ⊎ ((name : Text) × (f s ≡ name ∷ []) × ¬ Contains (flat_map f (take k body)) name)
+
+  module _ (each : (k : ℕ) (s : Statement) → slice_get body k ≡ Some s → AddsNew k s) where
+    distinct_next : (k : ℕ) (s : Statement) → AreDistinct (flat_map f (take k body)) → AddsNew k s → AreDistinct (flat_map f (take k body) ++ f s)
+    distinct_next k s distinct (inl none) =
+        let D : List Text → Type 0 = AreDistinct in
+        subst D (sym (append-nil (flat_map f (take k body))) ∙ ap (λ more. flat_map f (take k body) ++ more) (sym none)) distinct
+    distinct_next k s distinct (inr (name, one, absent)) =
+        let D : List Text → Type 0 = AreDistinct in
+        subst D (ap (λ more. flat_map f (take k body) ++ more) (sym one)) (AreDistinct-push (flat_map f (take k body)) name distinct absent)
+
+    distinct_to : (k : ℕ) → k ≤ length body → AreDistinct (flat_map f (take k body))
+    distinct_to zero within = λ i j d less below. absurd (omega (arith, less, below))
+    distinct_to (suc k) within =
+        let s = get_or body k (New [] [] []) in
+        let below : k < length body = omega (arith, within) in
+        let at : slice_get body k ≡ Some s = slice_get-get_or body k (New [] [] []) below in
+        let D : List Text → Type 0 = AreDistinct in
+        subst D (sym (flat_next f body k s at) ∙ ap (λ (m : ℕ). flat_map f (take m body)) (add-one k)) (distinct_next k s (distinct_to k (omega (arith, within))) (each k s at))
+
+    pub distinct_all : AreDistinct (flat_map f body)
+    distinct_all =
+        let D : List Statement → Type 0 = λ b. AreDistinct (flat_map f b) in
+        let all : length body ≤ length body = omega arith in
+        subst D (take-length body) (distinct_to (length body) all)
+
+abbrev name_of : Instance → Text
+name_of i = i.name
+
+names_joined : (body : List Statement) → instance_names (flat_map instances_at body) ≡ flat_map (λ s. instance_names (instances_at s)) body
+names_joined [] = refl
+names_joined (s ∷ body) = map-append name_of (instances_at s) (flat_map instances_at body) ∙ ap (λ rest. instance_names (instances_at s) ++ rest) (names_joined body)
+
+module _ (comps : Design) (rules : FilRules comps) (n : ℕ) (c : Component) (here : slice_get comps n ≡ Some c) where
+  -- ---- instances
+
+  abbrev made_at : Statement → List Text
+  made_at s = instance_names (instances_at s)
+
+  adds_instance : (k : ℕ) (s : Statement) → slice_get c.body k ≡ Some s → AddsNew made_at c.body k s
+  adds_instance k (Call name inst gives) at = inl refl
+  adds_instance k (Connect output value) at = inl refl
+  adds_instance k (New name made params) at =
+      let i : Instance = record { name = name; made = made; params = params } in
+      let new = All-head (λ (i : Instance). ¬ Contains (instance_names (flat_map instances_at (take k c.body))) i.name) i [] ((names_of comps rules n c here).new_names k (New name made params) at).instances in
+      inr (name, refl, subst (λ (ns : List Text). ¬ Contains ns name) (names_joined (take k c.body)) new)
+  adds_instance k (Both name made params gives) at =
+      let i : Instance = record { name = name; made = made; params = params } in
+      let new = All-head (λ (i : Instance). ¬ Contains (instance_names (flat_map instances_at (take k c.body))) i.name) i [] ((names_of comps rules n c here).new_names k (Both name made params gives) at).instances in
+      inr (name, refl, subst (λ (ns : List Text). ¬ Contains ns name) (names_joined (take k c.body)) new)
+
+  instances_distinct : AreDistinct (instance_names (whole_scope (take n comps) c).instances)
+  instances_distinct = (let D : List Text → Type 0 = AreDistinct in subst D (sym (names_joined c.body)) (distinct_all made_at c.body adds_instance))
+
+  -- instances of one name are at one place
+  pub same_instance : (k j : ℕ) (a b : Instance) → slice_get (whole_scope (take n comps) c).instances k ≡ Some a → slice_get (whole_scope (take n comps) c).instances j ≡ Some b → a.name ≡ b.name → k ≡ j
+  same_instance k j a b at_k at_j same =
+      let is = (whole_scope (take n comps) c).instances in
+      same_number (instance_names is) k j b.name instances_distinct
+      (slice_get-map name_of is k ∙ ap (option_map name_of) at_k ∙ ap Some same) (slice_get-map name_of is j ∙ ap (option_map name_of) at_j)
+
+  -- ---- connections
+
+  adds_connection : (k : ℕ) (s : Statement) → slice_get c.body k ≡ Some s → AddsNew connected_at c.body k s
+  adds_connection k (New name made params) at = inl refl
+  adds_connection k (Call name inst gives) at = inl refl
+  adds_connection k (Both name made params gives) at = inl refl
+  adds_connection k (Connect output value) at =
+      let once : ConnectsOnce (scope_after (take n comps) c (take k c.body)) (take k c.body) (Connect output value) = at_statement comps rules n c here k (Connect output value) at 8 F1 (omega arith) in
+      inr (output, refl, once.0)
+
+  -- connections at two places are of two outputs
+  pub other_connection : (k j : ℕ) (s t : Statement) → slice_get c.body k ≡ Some s → slice_get c.body j ≡ Some t → (k ≡ j → ⊥) → (output : Text) → Contains (connected_at s) output → Contains (connected_at t) output → ⊥
+  other_connection k j s t at_k at_j apart output has_s has_t =
+      let D : List Text → Type 0 = AreDistinct in
+      let distinct : AreDistinct (all_of (map connected_at c.body)) = subst D (sym (flat_map-map (λ names. names) connected_at c.body)) (distinct_all connected_at c.body adds_connection) in
+      apart_at (map connected_at c.body) distinct k j (connected_at s) (connected_at t)
+      (slice_get-map connected_at c.body k ∙ ap (option_map connected_at) at_k) (slice_get-map connected_at c.body j ∙ ap (option_map connected_at) at_j) apart output has_s has_t

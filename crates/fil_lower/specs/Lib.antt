@@ -1,0 +1,9 @@
+pub mod Plan
+pub mod PlanRules
+pub mod Lowered
+pub mod Laws
+pub mod PlanOf
+pub mod PlanLaws
+pub mod LoweredDesign
+pub mod Lowering
+pub mod LoweringLaws
