@@ -21,7 +21,7 @@ use Rattle.hw_grammar.specs.declared.sort.Sort.TheVariants as sorts
 use Rattle.hw_grammar.specs.declared.terminal.Terminal.{Terminal}
 use Rattle.hw_grammar.specs.Grammar.{AnyWord, AnyNumber, AnyLiteral}
 use Rattle.hw_grammar.specs.Sort.{same_sort}
-use Rattle.hw_grammar.specs.Terminals.{keywords, row_of, sort_of, width_at, value_at, IsNumbered, IsTerminal, AreTerminals}
+use Rattle.hw_grammar.specs.Terminals.{keywords, row_of, sort_of, special_of, width_at, value_at, IsNumbered, IsTerminal, AreTerminals}
 use Rattle.hw_grammar.specs.TextPlace.{IsLexed}
 use Rattle.hw_grammar.specs.Words.{IsNameOf, IsWritten}
 use Rattle.hw_grammar.proofs.TerminalLemmas.{mark_no_name}
@@ -30,6 +30,8 @@ use Rattle.hw_grammar.proofs.Passing.{ArePairs, Passes, Both, passes-one}
 -- the terminal of a token with one list of names and that with another; what is written in the token is good
 pub record IsAlike (dialect : Dialect) (old new : List Text) (t u : Terminal) : Type 0 where
   pub sort : u.sort ≡ t.sort
+  pub special : u.special ≡ t.special
+  pub meaning : t.sort ≡ sorts.Name → t.special ≡ special_of kinds.Name (text_of old t.name)
   pub word : t.sort ≡ sorts.Name → IsNameOf dialect (text_of old t.name) × (text_of old t.name ≡ text_of new u.name)
   pub width : IsWritten t.width × (t.width ≡ u.width)
   pub value : IsWritten t.value × (t.value ≡ u.value)
@@ -54,6 +56,14 @@ name_of dialect kinds.Literal word w e = absurd (false≢true (ap (λ (s : Sort)
 name_of dialect kinds.Text word w e = absurd (false≢true (ap (λ (s : Sort). same_sort s sorts.Name) e))
 name_of dialect kinds.Mark word w e = absurd (clash (ap (λ (s : Sort). same_sort s sorts.Name) e) (mark_no_name word))
 
+-- what is no name has no meaning as one
+name_meaning : (dialect : Dialect) (kind : Kind) (word : Text) → sort_of dialect kind word ≡ sorts.Name → special_of kind word ≡ special_of kinds.Name word
+name_meaning dialect kinds.Name word e = refl
+name_meaning dialect kinds.Number word e = absurd (false≢true (ap (λ (s : Sort). same_sort s sorts.Name) e))
+name_meaning dialect kinds.Literal word e = absurd (false≢true (ap (λ (s : Sort). same_sort s sorts.Name) e))
+name_meaning dialect kinds.Text word e = absurd (false≢true (ap (λ (s : Sort). same_sort s sorts.Name) e))
+name_meaning dialect kinds.Mark word e = absurd (clash (ap (λ (s : Sort). same_sort s sorts.Name) e) (mark_no_name word))
+
 pub named : (names : List Text) (word : Text) (t : Terminal) → IsNumbered names word t.sort t.name → t.sort ≡ sorts.Name → text_of names t.name ≡ word
 named names word t is e =
     let yes : same_sort t.sort sorts.Name ≡ true = ap (λ (s : Sort). same_sort s sorts.Name) e in
@@ -77,6 +87,8 @@ value_written kinds.Mark word f = omega arith
 alike : (dialect : Dialect) (old new : List Text) (kind : Kind) (word : Text) (t u : Terminal) → IsWord dialect kind word → Fits kind word → IsTerminal dialect old kind word t → IsTerminal dialect new kind word u → IsAlike dialect old new t u
 alike dialect old new kind word t u w f p q = record {
   sort = q.sort ∙ sym p.sort;
+  special = q.special ∙ sym p.special;
+  meaning = λ e. p.special ∙ name_meaning dialect kind word (sym p.sort ∙ e) ∙ ap (special_of kinds.Name) (sym (named old word t p.name e));
   word = λ e.
       let is = named old word t p.name e in
       (subst (IsNameOf dialect) (sym is) (name_of dialect kind word w (sym p.sort ∙ e)), is ∙ sym (named new word u q.name (q.sort ∙ sym p.sort ∙ e)));

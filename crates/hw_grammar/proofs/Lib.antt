@@ -16,5 +16,6 @@ pub mod Carried
 pub mod Closed
 pub mod Passing
 pub mod Alike
+pub mod Specials
 pub mod Fragments
 pub mod Decimals

@@ -6,6 +6,7 @@ use Rattle.hw_names.specs.Name.{Text, text_of}
 use Rattle.hw_names.specs.declared.names.NameId.{NameId}
 use Rattle.hw_grammar.specs.declared.sort.Sort.{Sort}
 use Rattle.hw_grammar.specs.declared.sort.Sort.TheVariants.{Name, Number, Literal}
+use Rattle.hw_grammar.specs.declared.terminal.Special.{Special}
 use Rattle.hw_grammar.specs.declared.terminal.Terminal.{Terminal}
 
 -- a language whose values are of this type
@@ -15,6 +16,10 @@ Lang A = List Terminal → A → List Terminal → Type 0
 -- one terminal of the sort; it is its own value
 abbrev pub One : Sort → Lang Terminal
 One sort ts t rest = (ts ≡ t ∷ rest) × (t.sort ≡ sort)
+
+-- a name whose word has this meaning beside the grammar; it is its own value
+abbrev pub OneSpecial : Special → Lang Terminal
+OneSpecial special ts t rest = One Name ts t rest × (t.special ≡ special)
 
 -- nothing, with this value
 abbrev pub Empty : {A : Type 0} → A → Lang A

@@ -5,10 +5,11 @@ use Rattle.hw_names.specs.Name.{Text, text_of}
 use Rattle.hw_names.specs.declared.names.NameId.{NameId}
 use Rattle.hw_grammar.specs.declared.sort.Sort.{Sort}
 use Rattle.hw_grammar.specs.declared.sort.Sort.TheVariants.{Name, Number, Literal}
+use Rattle.hw_grammar.specs.declared.terminal.Special.{Special}
 use Rattle.hw_grammar.specs.declared.terminal.Terminal.{Terminal}
 use Rattle.hw_grammar.specs.declared.end.ReadEnd.{ReadEnd}
 use Rattle.hw_grammar.specs.declared.end.ReadEnd.TheVariants as ends
-use Rattle.hw_grammar.specs.Sort.{same_sort, has}
+use Rattle.hw_grammar.specs.Sort.{same_sort, same_special, has}
 
 -- what is read: a value and the terminals after it, or the terminals from the refused one on
 abbrev pub Answer : Type 0 → Type 0
@@ -27,6 +28,9 @@ abbrev pub ◌>>=◌ : {A B : Type 0} → Result A (List Terminal) → (A → Re
 abbrev pub one : Sort → Reader Terminal
 one sort [] = Err []
 one sort (t ∷ ts) = cond (same_sort t.sort sort) (Ok (t, ts)) (Err (t ∷ ts))
+
+abbrev pub one_special : Special → Reader Terminal
+one_special special ts = one Name ts >>= λ x. cond (same_special x.0.special special) (Ok x) (Err ts)
 
 abbrev pub empty : {A : Type 0} → A → Reader A
 empty v ts = Ok (v, ts)

@@ -16,7 +16,7 @@ use Rattle.hw_grammar.specs.declared.sort.Sort.{Sort}
 use Rattle.hw_grammar.specs.declared.sort.Sort.TheVariants.{Name, Number, Literal, Comp, New, Interface, Import, Component, Cells, Wires, Control, Group, Comb, Seq, Par, If, Else, While, With, Invoke, Static, Ref, Repeat, Primitive, Extern, Metadata, At, LeftBracket, RightBracket, LeftParen, RightParen, LeftAngle, RightAngle, LeftBrace, RightBrace, Comma, Colon, ColonEquals, Semicolon, Equals, Plus, Dot, Arrow, Question, Not, And, Or, EqualsEquals, NotEquals, AtMost, AtLeast}
 use Rattle.hw_grammar.specs.declared.sort.Sort.TheVariants as sorts
 use Rattle.hw_grammar.specs.declared.terminal.Special.{Special}
-use Rattle.hw_grammar.specs.declared.terminal.Special.TheVariants.{External, Clock, Reset, Plain}
+use Rattle.hw_grammar.specs.declared.terminal.Special.TheVariants.{External, Clock, Reset, Done, Plain}
 use Rattle.hw_grammar.specs.declared.terminal.Terminal.{Terminal}
 use Rattle.hw_grammar.specs.Sort.{same_sort}
 
@@ -52,7 +52,7 @@ sort_of dialect kinds.Mark word = unwrap_or (row_of marks word) sorts.Text
 
 -- the names that have a meaning beside the grammar
 abbrev pub special_names : List (Text × Special)
-special_names = (codes "external", External) ∷ (codes "clk", Clock) ∷ (codes "reset", Reset) ∷ []
+special_names = (codes "external", External) ∷ (codes "clk", Clock) ∷ (codes "reset", Reset) ∷ (codes "done", Done) ∷ []
 
 -- the texts, with their double quotes, that have one
 abbrev pub special_texts : List (Text × Special)

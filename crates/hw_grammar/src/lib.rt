@@ -10,7 +10,7 @@ mod terminals;
 
 pub use end::ReadEnd;
 pub use place::refused_byte;
-pub use reading::{read_name, read_number, read_one, starts, starts_any};
+pub use reading::{read_name, read_number, read_one, read_special, starts, starts_any};
 pub use sort::Sort;
 pub use terminal::{Special, Terminal};
 pub use terminals::terminals as terminals_of;

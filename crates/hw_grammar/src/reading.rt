@@ -1,11 +1,11 @@
 //! What every reader is made of.
 ghost use Rattle.std.specs.Prelude.{◌≡◌, [], ◌∷◌};
-ghost use Rattle.hw_grammar.specs.Reading.{Gives, one, any_name, any_number};
+ghost use Rattle.hw_grammar.specs.Reading.{Gives, one, one_special, any_name, any_number};
 ghost use Rattle.hw_grammar.specs.Sort.{has_sort, has};
 
 use crate::end::ReadEnd;
 use crate::sort::Sort;
-use crate::terminal::Terminal;
+use crate::terminal::{Special, Terminal};
 use hw_names::NameId;
 
 /// Whether the first terminal has this sort.
@@ -55,6 +55,21 @@ pub fn read_one(ts: &[Terminal], sort: Sort) -> Result<(Terminal, &[Terminal]), 
                 Err(ReadEnd::Refused(ts))
             }
         }
+    }
+}
+
+/// The name at the front, whose word is to have this meaning, and those after it.
+pub fn read_special(
+    ts: &[Terminal],
+    special: Special,
+) -> Result<(Terminal, &[Terminal]), ReadEnd<'_>>
+    ensures { Gives (λ x. (x.0, x.1.now)) result (one_special special ts.now) }
+{
+    let (t, rest) = read_one(ts, Sort::Name)?;
+    if t.special == special {
+        Ok((t, rest))
+    } else {
+        Err(ReadEnd::Refused(ts))
     }
 }
 

@@ -11,6 +11,8 @@ pub enum Special {
     Clock,
     /// `reset`.
     Reset,
+    /// `done`, the port of a group that its done lines set.
+    Done,
     /// Any other word.
     Plain,
 }

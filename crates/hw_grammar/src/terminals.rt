@@ -117,6 +117,7 @@ fn special_name(word: &[u8]) -> Special
             ("external", Special::External),
             ("clk", Special::Clock),
             ("reset", Special::Reset),
+            ("done", Special::Done),
         ],
         word,
     );
