@@ -97,7 +97,7 @@ module _ (texts : RegisterTexts) (id : NameId) (from : CalPort) (before after : 
             added.bits later (are_later later keeps) ∙ ap₂ (λ bits t. bits ++ bit_of t ∷ []) (grown.bits later (keeps_on later keeps)) (text later keeps)
             ∙ ap (λ bits. source ∷ bits) (sym (map-append bit_of grown.registers (name ∷ [])));
         last = λ later keeps. added.bit later (are_later later keeps) ∙ ap bit_of (text later keeps) ∙ sym (last_bit-push source grown.registers name);
-        generated = All-push (λ other. IsGenerated other × IsPlain other) grown.registers name grown.generated (IsGenerated-generated_name number, IsPlain-generated_name number small);
+        generated = All-push (λ other. IsGenerated other × IsPlain other) grown.registers name grown.generated (IsGenerated-generated_name number small, IsPlain-generated_name number small);
         fresh = All-push (λ other. ¬ Contains old other) grown.registers name grown.fresh (λ was. absent (Contains-KeepsTexts old names name kept was));
         present = All-push (Contains new) grown.registers name (All-weaker (Contains names) (Contains new) (λ other in'. Contains-KeepsTexts names new other more in') grown.registers grown.present) (Contains-slice_get new id.0 name there);
         distinct = AreDistinct-push grown.registers name grown.distinct (λ was. absent (All-contains (Contains names) grown.registers name grown.present was));

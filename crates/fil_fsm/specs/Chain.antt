@@ -1,5 +1,5 @@
 -- Chains of one-bit registers: bit 0 is a port, and each further bit is a register that takes the bit before it in every row. This project's.
-use Rattle.std.specs.Prelude.{◌≡◌, ℕ, ◌+◌, false, List, [], ◌∷◌, ◌++◌, length, map, take, codes, None, All, Contains}
+use Rattle.std.specs.Prelude.{◌≡◌, ℕ, ◌+◌, ◌≤◌, false, List, [], ◌∷◌, ◌++◌, length, map, codes, None, All, Contains}
 use Rattle.hw_names.specs.Name.{Text, IsPlain, AreDistinct}
 use Rattle.net_core.specs.declared.net.Src.TheVariants.{Port, Lit}
 use Rattle.cal_ast.specs.Tree.{PortName, port_of, CellDef, Assignment, cell_tree, assignment_tree, port_tree}
@@ -28,9 +28,12 @@ chain_sets bit (name ∷ registers) = takes bit name ++ chain_sets (bit_of name)
 abbrev pub chain_bits : PortName → List Text → List PortName
 chain_bits go registers = go ∷ map bit_of registers
 
--- the names that lowering makes start so
+abbrev pub IsDigit : ℕ → Type 0
+IsDigit byte = (48 ≤ byte) × (byte ≤ 57)
+
+-- the names that lowering makes: `f$` and digits
 abbrev pub IsGenerated : Text → Type 0
-IsGenerated name = take 2 name ≡ codes "f$"
+IsGenerated name = (digits : Text) × (name ≡ codes "f$" ++ digits) × All IsDigit digits
 
 -- the parts are a chain of so many bits after this port, whose registers have names that are new to the list
 pub record IsShiftRegister (old new : List Text) (go : CalPort) (n : ℕ) (parts : FsmParts) : Type 0 where

@@ -7,4 +7,5 @@ mod register;
 mod shift;
 
 pub use laws::{chains_delay, parts_make_chains};
+pub use names::intern;
 pub use shift::{FsmParts, MOST_BITS, shift_register};

@@ -51,3 +51,16 @@ pub mod PlainLemmas
 pub mod EdgeLemmas
 pub mod KindLemmas
 pub mod LoopLemmas
+pub mod StepLemmas
+pub mod AnyGuardLemmas
+pub mod PortNameLemmas
+pub mod BodyLemmas
+pub mod KeptLemmas
+pub mod WantLemmas
+pub mod GoodLemmas
+pub mod PlaceLemmas
+pub mod EventLemmas
+pub mod RegisterLemmas
+pub mod KnownLemmas
+pub mod UseNumberLemmas
+pub mod ComponentLemmas

@@ -6,4 +6,6 @@ pub mod PlanOf
 pub mod PlanLaws
 pub mod LoweredDesign
 pub mod Lowering
+pub mod Parts
+pub mod Place
 pub mod LoweringLaws

@@ -1,0 +1,14 @@
+use Rattle.std.proofs.Common.{◌≡◌, ◌++◌, All, map, flat_map, take}
+use Rattle.cal_ast.specs.Numbers.{SetHasNumbers}
+use Rattle.cal_ast.specs.Tree.{assignment_tree}
+use Rattle.fil_ast.specs.Scope.{invocations_at}
+use Rattle.fil_lower.specs.Lowering.{Lowering, invocation_sets}
+use Rattle.fil_lower.specs.Place.{ShowsPlace}
+use Rattle.fil_lower.proofs.arguments.push_arguments.Given as goal
+
+abbrev pub invariant-loop-stmt : goal.invariant-loop-stmt
+invariant-loop-stmt l = record {
+  sets : (low : Lowering) → ShowsPlace l.place low → map (assignment_tree l.place.names.now) l.sets.items
+      ≡ map (assignment_tree l.place.names.now) l.fn.sets.items ++ flat_map (invocation_sets low) (flat_map invocations_at (take l.stmt-index low.scope.comp.body));
+  numbers : All (SetHasNumbers l.place.names.now) l.fn.sets.items → All (SetHasNumbers l.place.names.now) l.sets.items;
+}
