@@ -1,0 +1,10 @@
+pub mod ListLemmas
+pub mod PlainLemmas
+pub mod InstanceLemmas
+pub mod RefineLemmas
+pub mod SegmentLemmas
+pub mod GuardLemmas
+pub mod RegisterNames
+pub mod WrittenLemmas
+pub mod PortLemmas
+pub mod TextLemmas

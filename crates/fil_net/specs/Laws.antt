@@ -1,0 +1,27 @@
+-- That a Filament design which is lowered and then flattened is a netlist that keeps what the design promises, and has a text. This project's.
+use Rattle.net_core.specs.Netlist.{netlist_of}
+use Rattle.net_core.specs.declared.net.Net.{Net}
+use Rattle.net_text.specs.Names.{HasText}
+use Rattle.cal_ast.specs.Tree as calyx
+use Rattle.fil_ast.specs.Plain.{HasPlainTree}
+use Rattle.fil_ast.specs.Rules.{FilRules}
+use Rattle.fil_ast.specs.Tree.{Design}
+use Rattle.fil_fsm.specs.Refines.{Refines}
+use Rattle.fil_lower.specs.Lowering.{IsLoweringOf}
+use Rattle.fil_parse.specs.Written.{DesignIsWritten}
+use Rattle.net_flat.specs.FlatTop.{IsFlatTop}
+
+-- names of the grammar have no dots
+abbrev pub WrittenDesignsArePlain : Type 0
+WrittenDesignsArePlain = (comps : Design) → DesignIsWritten comps → HasPlainTree comps
+
+abbrev pub FlattenedLoweringsRefine : Type 0
+FlattenedLoweringsRefine =
+    (comps : Design) (design : calyx.Design) (net : Net) → FilRules comps → HasPlainTree comps → IsLoweringOf comps design → IsFlatTop design net →
+    Refines comps (netlist_of net)
+
+-- names of the netlist are names of the design, and of registers, joined by dots
+abbrev pub FlattenedLoweringsHaveText : Type 0
+FlattenedLoweringsHaveText =
+    (comps : Design) (design : calyx.Design) (net : Net) → FilRules comps → DesignIsWritten comps → IsLoweringOf comps design → IsFlatTop design net →
+    HasText (netlist_of net)
