@@ -6,7 +6,7 @@ use Rattle.std.specs.Prelude.{reverse, bytes_eq}
 use Rattle.hw_names.specs.Name.{Text}
 use Rattle.filc_stop.specs.declared.language.Language.{Language}
 use Rattle.filc_stop.specs.declared.language.Language.TheVariants.{Netlists, Filament}
-use Rattle.filc_core.specs.Request.{Request, OfCheck, OfRows, OfSimNet, OfTraceNet, OfFlow, OfTimeline, command_of, Asks}
+use Rattle.filc_core.specs.Request.{Request, OfCheck, OfRows, OfSimNet, OfTraceNet, OfFlow, OfTimeline, OfNetFil, command_of, Asks}
 use Rattle.filc_core.specs.Words.{IsFileIn}
 use Rattle.filc_core.specs.commands.NetRun as net_run
 use Rattle.filc_core.specs.commands.NetRun.{Driven}
@@ -35,12 +35,13 @@ kind_of (OfSimNet c) = 2
 kind_of (OfTraceNet c) = 3
 kind_of (OfFlow c) = 4
 kind_of (OfTimeline c) = 5
+kind_of (OfNetFil c) = 6
 
 abbrev kind_by_word : Text → ℕ
 kind_by_word word =
     if bytes_eq word (codes "check") then 0 else if bytes_eq word (codes "rows") then 1
     else if bytes_eq word (codes "sim") then 2 else if bytes_eq word (codes "trace") then 3
-    else if bytes_eq word (codes "flow") then 4 else 5
+    else if bytes_eq word (codes "flow") then 4 else if bytes_eq word (codes "timeline") then 5 else 6
 
 word_tells : (r : Request) → kind_by_word (get_or (command_of r).words 0 []) ≡ kind_of r
 word_tells (OfCheck c) = refl
@@ -49,6 +50,7 @@ word_tells (OfSimNet c) = refl
 word_tells (OfTraceNet c) = refl
 word_tells (OfFlow c) = refl
 word_tells (OfTimeline c) = refl
+word_tells (OfNetFil c) = refl
 
 same_kind : (words : List Text) (r r' : Request) → Asks words r → Asks words r' → kind_of r ≡ kind_of r'
 same_kind words r r' asks asks' = sym (word_tells r) ∙ ap (λ (ws : List Text). kind_by_word (get_or ws 0 [])) (sym asks.0 ∙ asks'.0) ∙ word_tells r'
@@ -79,4 +81,7 @@ asks_once words (OfSimNet c) (OfSimNet d) asks asks' = ap OfSimNet (same_driven 
 asks_once words (OfTraceNet c) (OfTraceNet d) asks asks' = ap OfTraceNet (same_driven words (codes "trace") c d asks.0 asks'.0)
 asks_once words (OfFlow c) (OfFlow d) asks asks' = ap OfFlow (same_started words (codes "flow") c d asks.0 asks'.0)
 asks_once words (OfTimeline c) (OfTimeline d) asks asks' = ap OfTimeline (same_started words (codes "timeline") c d asks.0 asks'.0)
+asks_once words (OfNetFil c) (OfNetFil d) asks asks' =
+    let file : c.file ≡ d.file = ap (λ (ws : List Text). get_or ws 1 []) (sym asks.0 ∙ asks'.0) in
+    λ k. OfNetFil (record { file = file k })
 asks_once words r r' asks asks' = absurd (let apart = same_kind words r r' asks asks' in omega (arith, apart))

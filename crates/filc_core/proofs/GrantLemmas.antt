@@ -10,13 +10,14 @@ use Rattle.filc_stop.specs.declared.ended.Ended.{Ended}
 use Rattle.filc_stop.specs.declared.ended.Ended.TheVariants.{Done, Conflict}
 use Rattle.filc_stop.specs.declared.language.Language.TheVariants.{Netlists, Filament}
 use Rattle.filc_core.proofs.CheckLemmas.{check_reads, check_comes}
+use Rattle.filc_core.proofs.NetFilLemmas.{net_fil_reads, net_fil_comes}
 use Rattle.filc_core.proofs.NetRunLemmas.{net_run_reads, net_run_comes}
 use Rattle.filc_core.proofs.PerformLemmas.{one_told, both_told}
 use Rattle.filc_core.proofs.RowsLemmas.{rows_reads, rows_comes}
 use Rattle.filc_core.proofs.SourceLemmas.{is_told}
 use Rattle.filc_core.proofs.StartedLemmas.{started_reads, started_comes}
 use Rattle.filc_core.specs.Files.{IsToldFor}
-use Rattle.filc_core.specs.Request.{Request, OfCheck, OfRows, OfSimNet, OfTraceNet, OfFlow, OfTimeline, command_of}
+use Rattle.filc_core.specs.Request.{Request, OfCheck, OfRows, OfSimNet, OfTraceNet, OfFlow, OfTimeline, OfNetFil, command_of}
 use Rattle.filc_core.specs.commands.NetRun as net_run
 use Rattle.filc_core.specs.commands.NetRun.{Driven}
 use Rattle.filc_core.specs.commands.Flow.{flow_of_top}
@@ -54,6 +55,7 @@ granted_ends (OfSimNet c) contents made o granted comes = net_run_ends (codes "s
 granted_ends (OfTraceNet c) contents made o granted comes = net_run_ends (codes "trace") (λ net. net_text net ++ 10 ∷ []) true c contents granted made o comes
 granted_ends (OfFlow c) contents made o granted comes = started_ends (codes "flow") flow_of_top c contents granted made o comes
 granted_ends (OfTimeline c) contents made o granted comes = started_ends (codes "timeline") holds_in_top c contents granted made o comes
+granted_ends (OfNetFil c) contents made o granted comes = inl (ap (λ (x : Outcome). x.ended) (net_fil_comes c contents made o granted comes))
 
 -- and its files are told
 pub granted_told : (r : Request) (contents : Contents) → (command_of r).granted contents → IsToldFor contents r
@@ -67,3 +69,4 @@ granted_told (OfFlow c) contents granted =
     both_told (OfFlow c) Filament c.file (started_reads (codes "flow") flow_of_top c) c.stimulus refl contents (granted.top.design, granted.gives.gives_top.gives) (list_is_told c contents granted)
 granted_told (OfTimeline c) contents granted =
     both_told (OfTimeline c) Filament c.file (started_reads (codes "timeline") holds_in_top c) c.stimulus refl contents (granted.top.design, granted.gives.gives_top.gives) (list_is_told c contents granted)
+granted_told (OfNetFil c) contents granted = one_told (OfNetFil c) Filament c.file (net_fil_reads c) contents refl granted

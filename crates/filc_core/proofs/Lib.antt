@@ -6,6 +6,7 @@ pub mod CheckLemmas
 pub mod RowsLemmas
 pub mod NetRunLemmas
 pub mod StartedLemmas
+pub mod NetFilLemmas
 pub mod AskLemmas
 pub mod GrantLemmas
 pub mod EndingLemmas

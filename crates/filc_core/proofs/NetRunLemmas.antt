@@ -1,21 +1,29 @@
 -- What comes of a netlist's run under a stimulus.
-use Rattle.std.proofs.Common.{◌≡◌, Bool, Option, Some, IsSome, Result, refl, subst, inl, inr}
+use Rattle.std.proofs.Common.{◌≡◌, ◌⊎◌, ℕ, ◌≤◌, Bool, List, [], Option, Some, IsSome, Result, Err, refl, subst, inl, inr, ⊎_elim}
+use Rattle.std.specs.Prelude.{Contains, IfErr, IsErrOf}
+use Rattle.std.specs.Result.{IsErrAnd}
+use Rattle.hw_io.specs.Faults.{Rose}
+use Rattle.hw_io.specs.Reading.{KeepsFiles, IsReadFault}
 use Rattle.hw_names.specs.Name.{Text}
 use Rattle.net_core.specs.Netlist.{Netlist}
 use Rattle.net_core.specs.declared.stimulus.CycleList.{CycleList}
 use Rattle.stim_read.specs.CycleRun.{Run, run_seen}
-use Rattle.filc_load.specs.Built.{IsGivenBy}
+use Rattle.filc_load.specs.Built.{KnowsFile, IsGivenBy, IsNotGiven}
 use Rattle.filc_load.specs.Source.{FileGivesNet}
 use Rattle.filc_load.specs.StimulusFile.{FileGivesRun, IsRefusedForStimulus, run_causes}
 use Rattle.filc_report.proofs.GivenLemmas.{stimulus_run_is}
 use Rattle.filc_report.specs.Runs.{PrintedRun, RunComes, LeavesOfRun, run_from, stimulus_run}
 use Rattle.filc_stop.specs.Leaving.{MakesNone, Leaves}
 use Rattle.filc_stop.specs.Outcome.{Contents, Outcome}
+use Rattle.filc_stop.specs.Stops.{IsOfStimulus, IsOfRun}
 use Rattle.filc_stop.specs.declared.language.Language.TheVariants.{Netlists}
 use Rattle.filc_stop.specs.declared.stop.Stop.{Stop}
-use Rattle.filc_core.proofs.PerformLemmas.{ReadsDesign, leaves_as, by_earlier, design_told, stimulus_told}
+use Rattle.filc_stop.specs.declared.stop.Stop.TheVariants as stop
+use Rattle.filc_core.proofs.PerformLemmas.{ReadsDesign, DesignRead, IsNoReadFault, leaves_as, by_earlier, design_told, stimulus_told, stimulus_stops, read_both, reports, if_stops, no_fault_at_run}
 use Rattle.filc_core.proofs.SourceLemmas.{accepted_not_refused, one_net, one_given_run, run_not_refused}
+use Rattle.filc_core.specs.Command.{Command}
 use Rattle.filc_core.specs.Files.{IsToldFor}
+use Rattle.filc_core.specs.Performing.{Performs}
 use Rattle.filc_core.specs.Request.{Request, command_of}
 use Rattle.filc_core.specs.commands.NetRun.{Driven, GivesRunOf, net_run}
 
@@ -58,3 +66,42 @@ run_given r c reads takes contents now kept told n gives list given =
       gives_net = gives_net;
       gives_run = by_earlier contents now c.stimulus (λ (k : Contents). IsGivenBy k c.stimulus n list) kept (stimulus_told r Netlists c.file reads c.stimulus takes contents told (n, gives_net)) given;
     }
+
+-- ---- what a command with this run performs
+
+-- a command that runs a netlist under a stimulus, and prints this before its rows
+pub record IsNetRun (command : Command) (head : Netlist → Text) (all : Bool) (c : Driven) : Type 0 where
+  pub reads : ReadsDesign command Netlists c.file
+  pub takes : command.stimulus ≡ Some c.stimulus
+  pub refused : (contents : Contents) (n : Netlist) → FileGivesNet contents c.file n → (o : Outcome) → IsRefusedForStimulus contents c.stimulus (λ bytes. run_causes bytes n) o → command.comes contents [] o
+  pub leaves : (contents : Contents) (n : Netlist) (list : CycleList) → GivesRunOf c contents n (run_seen list) → (result : Result (Unit {0}) Stop) (out out' : Option Text) → LeavesOfRun (run_from n list (head n) all) result out out'
+      → Leaves (command.makes contents) (command.comes contents) result out out'
+  pub stops : (why : Stop) → IsOfStimulus why ⊎ IsOfRun why → command.stops why
+
+pub is_net_run : (word : Text) (head : Netlist → Text) (all : Bool) (c : Driven) → IsNetRun (net_run word head all c) head all c
+is_net_run word head all c = record {
+  reads = net_run_reads word head all c;
+  takes = refl;
+  refused = λ contents n gives o refused. net_run_refused word head all c contents n gives o refused [];
+  leaves = λ contents n list gives result out out' leaves. net_run_leaves word head all c contents n list gives result out out' leaves;
+  stops = λ why of. ⊎_elim (λ s. inr (inl s)) (λ s. inr (inr s)) of;
+}
+
+module _ {F : Type 0} {head : Netlist → Text} {all : Bool} {c : Driven} {names : F → List Text} {contents : F → Contents} {faults : F → Text → ℕ} {old mid new : F} (r : Request) (is : IsNetRun (command_of r) head all c) (n : Netlist) (first : DesignRead names contents faults Netlists c.file old mid) (gives : IsSome (contents old c.file) → FileGivesNet (contents old) c.file n) (late : KeepsFiles names contents faults c.stimulus mid new) where
+  -- the stimulus gives nothing
+  pub net_run_stops : {T : Type 0} {result : Result (Unit {0}) Stop} {out : Option Text} {count : ℕ} (why : Stop) → IsErrAnd result (λ e. e ≡ why)
+      → (IsSome (contents mid c.stimulus) → IsNotGiven (contents mid) c.stimulus (λ text. run_causes text n) why) → KnowsFile {T = T} (names mid) c.stimulus (Err why)
+      → (◌≡◌ {A = Result T Stop} (Err why) (Err stop.StimulusReadFault) → IsReadFault (names mid) c.stimulus (faults mid c.stimulus) (faults new c.stimulus)) → IsOfStimulus why
+      → Performs r names contents faults old new result out out count count
+  net_run_stops why passed not_given known fault of =
+      stimulus_stops r is.reads is.takes first late (λ text. run_causes text n) why passed
+      (λ told o refused. is.refused (contents old) n (gives (design_told r Netlists c.file is.reads (contents old) told)) o refused) not_given known fault of (is.stops why (inl of))
+
+  -- the run is printed
+  pub net_run_reports : {result : Result (Unit {0}) Stop} {out out' : Option Text} {before after : ℕ} (list : CycleList) → Contains (names mid) c.stimulus → (IsSome (contents mid c.stimulus) → IsGivenBy (contents mid) c.stimulus n list)
+      → LeavesOfRun (run_from n list (head n) all) result out out' → IfErr result IsOfRun → (IsErrOf result stop.WriteFault → Rose before after) → before ≤ after
+      → Performs r names contents faults old new result out out' before after
+  net_run_reports {result = result} {out = out} {out' = out'} list known given leaves stops rose more =
+      reports (read_both r is.reads is.takes first late known)
+      (λ told. is.leaves (contents old) n list (run_given r c is.reads is.takes (contents old) (contents mid) first.files.contents_kept told n gives list given) result out out' leaves)
+      (if_stops IsOfRun (command_of r).stops result (λ why of. is.stops why (inr of)) stops) (if_stops IsOfRun IsNoReadFault result no_fault_at_run stops) rose more

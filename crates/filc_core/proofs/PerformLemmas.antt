@@ -131,32 +131,33 @@ pub record HasRead {F : Type 0} (r : Request) (names : F → List Text) (content
   pub design : (file : Text) → IsDesignOf r file → Contains (names old) file
   pub stimulus : (file : Text) → IsStimulusOf r file → Contains (names old) file
 
-module _ {F : Type 0} (r : Request) (names : F → List Text) (contents : F → Contents) (faults : F → Text → ℕ) (old new : F) (out out' : Option Text) (before after : ℕ) where
-  -- a report that was written, or that stops in the middle
-  pub reports : (result : Result (Unit {0}) Stop) → HasRead r names contents faults old new
-      → (IsToldFor (contents old) r → Leaves ((command_of r).makes (contents old)) ((command_of r).comes (contents old)) result out out')
-      → IfErr result (command_of r).stops → IfErr result IsNoReadFault → (IsErrOf result stop.WriteFault → Rose before after) → before ≤ after
-      → Performs r names contents faults old new result out out' before after
-  reports result read leaves stops no_fault rose more = record {
-    files = read.files;
-    leaves = leaves;
-    stops = stops;
-    known = λ file of. knows (names old) file result (read.design file of);
-    known_stimulus = λ file of has. read.stimulus file of;
-    read_fault = λ fault. absurd (subst (λ (res : Result (Unit {0}) Stop). IfErr res IsNoReadFault) fault no_fault);
-    stimulus_read_fault = λ fault. absurd (subst (λ (res : Result (Unit {0}) Stop). IfErr res IsNoReadFault) fault no_fault);
-    write_fault = rose;
-    never_falls = more;
-  }
+-- a report that was written, or that stops in the middle
+pub reports : {F : Type 0} {r : Request} {names : F → List Text} {contents : F → Contents} {faults : F → Text → ℕ} {old new : F} {result : Result (Unit {0}) Stop} {out out' : Option Text} {before after : ℕ}
+    → HasRead r names contents faults old new
+    → (IsToldFor (contents old) r → Leaves ((command_of r).makes (contents old)) ((command_of r).comes (contents old)) result out out')
+    → IfErr result (command_of r).stops → IfErr result IsNoReadFault → (IsErrOf result stop.WriteFault → Rose before after) → before ≤ after
+    → Performs r names contents faults old new result out out' before after
+reports {names = names} {old = old} {result = result} read leaves stops no_fault rose more = record {
+  files = read.files;
+  leaves = leaves;
+  stops = stops;
+  known = λ file of. knows (names old) file result (read.design file of);
+  known_stimulus = λ file of has. read.stimulus file of;
+  read_fault = λ fault. absurd (subst (λ (res : Result (Unit {0}) Stop). IfErr res IsNoReadFault) fault no_fault);
+  stimulus_read_fault = λ fault. absurd (subst (λ (res : Result (Unit {0}) Stop). IfErr res IsNoReadFault) fault no_fault);
+  write_fault = rose;
+  never_falls = more;
+}
 
-  -- an error that stops the report
-  pub report_stops : (result : Result (Unit {0}) Stop) (why : Stop) → IsErrAnd result (λ e. e ≡ why) → HasRead r names contents faults old new
-      → (IsToldFor (contents old) r → LeavesAt ((command_of r).makes (contents old)) ((command_of r).comes (contents old)) why out out')
-      → (command_of r).stops why → IsNoReadFault why → (why ≡ stop.WriteFault → Rose before after) → before ≤ after
-      → Performs r names contents faults old new result out out' before after
-  report_stops result why passed read leaves stops no_fault rose more =
-      subst (λ (res : Result (Unit {0}) Stop). Performs r names contents faults old new res out out' before after) (sym (same_error result why passed))
-      (reports (Err why) read leaves stops no_fault (λ e. rose (error_of why stop.WriteFault e)) more)
+-- an error that stops the report
+pub report_stops : {F : Type 0} {r : Request} {names : F → List Text} {contents : F → Contents} {faults : F → Text → ℕ} {old new : F} {result : Result (Unit {0}) Stop} {out out' : Option Text} {before after : ℕ}
+    → HasRead r names contents faults old new → (why : Stop) → IsErrAnd result (λ e. e ≡ why)
+    → (IsToldFor (contents old) r → LeavesAt ((command_of r).makes (contents old)) ((command_of r).comes (contents old)) why out out')
+    → (command_of r).stops why → IsNoReadFault why → (why ≡ stop.WriteFault → Rose before after) → before ≤ after
+    → Performs r names contents faults old new result out out' before after
+report_stops {r = r} {names = names} {contents = contents} {faults = faults} {old = old} {new = new} {result = result} {out = out} {out' = out'} {before = before} {after = after} read why passed leaves stops no_fault rose more =
+    subst (λ (res : Result (Unit {0}) Stop). Performs r names contents faults old new res out out' before after) (sym (same_error result why passed))
+    (reports read leaves stops no_fault (λ e. rose (error_of why stop.WriteFault e)) more)
 
 -- ---- the design's file
 
@@ -195,11 +196,11 @@ module _ {F : Type 0} (r : Request) (language : Language) (file : Text) (is : Re
       (record { read = inl (of_design r language file is); fault = fault })
 
   -- it gives none: what the command performs
-  pub source_stops : (result : Result (Unit {0}) Stop) (why : Stop) (out : Option Text) (count : ℕ) → IsErrAnd result (λ e. e ≡ why)
+  source_ends : (result : Result (Unit {0}) Stop) (why : Stop) (out : Option Text) (count : ℕ) → IsErrAnd result (λ e. e ≡ why)
       → (IsSome (contents old file) → IsUnread (contents old) language file why) → KnowsFile {T = Unit {0}} (names old) file (Err why)
       → (why ≡ stop.ReadFault → IsReadFault (names old) file (faults old file) (faults mid file)) → IsOfSource why
       → Performs r names contents faults old mid result out out count count
-  source_stops result why out count passed unread known fault of =
+  source_ends result why out count passed unread known fault of =
       subst (λ (res : Result (Unit {0}) Stop). Performs r names contents faults old mid res out out count count) (sym (same_error result why passed)) (record {
         files = keeps_one names contents faults (MayBeRead (contents old) r) file old mid (inl (of_design r language file is)) kept;
         leaves = λ told. source_leaves why out (unread (design_told r language file is (contents old) told));
@@ -213,7 +214,7 @@ module _ {F : Type 0} (r : Request) (language : Language) (file : Text) (is : Re
       })
 
   -- it was read, and a report follows
-  pub has_read : (command_of r).stimulus ≡ None → Contains (names old) file → HasRead r names contents faults old mid
+  has_read : (command_of r).stimulus ≡ None → Contains (names old) file → HasRead r names contents faults old mid
   has_read takes_none known = record {
     files = keeps_one names contents faults (MayBeRead (contents old) r) file old mid (inl (of_design r language file is)) kept;
     design = λ other of. subst (Contains (names old)) (same_name r language file is other of) known;
@@ -229,7 +230,7 @@ module _ {F : Type 0} (r : Request) (language : Language) (file : Text) (is : Re
         (may_read_stimulus r language file is stimulus takes (contents old) accepted) kept late
 
     -- both were read, and a report follows
-    pub has_read_both : Contains (names mid) stimulus → HasRead r names contents faults old new
+    has_read_both : Contains (names mid) stimulus → HasRead r names contents faults old new
     has_read_both known_too = record {
       files = both_kept;
       design = λ other of. subst (Contains (names old)) (same_name r language file is other of) known;
@@ -266,13 +267,13 @@ module _ {F : Type 0} (r : Request) (language : Language) (file : Text) (is : Re
           (record { read = may_read_stimulus r language file is stimulus takes (contents old) accepted; fault = later_fault names contents faults file stimulus old mid new kept fault })
 
       -- it gives nothing: what the command performs
-      pub stimulus_stops : (result : Result (Unit {0}) Stop) (why : Stop) (out : Option Text) (count : ℕ) → IsErrAnd result (λ e. e ≡ why)
+      stimulus_ends : (result : Result (Unit {0}) Stop) (why : Stop) (out : Option Text) (count : ℕ) → IsErrAnd result (λ e. e ≡ why)
           → (IsToldFor (contents old) r → (o : Outcome) → IsRefusedForStimulus (contents old) stimulus causes o → (command_of r).comes (contents old) [] o)
           → (IsSome (contents mid stimulus) → IsNotGiven (contents mid) stimulus causes why) → KnowsFile {T = Unit {0}} (names mid) stimulus (Err why)
           → (why ≡ stop.StimulusReadFault → IsReadFault (names mid) stimulus (faults mid stimulus) (faults new stimulus))
           → IsOfStimulus why → (command_of r).stops why
           → Performs r names contents faults old new result out out count count
-      stimulus_stops result why out count passed refused not_given known_too fault of stops =
+      stimulus_ends result why out count passed refused not_given known_too fault of stops =
           subst (λ (res : Result (Unit {0}) Stop). Performs r names contents faults old new res out out count count) (sym (same_error result why passed)) (record {
             files = both_kept;
             leaves = λ told.
@@ -339,3 +340,44 @@ no_fault_at_writing stop.Memory of = tt
 pub if_stops : (of claim : Stop → Type 0) (result : Result (Unit {0}) Stop) → ((why : Stop) → of why → claim why) → IfErr result of → IfErr result claim
 if_stops of claim (Ok done) all is = tt
 if_stops of claim (Err why) all is = all why is
+
+-- ---- what a command performs, at each of its ends
+
+-- the design's file was read: it is known, and accepted where its content is told
+pub record DesignRead {F : Type 0} (names : F → List Text) (contents : F → Contents) (faults : F → Text → ℕ) (language : Language) (file : Text) (old mid : F) : Type 0 where
+  pub files : KeepsFiles names contents faults file old mid
+  pub known : Contains (names old) file
+  pub accepted : IsSome (contents old file) → IsAccepted (contents old) language file
+
+-- the design's file gives none
+pub source_stops : {F T : Type 0} {language : Language} {file : Text} {names : F → List Text} {contents : F → Contents} {faults : F → Text → ℕ} {old new : F} {result : Result (Unit {0}) Stop} {out : Option Text} {count : ℕ}
+    → (r : Request) → ReadsDesign (command_of r) language file → KeepsFiles names contents faults file old new → (why : Stop) → IsErrAnd result (λ e. e ≡ why)
+    → (IsSome (contents old file) → IsUnread (contents old) language file why) → KnowsFile {T = T} (names old) file (Err why)
+    → (◌≡◌ {A = Result T Stop} (Err why) (Err stop.ReadFault) → IsReadFault (names old) file (faults old file) (faults new file)) → IsOfSource why
+    → Performs r names contents faults old new result out out count count
+source_stops {language = language} {file = file} {names = names} {contents = contents} {faults = faults} {old = old} {new = new} {result = result} {out = out} {count = count} r reads kept why passed unread known fault of =
+    source_ends r language file reads names contents faults old new kept result why out count passed unread known (λ e. fault (ap Err e)) of
+
+-- the stimulus gives nothing
+pub stimulus_stops : {F T : Type 0} {language : Language} {file stimulus : Text} {names : F → List Text} {contents : F → Contents} {faults : F → Text → ℕ} {old mid new : F} {result : Result (Unit {0}) Stop} {out : Option Text} {count : ℕ}
+    → (r : Request) → ReadsDesign (command_of r) language file → (command_of r).stimulus ≡ Some stimulus → DesignRead names contents faults language file old mid → KeepsFiles names contents faults stimulus mid new
+    → (causes : Text → StimEnd → Type 0) (why : Stop) → IsErrAnd result (λ e. e ≡ why)
+    → (IsToldFor (contents old) r → (o : Outcome) → IsRefusedForStimulus (contents old) stimulus causes o → (command_of r).comes (contents old) [] o)
+    → (IsSome (contents mid stimulus) → IsNotGiven (contents mid) stimulus causes why) → KnowsFile {T = T} (names mid) stimulus (Err why)
+    → (◌≡◌ {A = Result T Stop} (Err why) (Err stop.StimulusReadFault) → IsReadFault (names mid) stimulus (faults mid stimulus) (faults new stimulus)) → IsOfStimulus why → (command_of r).stops why
+    → Performs r names contents faults old new result out out count count
+stimulus_stops {language = language} {file = file} {stimulus = stimulus} {names = names} {contents = contents} {faults = faults} {old = old} {mid = mid} {new = new} {result = result} {out = out} {count = count} r reads takes first late causes why passed refused not_given known fault of stops =
+    stimulus_ends r language file reads names contents faults old mid first.files stimulus takes new late first.known first.accepted causes result why out count passed refused not_given known (λ e. fault (ap Err e)) of stops
+
+-- a report follows, once the design's file was read
+pub read_one : {F : Type 0} {language : Language} {file : Text} {names : F → List Text} {contents : F → Contents} {faults : F → Text → ℕ} {old new : F}
+    → (r : Request) → ReadsDesign (command_of r) language file → (command_of r).stimulus ≡ None → KeepsFiles names contents faults file old new → Contains (names old) file → HasRead r names contents faults old new
+read_one {language = language} {file = file} {names = names} {contents = contents} {faults = faults} {old = old} {new = new} r reads takes_none kept known =
+    has_read r language file reads names contents faults old new kept takes_none known
+
+-- the same, once the stimulus's file was read too
+pub read_both : {F : Type 0} {language : Language} {file stimulus : Text} {names : F → List Text} {contents : F → Contents} {faults : F → Text → ℕ} {old mid new : F}
+    → (r : Request) → ReadsDesign (command_of r) language file → (command_of r).stimulus ≡ Some stimulus → DesignRead names contents faults language file old mid → KeepsFiles names contents faults stimulus mid new → Contains (names mid) stimulus
+    → HasRead r names contents faults old new
+read_both {language = language} {file = file} {stimulus = stimulus} {names = names} {contents = contents} {faults = faults} {old = old} {mid = mid} {new = new} r reads takes first late known =
+    has_read_both r language file reads names contents faults old mid first.files stimulus takes new late first.known first.accepted known

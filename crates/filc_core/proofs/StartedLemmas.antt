@@ -1,27 +1,33 @@
 -- What comes of the transactions of a design's top component.
-use Rattle.std.proofs.Common.{◌≡◌, List, [], Option, Some, IsSome, Result, refl, sym, ap₂, subst, ◌∙◌, inl, inr}
+use Rattle.std.proofs.Common.{◌≡◌, ◌⊎◌, ℕ, ◌≤◌, List, [], map, Option, Some, IsSome, Result, Err, refl, sym, ap₂, subst, ◌∙◌, inl, inr, ⊎_elim}
 use Rattle.std.proofs.lemmas.Option.{same_Some}
-use Rattle.std.specs.Prelude.{slice_get, IfErr, OnOk, OnErr}
+use Rattle.std.specs.Prelude.{slice_get, Contains, IfErr, IsErrOf, OnOk, OnErr}
+use Rattle.std.specs.Result.{IsErrAnd}
+use Rattle.hw_io.specs.Faults.{Rose}
+use Rattle.hw_io.specs.Reading.{KeepsFiles, IsReadFault}
 use Rattle.std.specs.Io.KnownBytes.{Appends}
 use Rattle.hw_io.specs.Writing.{AppendsPrefix}
 use Rattle.hw_names.specs.Name.{Text}
 use Rattle.fil_ast.specs.Top.{IsTop}
 use Rattle.fil_ast.specs.declared.tx.TxList.{TxList}
 use Rattle.fil_ast.specs.Tree.{Design}
-use Rattle.stim_read.specs.TxRun.{Transaction, TxRun, tx_run_seen}
+use Rattle.stim_read.specs.TxRun.{Transaction, TxRun, transaction_seen, tx_run_seen}
 use Rattle.filc_load.proofs.TopLemmas.{one_number}
-use Rattle.filc_load.specs.Built.{AreGivenBy}
+use Rattle.filc_load.specs.Built.{KnowsFile, AreGivenBy, IsNotGiven}
 use Rattle.filc_load.specs.FilFile.{HasTop}
 use Rattle.filc_load.specs.Source.{FileGivesFil}
 use Rattle.filc_load.specs.StimulusFile.{FileGivesTransactions, IsRefusedForStimulus, transaction_causes}
 use Rattle.filc_stop.specs.Leaving.{MakesNone, Leaves}
 use Rattle.filc_stop.specs.Outcome.{Contents, Outcome, done_with}
-use Rattle.filc_stop.specs.Stops.{IsWritingStop}
+use Rattle.filc_stop.specs.Stops.{IsOfStimulus, IsWritingStop}
 use Rattle.filc_stop.specs.declared.language.Language.TheVariants.{Filament}
 use Rattle.filc_stop.specs.declared.stop.Stop.{Stop}
-use Rattle.filc_core.proofs.PerformLemmas.{ReadsDesign, text_leaves, by_earlier, design_told, stimulus_told}
+use Rattle.filc_stop.specs.declared.stop.Stop.TheVariants as stop
+use Rattle.filc_core.proofs.PerformLemmas.{ReadsDesign, DesignRead, IsNoReadFault, text_leaves, by_earlier, design_told, stimulus_told, stimulus_stops, read_both, reports, if_stops, no_fault_at_writing}
 use Rattle.filc_core.proofs.SourceLemmas.{accepted_not_refused, one_fil, one_given_list, list_not_refused}
+use Rattle.filc_core.specs.Command.{Command}
 use Rattle.filc_core.specs.Files.{IsToldFor}
+use Rattle.filc_core.specs.Performing.{Performs}
 use Rattle.filc_core.specs.Request.{Request, command_of}
 use Rattle.filc_core.specs.commands.Transactions.{Started, Top, GivesTop, GivesTransactionsOf, transactions}
 
@@ -70,3 +76,43 @@ transactions_given r c reads takes contents now kept told top has gives list giv
       gives_top = record { gives = gives_fil; top = has.is_top; at = has.at };
       gives_transactions = by_earlier contents now c.stimulus (λ (k : Contents). AreGivenBy k c.stimulus top.comp list) kept (stimulus_told r Filament c.file reads c.stimulus takes contents told (top.design, gives_fil)) given;
     }
+
+-- ---- what a command with this report performs
+
+-- a command that prints this of the transactions of a design's top component
+pub record IsStarted (command : Command) (told : Top → List Transaction → Text) (c : Started) : Type 0 where
+  pub reads : ReadsDesign command Filament c.file
+  pub takes : command.stimulus ≡ Some c.stimulus
+  pub refused : (contents : Contents) (top : Top) → GivesTop contents c.file top → (o : Outcome) → IsRefusedForStimulus contents c.stimulus (λ bytes. transaction_causes bytes top.comp) o → command.comes contents [] o
+  pub leaves : (contents : Contents) (top : Top) (run : TxRun) → GivesTransactionsOf c contents top run → (result : Result (Unit {0}) Stop) (out out' : Option Text)
+      → OnOk result (Appends out out' (told top run.transactions)) → OnErr result (AppendsPrefix out out' (told top run.transactions)) → IfErr result IsWritingStop
+      → Leaves (command.makes contents) (command.comes contents) result out out'
+  pub stops : (why : Stop) → IsOfStimulus why ⊎ IsWritingStop why → command.stops why
+
+pub is_started : (word : Text) (told : Top → List Transaction → Text) (c : Started) → IsStarted (transactions word told c) told c
+is_started word told c = record {
+  reads = started_reads word told c;
+  takes = refl;
+  refused = λ contents top gives o refused. started_refused word told c contents top gives o refused [];
+  leaves = λ contents top run gives result out out' written part stops. started_leaves word told c contents top run gives result out out' written part stops;
+  stops = λ why of. ⊎_elim (λ s. inr (inl s)) (λ s. inr (inr s)) of;
+}
+
+module _ {F : Type 0} {told : Top → List Transaction → Text} {c : Started} {names : F → List Text} {contents : F → Contents} {faults : F → Text → ℕ} {old mid new : F} (r : Request) (is : IsStarted (command_of r) told c) (top : Top) (has : HasTop top.design top.number top.comp) (first : DesignRead names contents faults Filament c.file old mid) (gives : IsSome (contents old c.file) → FileGivesFil (contents old) c.file top.design) (late : KeepsFiles names contents faults c.stimulus mid new) where
+  -- the stimulus gives nothing
+  pub started_stops : {T : Type 0} {result : Result (Unit {0}) Stop} {out : Option Text} {count : ℕ} (why : Stop) → IsErrAnd result (λ e. e ≡ why)
+      → (IsSome (contents mid c.stimulus) → IsNotGiven (contents mid) c.stimulus (λ text. transaction_causes text top.comp) why) → KnowsFile {T = T} (names mid) c.stimulus (Err why)
+      → (◌≡◌ {A = Result T Stop} (Err why) (Err stop.StimulusReadFault) → IsReadFault (names mid) c.stimulus (faults mid c.stimulus) (faults new c.stimulus)) → IsOfStimulus why
+      → Performs r names contents faults old new result out out count count
+  started_stops why passed not_given known fault of =
+      stimulus_stops r is.reads is.takes first late (λ text. transaction_causes text top.comp) why passed
+      (λ told' o refused. is.refused (contents old) top (record { gives = gives (design_told r Filament c.file is.reads (contents old) told'); top = has.is_top; at = has.at }) o refused) not_given known fault of (is.stops why (inl of))
+
+  -- what the transactions are is printed
+  pub started_reports : {result : Result (Unit {0}) Stop} {out out' : Option Text} {before after : ℕ} (list : TxList) → Contains (names mid) c.stimulus → (IsSome (contents mid c.stimulus) → AreGivenBy (contents mid) c.stimulus top.comp list)
+      → OnOk result (Appends out out' (told top (map transaction_seen list.txs.items))) → OnErr result (AppendsPrefix out out' (told top (map transaction_seen list.txs.items))) → IfErr result IsWritingStop → (IsErrOf result stop.WriteFault → Rose before after) → before ≤ after
+      → Performs r names contents faults old new result out out' before after
+  started_reports {result = result} {out = out} {out' = out'} list known given written part stops rose more =
+      reports (read_both r is.reads is.takes first late known)
+      (λ told'. is.leaves (contents old) top (tx_run_seen list) (transactions_given r c is.reads is.takes (contents old) (contents mid) first.files.contents_kept told' top has gives list given) result out out' written part stops)
+      (if_stops IsWritingStop (command_of r).stops result (λ why of. is.stops why (inr of)) stops) (if_stops IsWritingStop IsNoReadFault result no_fault_at_writing stops) rose more

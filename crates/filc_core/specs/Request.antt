@@ -5,6 +5,7 @@ use Rattle.hw_names.specs.Name.{Text}
 use Rattle.filc_core.specs.Command.{Command, DesignFile}
 use Rattle.filc_core.specs.commands.Check.{Check, check}
 use Rattle.filc_core.specs.commands.Flow.{flow}
+use Rattle.filc_core.specs.commands.NetFil.{NetFil, net_fil}
 use Rattle.filc_core.specs.commands.NetRun.{Driven}
 use Rattle.filc_core.specs.commands.Rows.{Rows, rows}
 use Rattle.filc_core.specs.commands.SimNet.{sim_net}
@@ -20,6 +21,7 @@ pub data Request : Type 0 where
   OfTraceNet : Driven → Request
   OfFlow : Started → Request
   OfTimeline : Started → Request
+  OfNetFil : NetFil → Request
 
 abbrev pub command_of : Request → Command
 command_of (OfCheck c) = check c
@@ -28,6 +30,7 @@ command_of (OfSimNet c) = sim_net c
 command_of (OfTraceNet c) = trace_net c
 command_of (OfFlow c) = flow c
 command_of (OfTimeline c) = timeline c
+command_of (OfNetFil c) = net_fil c
 
 -- the words ask for this, exactly
 abbrev pub Asks : List Text → Request → Type 0

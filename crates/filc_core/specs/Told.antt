@@ -1,11 +1,13 @@
 -- The program's own values, as what they say.
-use Rattle.filc_core.specs.Request.{Request, OfCheck, OfRows, OfSimNet, OfTraceNet, OfFlow, OfTimeline}
+use Rattle.filc_core.specs.Request.{Request, OfCheck, OfRows, OfSimNet, OfTraceNet, OfFlow, OfTimeline, OfNetFil}
 use Rattle.filc_core.specs.commands.Check.{Check}
+use Rattle.filc_core.specs.commands.NetFil.{NetFil}
 use Rattle.filc_core.specs.commands.NetRun.{Driven}
 use Rattle.filc_core.specs.commands.Rows.{Rows}
 use Rattle.filc_core.specs.commands.Transactions.{Started}
 use Rattle.filc_core.specs.declared.commands.check.Check.{Check as CheckValue}
 use Rattle.filc_core.specs.declared.commands.flow.Flow.{Flow as FlowValue}
+use Rattle.filc_core.specs.declared.commands.net_fil.NetFil.{NetFil as NetFilValue}
 use Rattle.filc_core.specs.declared.commands.net_run.Driven.{Driven as DrivenValue}
 use Rattle.filc_core.specs.declared.commands.rows.Rows.{Rows as RowsValue}
 use Rattle.filc_core.specs.declared.commands.sim_net.SimNet.{SimNet as SimNetValue}
@@ -20,6 +22,9 @@ check_told c = record { language = c.language; file = c.file.now }
 
 abbrev pub rows_told : RowsValue → Rows
 rows_told c = record { file = c.file.now; cycles = c.cycles }
+
+abbrev pub net_fil_told : NetFilValue → NetFil
+net_fil_told c = record { file = c.file.now }
 
 abbrev pub driven_told : DrivenValue → Driven
 driven_told c = record { file = c.file.now; stimulus = c.stimulus.now }
@@ -46,3 +51,4 @@ request_told (value.SimNet c) = OfSimNet (sim_net_told c)
 request_told (value.TraceNet c) = OfTraceNet (trace_net_told c)
 request_told (value.Flow c) = OfFlow (flow_told c)
 request_told (value.Timeline c) = OfTimeline (timeline_told c)
+request_told (value.NetFil c) = OfNetFil (net_fil_told c)

@@ -7,3 +7,4 @@ pub mod TraceNet
 pub mod Transactions
 pub mod Flow
 pub mod Timeline
+pub mod NetFil

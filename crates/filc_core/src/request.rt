@@ -6,6 +6,7 @@ ghost use Rattle.filc_core.specs.Told.{request_told};
 use crate::commands::Command;
 use crate::commands::check::Check;
 use crate::commands::flow::Flow;
+use crate::commands::net_fil::NetFil;
 use crate::commands::rows::Rows;
 use crate::commands::sim_net::SimNet;
 use crate::commands::timeline::Timeline;
@@ -23,6 +24,7 @@ pub(crate) enum Request<'a> {
     TraceNet(TraceNet<'a>),
     Flow(Flow<'a>),
     Timeline(Timeline<'a>),
+    NetFil(NetFil<'a>),
 }
 
 /// What the words after the program's name ask for; `None` where they aren't well formed.
@@ -45,7 +47,10 @@ pub(crate) fn asked<'a>(words: &[&'a str]) -> Option<Request<'a>>
     if let Some(flow) = Flow::asked(words) {
         return Some(Request::Flow(flow));
     }
-    Some(Request::Timeline(Timeline::asked(words)?))
+    if let Some(timeline) = Timeline::asked(words) {
+        return Some(Request::Timeline(timeline));
+    }
+    Some(Request::NetFil(NetFil::asked(words)?))
 }
 
 impl Command for Request<'_> {
@@ -61,6 +66,7 @@ impl Command for Request<'_> {
             Request::TraceNet(it) => it.design(),
             Request::Flow(it) => it.design(),
             Request::Timeline(it) => it.design(),
+            Request::NetFil(it) => it.design(),
         }
     }
 
@@ -72,6 +78,7 @@ impl Command for Request<'_> {
             Request::TraceNet(it) => it.stimulus(),
             Request::Flow(it) => it.stimulus(),
             Request::Timeline(it) => it.stimulus(),
+            Request::NetFil(it) => it.stimulus(),
         }
     }
 
@@ -88,6 +95,7 @@ impl Command for Request<'_> {
             Request::TraceNet(it) => it.perform(alloc, files, out),
             Request::Flow(it) => it.perform(alloc, files, out),
             Request::Timeline(it) => it.perform(alloc, files, out),
+            Request::NetFil(it) => it.perform(alloc, files, out),
         }
     }
 }

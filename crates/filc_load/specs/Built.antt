@@ -11,6 +11,7 @@ use Rattle.fil_ast.specs.Tree.{DataPort, Component, design_of}
 use Rattle.fil_ast.specs.declared.tree.FilDesign.{FilDesign}
 use Rattle.fil_ast.specs.declared.tx.Tx.{Tx}
 use Rattle.fil_ast.specs.declared.tx.TxList.{TxList}
+use Rattle.fil_parse.specs.Written.{DesignIsWritten}
 use Rattle.fil_share.specs.Uses.{LATEST}
 use Rattle.net_core.specs.Netlist.{Netlist, netlist_of}
 use Rattle.net_core.specs.Numbers.{HasNumbers}
@@ -80,6 +81,7 @@ pub record IsFilReady (b : FilBuilt) : Type 0 where
   pub numbers : HasNumbersOfNames b.design
   pub small : HasSmallOffsets b.design
   pub rules : FilRules (design_of b.design)
+  pub written : DesignIsWritten (design_of b.design)
   pub top : IsTop (design_of b.design) b.top
 
 -- the text gives this design, which later commands may take

@@ -12,5 +12,5 @@ mod stream;
 pub use flows::write_flows;
 pub use holds::write_holds;
 pub use net_run::run;
-pub use report::write_accepted;
+pub use report::{write_accepted, write_text};
 pub use stream::{Drive, RowEnd, stream_rows};

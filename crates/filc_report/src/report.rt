@@ -93,3 +93,13 @@ pub fn write_accepted<O: Sink>(out: &mut O) -> Result<(), Failed>
 {
     write_whole(out, "accepted\n".as_bytes())
 }
+
+/// Writes a text, whole.
+pub fn write_text<O: Sink>(text: &[u8], out: &mut O) -> Result<(), Failed>
+    ensures appended { OnOk result (Appends (O.written out.old) (O.written out.new) text.now) }
+    ensures prefix { OnErr result (AppendsPrefix (O.written out.old) (O.written out.new) text.now) }
+    ensures failed { OnErr result (Rose (O.faults out.old) (O.faults out.new)) }
+    ensures never_falls { O.faults out.old ≤ O.faults out.new }
+{
+    write_whole(out, text)
+}

@@ -1,6 +1,7 @@
 //! Files and sinks that fail in mid-stream: each call in its turn.
 use crate::case::{CHECK, ROWS, Said, ask, files};
 use crate::counter::COUNTER;
+use crate::nets::NET;
 use crate::stimuli::{FLOW, SIM, TIMELINE, TRACE};
 use filc_core::{Ended, filc};
 use hw_io::MemSink;
@@ -64,6 +65,7 @@ const ASKED: &[(&[&str], &str, &str)] = &[
     (TRACE, GATED, GATED_STIMULUS),
     (FLOW, SUM, SUM_STIMULUS),
     (TIMELINE, SUM, SUM_STIMULUS),
+    (NET, SUM, ""),
     (FLOW, SUM, "{"),
     (
         TRACE,
@@ -99,21 +101,28 @@ fn try_same(rt: &impl Abort, said: &Said, told: &Said) {
     assert_eq!(rt; said.line.as_str(), told.line.as_str());
 }
 
+/// Words that take a design alone, its text, and what is said where its file can't be read.
+const ALONE: &[(&[&str], &str, &str)] = &[
+    (CHECK, SHOWN, "read fault: f.net\n"),
+    (ROWS, SHOWN, "read fault: f.net\n"),
+    (NET, SUM, "read fault: f.fil\n"),
+];
+
 // A small file is read in a piece, and a second one finds its end.
 #[test]
 fn each_piece_may_fail(rt: HostRuntime) -> Result<(), Fail> {
     let alloc = rt.alloc();
-    for words in [CHECK, ROWS] {
-        let told = ask(alloc, words, SHOWN)?;
+    for (words, text, line) in ALONE {
+        let told = ask(alloc, words, text)?;
         for call in 1..4 {
-            let said = ask_faulty(alloc, words, SHOWN, "", [&[call], &[], &[]])?;
+            let said = ask_faulty(alloc, words, text, "", [&[call], &[], &[]])?;
             if call > 2 {
                 try_same(&rt, &said, &told);
                 continue;
             }
             assert_eq!(rt; said.ended, Ended::ReadFault);
             assert_eq!(rt; said.report.as_str(), "");
-            assert_eq!(rt; said.line.as_str(), "read fault: f.net\n");
+            assert_eq!(rt; said.line.as_str(), *line);
         }
     }
     Ok(())

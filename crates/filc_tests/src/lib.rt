@@ -18,6 +18,8 @@ mod limits;
 #[cfg(test)]
 mod memories;
 #[cfg(test)]
+mod nets;
+#[cfg(test)]
 mod primitives;
 #[cfg(test)]
 mod rules;

@@ -15,6 +15,9 @@ use Rattle.filc_stop.proofs.SinkLemmas.{passed_up_to_more, passed_up_to_prefix}
 use Rattle.filc_load.proofs.TransactionLemmas.{has_widths, is_top_of, same_component}
 use Rattle.filc_report.proofs.flows.write_flows.Goals as goal
 
+pub inputs_of-requires-clause-numbered : goal.inputs_of-requires-clause-numbered
+inputs_of-requires-clause-numbered g c = (is_top_of c.args.built.now c.index-comp.result.now c.requires.ready c.index-comp.ensures).numbers
+
 pub inputs_of-requires-clause-wide : goal.inputs_of-requires-clause-wide
 inputs_of-requires-clause-wide g c =
     let top = is_top_of c.args.built.now c.index-comp.result.now c.requires.ready c.index-comp.ensures in

@@ -1,49 +1,35 @@
-use Rattle.std.proofs.Common.{[], ◌∷◌, ◌++◌, codes, Err, true, refl, ap, ◌∙◌, subst, arith, inl, inr}
+use Rattle.std.proofs.Common.{[], ◌∷◌, ◌++◌, codes, true, subst, ◌∙◌, arith, inl, inr}
 use Rattle.hw_names.specs.Name.{Text}
 use Rattle.net_core.specs.Netlist.{netlist_of}
 use Rattle.net_text.specs.Layout.{net_text}
-use Rattle.filc_load.specs.StimulusFile.{run_causes}
 use Rattle.filc_report.specs.Runs.{LeavesOfRun, run_from}
 use Rattle.filc_stop.proofs.SinkLemmas.{keeps_all}
-use Rattle.filc_stop.specs.Stops.{IsOfRun}
-use Rattle.filc_stop.specs.declared.language.Language.TheVariants.{Netlists}
 use Rattle.filc_stop.specs.declared.stop.Stop.TheVariants as stop
-use Rattle.filc_core.proofs.NetRunLemmas.{net_run_reads, net_run_refused, net_run_leaves, run_given}
-use Rattle.filc_core.proofs.PerformLemmas.{IsNoReadFault, source_stops, stimulus_stops, has_read_both, reports, report_stops, design_told, if_stops, no_fault_at_run}
-use Rattle.filc_core.specs.Request.{OfTraceNet, command_of}
+use Rattle.filc_core.proofs.NetRunLemmas.{is_net_run, net_run_stops, net_run_reports}
+use Rattle.filc_core.proofs.PerformLemmas.{source_stops, read_both, report_stops}
+use Rattle.filc_core.specs.Request.{OfTraceNet}
 use Rattle.filc_core.specs.Told.{trace_net_told}
 use Rattle.filc_core.proofs.commands.trace_net.TraceNetCommand.perform.Goals as goal
 
 pub returns-in_err-built : goal.returns-in_err-built
 returns-in_err-built g c =
-    let asked = trace_net_told c.args.self.now in let failed = c.in_err-built.ensures in
-    source_stops (OfTraceNet asked) Netlists asked.file (net_run_reads (codes "trace") (λ net. net_text net ++ 10 ∷ []) true asked) g.F.Files.names g.F.Files.content g.F.Files.faults c.args.files.now c.load.new.files failed.files
-    c.from_residual.result c.in_err-built.field-0.0 (g.O.Sink.written c.args.out.now) (g.O.Sink.faults c.args.out.now) c.from_residual.ensures.1 failed.unread failed.known (λ why. failed.read_fault (ap Err why)) failed.stops
+    let is = is_net_run (codes "trace") (λ net. net_text net ++ 10 ∷ []) true (trace_net_told c.args.self.now) in let failed = c.in_err-built.ensures in
+    source_stops (OfTraceNet (trace_net_told c.args.self.now)) is.reads failed.files c.in_err-built.field-0.0 c.from_residual.ensures.1 failed.unread failed.known failed.read_fault failed.stops
 
 pub returns-in_err-list : goal.returns-in_err-list
 returns-in_err-list g c =
-    let asked = trace_net_told c.args.self.now in let contents = g.F.Files.content c.args.files.now in let first = c.in_ok-built.ensures in let failed = c.in_err-list.ensures in
-    let reads = net_run_reads (codes "trace") (λ net. net_text net ++ 10 ∷ []) true asked in let n = netlist_of c.in_ok-built.built.net in
-    stimulus_stops (OfTraceNet asked) Netlists asked.file reads g.F.Files.names g.F.Files.content g.F.Files.faults c.args.files.now c.load.new.files first.files asked.stimulus refl c.load_cycles.new.files failed.files first.known
-    (λ told. (n, first.read told)) (λ text. run_causes text n) c.from_residual-in_err-list.result c.in_err-list.field-0.0 (g.O.Sink.written c.args.out.now) (g.O.Sink.faults c.args.out.now) c.from_residual-in_err-list.ensures.1
-    (λ told o refused. net_run_refused (codes "trace") (λ net. net_text net ++ 10 ∷ []) true asked contents n (first.read (design_told (OfTraceNet asked) Netlists asked.file reads contents told)) o refused [])
-    failed.refused failed.known (λ why. failed.read_fault (ap Err why)) failed.stops (inr (inl failed.stops))
+    let is = is_net_run (codes "trace") (λ net. net_text net ++ 10 ∷ []) true (trace_net_told c.args.self.now) in let n = netlist_of c.in_ok-built.built.net in let first = c.in_ok-built.ensures in let failed = c.in_err-list.ensures in
+    net_run_stops (OfTraceNet (trace_net_told c.args.self.now)) is n (record { files = first.files; known = first.known; accepted = λ told. (n, first.read told) }) first.read failed.files
+    c.in_err-list.field-0.0 c.from_residual-in_err-list.ensures.1 failed.refused failed.known failed.read_fault failed.stops
 
 pub returns-in_err-text : goal.returns-in_err-text
 returns-in_err-text g c =
-    let asked = trace_net_told c.args.self.now in let first = c.in_ok-built.ensures in let second = c.in_ok-list.ensures in
-    let reads = net_run_reads (codes "trace") (λ net. net_text net ++ 10 ∷ []) true asked in let out = g.O.Sink.written c.args.out.now in let count = g.O.Sink.faults c.args.out.now in
-    report_stops (OfTraceNet asked) g.F.Files.names g.F.Files.content g.F.Files.faults c.args.files.now c.load_cycles.new.files out out count count c.from_residual-in_err-text.result stop.Memory c.from_residual-in_err-text.ensures.1
-    (has_read_both (OfTraceNet asked) Netlists asked.file reads g.F.Files.names g.F.Files.content g.F.Files.faults c.args.files.now c.load.new.files first.files asked.stimulus refl c.load_cycles.new.files second.files first.known (λ told. (netlist_of c.in_ok-built.built.net, first.read told)) second.known)
-    (λ told. inl (keeps_all out)) (inr (inr tt)) tt (λ fault. absurd (let e = fault in cc e)) (omega arith)
+    let is = is_net_run (codes "trace") (λ net. net_text net ++ 10 ∷ []) true (trace_net_told c.args.self.now) in let n = netlist_of c.in_ok-built.built.net in let first = c.in_ok-built.ensures in let second = c.in_ok-list.ensures in
+    report_stops (read_both (OfTraceNet (trace_net_told c.args.self.now)) is.reads is.takes (record { files = first.files; known = first.known; accepted = λ told. (n, first.read told) }) second.files second.known)
+    stop.Memory c.from_residual-in_err-text.ensures.1 (λ told. inl (keeps_all (g.O.Sink.written c.args.out.now))) (inr (inr tt)) tt (λ fault. absurd (let e = fault in cc e)) (omega arith)
 
 pub returns : goal.returns
 returns g c =
-    let asked = trace_net_told c.args.self.now in let contents = g.F.Files.content c.args.files.now in let first = c.in_ok-built.ensures in let second = c.in_ok-list.ensures in
-    let reads = net_run_reads (codes "trace") (λ net. net_text net ++ 10 ∷ []) true asked in let n = netlist_of c.in_ok-built.built.net in let result = c.run.result in
-    reports (OfTraceNet asked) g.F.Files.names g.F.Files.content g.F.Files.faults c.args.files.now c.load_cycles.new.files (g.O.Sink.written c.args.out.now) (g.O.Sink.written c.run.new.out) (g.O.Sink.faults c.args.out.now) (g.O.Sink.faults c.run.new.out) result
-    (has_read_both (OfTraceNet asked) Netlists asked.file reads g.F.Files.names g.F.Files.content g.F.Files.faults c.args.files.now c.load.new.files first.files asked.stimulus refl c.load_cycles.new.files second.files first.known (λ told. (n, first.read told)) second.known)
-    (λ told. net_run_leaves (codes "trace") (λ net. net_text net ++ 10 ∷ []) true asked contents n c.in_ok-list.list
-    (run_given (OfTraceNet asked) asked reads refl contents (g.F.Files.content c.load.new.files) first.files.contents_kept told n first.read c.in_ok-list.list second.given)
-    result (g.O.Sink.written c.args.out.now) (g.O.Sink.written c.run.new.out) (subst (λ (head : Text). LeavesOfRun (run_from n c.in_ok-list.list head true) result (g.O.Sink.written c.args.out.now) (g.O.Sink.written c.run.new.out)) (c.deref.ensures.value ∙ c.in_ok-text.ensures) c.run.ensures.leaves))
-    (if_stops IsOfRun (command_of (OfTraceNet asked)).stops result (λ why of. inr (inr of)) c.run.ensures.stops) (if_stops IsOfRun IsNoReadFault result no_fault_at_run c.run.ensures.stops) c.run.ensures.write_fault c.run.ensures.never_falls
+    let is = is_net_run (codes "trace") (λ net. net_text net ++ 10 ∷ []) true (trace_net_told c.args.self.now) in let n = netlist_of c.in_ok-built.built.net in let first = c.in_ok-built.ensures in let second = c.in_ok-list.ensures in
+    net_run_reports (OfTraceNet (trace_net_told c.args.self.now)) is n (record { files = first.files; known = first.known; accepted = λ told. (n, first.read told) }) first.read second.files
+    c.in_ok-list.list second.known second.given (subst (λ (head : Text). LeavesOfRun (run_from n c.in_ok-list.list head true) c.run.result (g.O.Sink.written c.args.out.now) (g.O.Sink.written c.run.new.out)) (c.deref.ensures.value ∙ c.in_ok-text.ensures) c.run.ensures.leaves) c.run.ensures.stops c.run.ensures.write_fault c.run.ensures.never_falls
