@@ -1,0 +1,219 @@
+-- One outcome comes of each command, but for which loop is told and which netlist is made.
+use Rattle.std.proofs.Common.{◌≡◌, ℕ, ◌⊎◌, inl, inr, List, Bool, true, false, sym, ap, ap₂, subst, subst₂, ◌∙◌, get_or, arith}
+use Rattle.std.specs.Prelude.{slice_get, All, Contains}
+use Rattle.std.proofs.lemmas.List.{get_or_default}
+use Rattle.std.proofs.lemmas.Option.{same_Some}
+use Rattle.hw_names.specs.Name.{Text}
+use Rattle.fil_ast.specs.Top.{IsTop}
+use Rattle.fil_ast.specs.Tree.{Component, Design}
+use Rattle.net_core.specs.Netlist.{Netlist}
+use Rattle.net_sim.specs.Layout.{port_names}
+use Rattle.stim_read.specs.CycleRun.{Run}
+use Rattle.stim_read.specs.TxRun.{Transaction, TxRun}
+use Rattle.stim_read.specs.declared.stim_end.StimEnd.{StimEnd}
+use Rattle.filc_load.specs.Settable.{settable_inputs, settable_memories}
+use Rattle.filc_load.specs.Source.{IsAccepted, IsRefusedForSource}
+use Rattle.filc_load.specs.StimulusFile.{GivesRun, GivesTransactions, FileGivesRun, FileGivesTransactions, IsRefusedBy, IsRefusedForStimulus, run_causes, transaction_causes, component_events}
+use Rattle.filc_report.proofs.PortLemmas.{output_is_port}
+use Rattle.filc_report.specs.Rows.{outputs_of_net}
+use Rattle.filc_report.specs.Runs.{RunComes, plain_run, stimulus_run}
+use Rattle.filc_report.specs.Streams.{shown_ports}
+use Rattle.filc_stop.specs.Outcome.{Contents, Outcome, done_with, refused_with}
+use Rattle.filc_stop.specs.declared.language.Language.{Language}
+use Rattle.filc_stop.specs.declared.language.Language.TheVariants.{Netlists, Filament}
+use Rattle.filc_core.specs.Request.{OfNetFil, Asks}
+use Rattle.filc_core.specs.commands.Check.{Check, Accepts}
+use Rattle.filc_core.specs.commands.NetFil.{NetFil, PrintsNet}
+use Rattle.filc_core.specs.commands.NetRun.{Driven, IsRefusedWithNet, GivesRunOf}
+use Rattle.filc_core.specs.commands.NetRun as net_run
+use Rattle.filc_core.specs.commands.Rows.{Rows, AsksTooMany}
+use Rattle.filc_core.specs.commands.Rows as rows
+use Rattle.filc_core.specs.commands.Transactions.{Started, Top, GivesTop, IsRefusedWithTop, Prints}
+use Rattle.filc_laws.proofs.CauseLemmas.{run_is_given_once, run_cause_is_one, given_run_has_no_cause, transactions_are_given_once, transaction_cause_is_one, given_transactions_have_no_cause}
+use Rattle.filc_laws.proofs.FilSourceLemmas.{top_once}
+use Rattle.filc_laws.proofs.LineLemmas.{along_lines}
+use Rattle.filc_laws.proofs.ReportLemmas.{comes_once}
+use Rattle.filc_laws.proofs.SourceLemmas.{net_is_given_once, fil_is_given_once, source_is_refused_once, refused_source_is_not_accepted}
+use Rattle.filc_laws.proofs.StimulusLemmas.{refused_by_once, not_refused}
+use Rattle.filc_laws.specs.OneStimulus.{CauseIsOne}
+use Rattle.filc_laws.specs.OneVerdict.{AreOne}
+
+-- ---- ports that rows show
+
+outputs_shown : (n : Netlist) → All (λ port. Contains (port_names n) port) (outputs_of_net n)
+outputs_shown n k d within = output_is_port n (get_or (outputs_of_net n) k d) (k, within, get_or_default (outputs_of_net n) k (get_or (outputs_of_net n) k d) d within)
+
+all_shown : (n : Netlist) → All (λ port. Contains (port_names n) port) (port_names n)
+all_shown n k d within = (k, within, get_or_default (port_names n) k (get_or (port_names n) k d) d within)
+
+shown : (n : Netlist) (all : Bool) → All (λ port. Contains (port_names n) port) (shown_ports n all)
+shown n true = all_shown n
+shown n false = outputs_shown n
+
+module _ (words : List Text) (contents : Contents) (made made' : Text) (o o' : Outcome) where
+  abbrev One : Type 0
+  One = AreOne words contents made made' o o'
+
+  -- outcomes that are the same are one
+  pub same_outcome : o ≡ o' → One
+  same_outcome same = record {
+    ended = ap (λ (x : Outcome). x.ended) same;
+    report = inl (ap (λ (x : Outcome). x.report) same);
+    line = inl (ap (λ (x : Outcome). x.line) same);
+  }
+
+  -- ---- the design's file
+
+  from_source : (language : Language) (file : Text) → IsRefusedForSource contents language file o → IsRefusedForSource contents language file o' → One
+  from_source language file p q =
+      let one = source_is_refused_once contents language file p.ended q.ended p.line q.line p.source q.source in
+      record {
+        ended = ap (λ (x : Outcome). x.ended) p.outcome ∙ one.0 ∙ sym (ap (λ (x : Outcome). x.ended) q.outcome);
+        report = inl (ap (λ (x : Outcome). x.report) p.outcome ∙ sym (ap (λ (x : Outcome). x.report) q.outcome));
+        line = along_lines o.line o'.line p.line q.line (ap (λ (x : Outcome). x.line) p.outcome) (ap (λ (x : Outcome). x.line) q.outcome) one.1;
+      }
+
+  refused_here : (language : Language) (file : Text) (x : Outcome) → IsRefusedForSource contents language file x → IsAccepted contents language file → ⊥
+  refused_here language file x p accepted = refused_source_is_not_accepted contents language file p.ended p.line p.source accepted
+
+  -- ---- the stimulus's file
+
+  from_stimulus : (stimulus : Text) (causes : Text → StimEnd → Type 0) → ((bytes : Text) → CauseIsOne (causes bytes)) → IsRefusedForStimulus contents stimulus causes o → IsRefusedForStimulus contents stimulus causes o' → One
+  from_stimulus stimulus causes one p q =
+      let text : q.refused.bytes ≡ p.refused.bytes = same_Some q.refused.bytes p.refused.bytes (sym q.refused.told ∙ p.refused.told) in
+      let other : IsRefusedBy (causes p.refused.bytes) p.refused.bytes q.ended q.line = subst (λ (b : Text). IsRefusedBy (causes b) b q.ended q.line) text q.refused.refused in
+      let same = refused_by_once (causes p.refused.bytes) p.refused.bytes p.ended q.ended p.line q.line (one p.refused.bytes) p.refused.refused other in
+      same_outcome (p.outcome ∙ ap₂ refused_with same.0 same.1 ∙ sym q.outcome)
+
+  -- ---- each command
+
+  pub check_once : (c : Check) → IsRefusedForSource contents c.language c.file o ⊎ Accepts c contents o → IsRefusedForSource contents c.language c.file o' ⊎ Accepts c contents o' → One
+  check_once c (inl p) (inl q) = from_source c.language c.file p q
+  check_once c (inl p) (inr a) = absurd (refused_here c.language c.file o p a.accepted)
+  check_once c (inr a) (inl p) = absurd (refused_here c.language c.file o' p a.accepted)
+  check_once c (inr a) (inr b) = same_outcome (a.outcome ∙ sym b.outcome)
+
+  rows_run : (c : Rows) → rows.Runs c contents o → rows.Runs c contents o' → One
+  rows_run c a b =
+      let net = net_is_given_once contents c.file b.net a.net b.gives a.gives in
+      let other : RunComes (plain_run a.net c.cycles) o' = subst (λ (n : Netlist). RunComes (plain_run n c.cycles) o') net b.run in
+      let accepted = a.gives.gives.accepted in
+      same_outcome (comes_once (plain_run a.net c.cycles) accepted.valid accepted.no_loop (outputs_shown a.net) o o' a.run other)
+
+  pub rows_once : (c : Rows) → IsRefusedForSource contents Netlists c.file o ⊎ AsksTooMany c contents o ⊎ rows.Runs c contents o → IsRefusedForSource contents Netlists c.file o' ⊎ AsksTooMany c contents o' ⊎ rows.Runs c contents o' → One
+  rows_once c (inl p) (inl q) = from_source Netlists c.file p q
+  rows_once c (inl p) (inr (inl b)) = absurd (refused_here Netlists c.file o p (b.net, b.gives))
+  rows_once c (inl p) (inr (inr b)) = absurd (refused_here Netlists c.file o p (b.net, b.gives))
+  rows_once c (inr (inl a)) (inl q) = absurd (refused_here Netlists c.file o' q (a.net, a.gives))
+  rows_once c (inr (inl a)) (inr (inl b)) = same_outcome (a.outcome ∙ sym b.outcome)
+  rows_once c (inr (inl a)) (inr (inr b)) = let over = a.over in let within = b.within in absurd (omega (arith, over, within))
+  rows_once c (inr (inr a)) (inl q) = absurd (refused_here Netlists c.file o' q (a.net, a.gives))
+  rows_once c (inr (inr a)) (inr (inl b)) = let over = b.over in let within = a.within in absurd (omega (arith, over, within))
+  rows_once c (inr (inr a)) (inr (inr b)) = rows_run c a b
+
+  -- ---- runs under a stimulus
+
+  module _ (c : Driven) (head : Netlist → Text) (all : Bool) where
+    refused_nets : IsRefusedWithNet c contents o → IsRefusedWithNet c contents o' → One
+    refused_nets a b =
+        let net = net_is_given_once contents c.file b.net a.net b.gives a.gives in
+        let other : IsRefusedForStimulus contents c.stimulus (λ bytes. run_causes bytes a.net) o' = subst (λ (n : Netlist). IsRefusedForStimulus contents c.stimulus (λ bytes. run_causes bytes n) o') net b.refused in
+        from_stimulus c.stimulus (λ bytes. run_causes bytes a.net) (λ bytes. run_cause_is_one bytes (settable_inputs a.net) (settable_memories a.net)) a.refused other
+
+    run_or_not : (x y : Outcome) → IsRefusedWithNet c contents x → net_run.Runs c head all contents y → ⊥
+    run_or_not x y a b =
+        let given = b.gives.gives_run in
+        let net : a.net ≡ b.net = net_is_given_once contents c.file a.net b.net a.gives b.gives.gives_net in
+        let text : a.refused.refused.bytes ≡ given.bytes = same_Some a.refused.refused.bytes given.bytes (sym a.refused.refused.told ∙ given.told) in
+        let here : IsRefusedBy (run_causes given.bytes b.net) given.bytes a.refused.ended a.refused.line =
+        subst₂ (λ (t : Text) (n : Netlist). IsRefusedBy (run_causes t n) t a.refused.ended a.refused.line) text net a.refused.refused.refused in
+        not_refused (run_causes given.bytes b.net) given.bytes a.refused.ended a.refused.line given.gives.within
+        (given_run_has_no_cause given.bytes (settable_inputs b.net) (settable_memories b.net) b.run given.gives.gives) here
+
+    one_given : (n : Netlist) (run run' : Run) → FileGivesRun contents c.stimulus n run → FileGivesRun contents c.stimulus n run' → run ≡ run'
+    one_given n run run' p q =
+        let text : q.bytes ≡ p.bytes = same_Some q.bytes p.bytes (sym q.told ∙ p.told) in
+        let other : GivesRun p.bytes n run' = subst (λ (b : Text). GivesRun b n run') text q.gives in
+        run_is_given_once p.bytes (settable_inputs n) (settable_memories n) run run' p.gives.gives other.gives
+
+    two_runs : net_run.Runs c head all contents o → net_run.Runs c head all contents o' → One
+    two_runs a b =
+        let net : b.net ≡ a.net = net_is_given_once contents c.file b.net a.net b.gives.gives_net a.gives.gives_net in
+        let given : FileGivesRun contents c.stimulus a.net b.run = subst (λ (n : Netlist). FileGivesRun contents c.stimulus n b.run) net b.gives.gives_run in
+        let run : b.run ≡ a.run = one_given a.net b.run a.run given a.gives.gives_run in
+        let other : RunComes (stimulus_run a.net a.run (head a.net) all) o' = subst₂ (λ (n : Netlist) (r : Run). RunComes (stimulus_run n r (head n) all) o') net run b.comes in
+        let accepted = a.gives.gives_net.gives.accepted in
+        same_outcome (comes_once (stimulus_run a.net a.run (head a.net) all) accepted.valid accepted.no_loop (shown a.net all) o o' a.comes other)
+
+    pub net_run_once : IsRefusedForSource contents Netlists c.file o ⊎ IsRefusedWithNet c contents o ⊎ net_run.Runs c head all contents o → IsRefusedForSource contents Netlists c.file o' ⊎ IsRefusedWithNet c contents o' ⊎ net_run.Runs c head all contents o' → One
+    net_run_once (inl p) (inl q) = from_source Netlists c.file p q
+    net_run_once (inl p) (inr (inl b)) = absurd (refused_here Netlists c.file o p (b.net, b.gives))
+    net_run_once (inl p) (inr (inr b)) = absurd (refused_here Netlists c.file o p (b.net, b.gives.gives_net))
+    net_run_once (inr (inl a)) (inl q) = absurd (refused_here Netlists c.file o' q (a.net, a.gives))
+    net_run_once (inr (inl a)) (inr (inl b)) = refused_nets a b
+    net_run_once (inr (inl a)) (inr (inr b)) = absurd (run_or_not o o' a b)
+    net_run_once (inr (inr a)) (inl q) = absurd (refused_here Netlists c.file o' q (a.net, a.gives.gives_net))
+    net_run_once (inr (inr a)) (inr (inl b)) = absurd (run_or_not o' o b a)
+    net_run_once (inr (inr a)) (inr (inr b)) = two_runs a b
+
+  -- ---- transactions
+
+  same_top : (file : Text) (t u : Top) → GivesTop contents file t → GivesTop contents file u → t ≡ u
+  same_top file t u p q =
+      let design = fil_is_given_once contents file t.design u.design p.gives q.gives in
+      let number = top_once u.design t.number u.number (subst (λ (d : Design). IsTop d t.number) design p.top) q.top in
+      let comp = same_Some t.comp u.comp (sym p.at ∙ ap₂ (λ (d : Design) (n : ℕ). slice_get d n) design number ∙ q.at) in
+      λ k. record { design = design k; number = number k; comp = comp k }
+
+  module _ (c : Started) (told : Top → List Transaction → Text) where
+    refused_tops : IsRefusedWithTop c contents o → IsRefusedWithTop c contents o' → One
+    refused_tops a b =
+        let top = same_top c.file b.top a.top b.gives a.gives in
+        let other : IsRefusedForStimulus contents c.stimulus (λ bytes. transaction_causes bytes a.top.comp) o' = subst (λ (t : Top). IsRefusedForStimulus contents c.stimulus (λ bytes. transaction_causes bytes t.comp) o') top b.refused in
+        from_stimulus c.stimulus (λ bytes. transaction_causes bytes a.top.comp) (λ bytes. transaction_cause_is_one bytes (component_events a.top.comp)) a.refused other
+
+    told_or_not : (x y : Outcome) → IsRefusedWithTop c contents x → Prints c told contents y → ⊥
+    told_or_not x y a b =
+        let given = b.gives.gives_transactions in
+        let top : a.top ≡ b.top = same_top c.file a.top b.top a.gives b.gives.gives_top in
+        let text : a.refused.refused.bytes ≡ given.bytes = same_Some a.refused.refused.bytes given.bytes (sym a.refused.refused.told ∙ given.told) in
+        let here : IsRefusedBy (transaction_causes given.bytes b.top.comp) given.bytes a.refused.ended a.refused.line =
+        subst₂ (λ (t : Text) (u : Top). IsRefusedBy (transaction_causes t u.comp) t a.refused.ended a.refused.line) text top a.refused.refused.refused in
+        not_refused (transaction_causes given.bytes b.top.comp) given.bytes a.refused.ended a.refused.line given.gives.within
+        (given_transactions_have_no_cause given.bytes (component_events b.top.comp) b.run given.gives.gives) here
+
+    one_told : (comp : Component) (run run' : TxRun) → FileGivesTransactions contents c.stimulus comp run → FileGivesTransactions contents c.stimulus comp run' → run ≡ run'
+    one_told comp run run' p q =
+        let text : q.bytes ≡ p.bytes = same_Some q.bytes p.bytes (sym q.told ∙ p.told) in
+        let other : GivesTransactions p.bytes comp run' = subst (λ (b : Text). GivesTransactions b comp run') text q.gives in
+        transactions_are_given_once p.bytes (component_events comp) run run' p.gives.gives other.gives
+
+    two_lists : Prints c told contents o → Prints c told contents o' → One
+    two_lists a b =
+        let top : b.top ≡ a.top = same_top c.file b.top a.top b.gives.gives_top a.gives.gives_top in
+        let given : FileGivesTransactions contents c.stimulus a.top.comp b.run = subst (λ (t : Top). FileGivesTransactions contents c.stimulus t.comp b.run) top b.gives.gives_transactions in
+        let run : b.run ≡ a.run = one_told a.top.comp b.run a.run given a.gives.gives_transactions in
+        same_outcome (a.outcome ∙ ap₂ (λ (t : Top) (r : TxRun). done_with (told t r.transactions)) (sym top) (sym run) ∙ sym b.outcome)
+
+    pub transactions_once : IsRefusedForSource contents Filament c.file o ⊎ IsRefusedWithTop c contents o ⊎ Prints c told contents o → IsRefusedForSource contents Filament c.file o' ⊎ IsRefusedWithTop c contents o' ⊎ Prints c told contents o' → One
+    transactions_once (inl p) (inl q) = from_source Filament c.file p q
+    transactions_once (inl p) (inr (inl b)) = absurd (refused_here Filament c.file o p (b.top.design, b.gives.gives))
+    transactions_once (inl p) (inr (inr b)) = absurd (refused_here Filament c.file o p (b.top.design, b.gives.gives_top.gives))
+    transactions_once (inr (inl a)) (inl q) = absurd (refused_here Filament c.file o' q (a.top.design, a.gives.gives))
+    transactions_once (inr (inl a)) (inr (inl b)) = refused_tops a b
+    transactions_once (inr (inl a)) (inr (inr b)) = absurd (told_or_not o o' a b)
+    transactions_once (inr (inr a)) (inl q) = absurd (refused_here Filament c.file o' q (a.top.design, a.gives.gives_top.gives))
+    transactions_once (inr (inr a)) (inr (inl b)) = absurd (told_or_not o' o b a)
+    transactions_once (inr (inr a)) (inr (inr b)) = two_lists a b
+
+  -- ---- the netlist of a design
+
+  pub net_fil_once : (c : NetFil) → Asks words (OfNetFil c) → IsRefusedForSource contents Filament c.file o ⊎ PrintsNet contents c.file made o → IsRefusedForSource contents Filament c.file o' ⊎ PrintsNet contents c.file made' o' → One
+  net_fil_once c asks (inl p) (inl q) = from_source Filament c.file p q
+  net_fil_once c asks (inl p) (inr b) = absurd (refused_here Filament c.file o p (b.made_from.design, b.made_from.gives))
+  net_fil_once c asks (inr a) (inl q) = absurd (refused_here Filament c.file o' q (a.made_from.design, a.made_from.gives))
+  net_fil_once c asks (inr a) (inr b) = record {
+    ended = ap (λ (x : Outcome). x.ended) a.outcome ∙ sym (ap (λ (x : Outcome). x.ended) b.outcome);
+    report = inr (record { asked = c; asks = asks; from = a.made_from; from' = b.made_from; printed = ap (λ (x : Outcome). x.report) a.outcome; printed' = ap (λ (x : Outcome). x.report) b.outcome });
+    line = inl (ap (λ (x : Outcome). x.line) a.outcome ∙ sym (ap (λ (x : Outcome). x.line) b.outcome));
+  }

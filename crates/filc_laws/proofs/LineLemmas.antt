@@ -1,0 +1,23 @@
+-- Lines of refusals that are one, but for which loop they tell.
+use Rattle.std.proofs.Common.{◌≡◌, List, ◌∷◌, sym, ap, ◌∙◌, inl, inr}
+use Rattle.hw_names.specs.Name.{Text}
+use Rattle.filc_stop.specs.declared.ended.Ended.{Ended}
+use Rattle.filc_stop.specs.declared.language.Language.{Language}
+use Rattle.filc_laws.specs.OneLine.{IsSameLine, loop_line}
+
+-- two refusals are one
+abbrev pub IsOne : Ended → Ended → Text → Text → Type 0
+IsOne ended ended' line line' = (ended ≡ ended') × IsSameLine line line'
+
+-- both have this answer, and lines that are the same
+pub one_of : (answer ended ended' : Ended) (line line' told told' : Text) → ended ≡ answer → ended' ≡ answer → line ≡ told → line' ≡ told' → told ≡ told' → IsOne ended ended' line line'
+one_of answer ended ended' line line' told told' e e' l l' same = (e ∙ sym e', inl (l ∙ same ∙ sym l'))
+
+-- both tell a loop from one port on
+pub loop_of : (answer ended ended' : Ended) (line line' : Text) (language : Language) (name first first' : Text) (ports ports' : List Text) → ended ≡ answer → ended' ≡ answer → line ≡ loop_line language name (first ∷ ports) → line' ≡ loop_line language name (first' ∷ ports') → first ≡ first' → IsOne ended ended' line line'
+loop_of answer ended ended' line line' language name first first' ports ports' e e' l l' same =
+    (e ∙ sym e', inr (record { language = language; name = name; first = first; ports = ports; ports' = ports'; told = l; told' = l' ∙ ap (λ (p : Text). loop_line language name (p ∷ ports')) (sym same) }))
+
+pub along_lines : (a b c d : Text) → a ≡ c → b ≡ d → IsSameLine c d → IsSameLine a b
+along_lines a b c d e f (inl same) = inl (e ∙ same ∙ sym f)
+along_lines a b c d e f (inr loop) = inr (record { language = loop.language; name = loop.name; first = loop.first; ports = loop.ports; ports' = loop.ports'; told = e ∙ loop.told; told' = f ∙ loop.told' })

@@ -1,0 +1,5 @@
+use Rattle.filc_laws.proofs.CauseLemmas.{given_run_has_no_cause}
+use Rattle.filc_laws.proofs.laws.given_run_has_no_cause.Goals as goal
+
+pub returns : goal.returns
+returns c = given_run_has_no_cause

@@ -1,0 +1,10 @@
+pub mod OneLine
+pub mod OnePlace
+pub mod OneRule
+pub mod OneRun
+pub mod OneOutcome
+pub mod OneStimulus
+pub mod OneSource
+pub mod OneVerdict
+pub mod OneAnswer
+pub mod OnlyWhatIsTold

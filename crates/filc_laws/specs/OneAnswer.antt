@@ -1,0 +1,45 @@
+-- Two programs that keep the contract of the top call answer alike: what OneVerdict says of outcomes, said of what is left in the sinks. This project's.
+use Rattle.std.specs.Prelude.{◌≡◌, ◌⊎◌, List, ◌++◌, Some}
+use Rattle.hw_names.specs.Name.{Text}
+use Rattle.filc_stop.specs.Lines.{as_line}
+use Rattle.filc_stop.specs.Outcome.{Contents}
+use Rattle.filc_stop.specs.declared.ended.Ended.{Ended}
+use Rattle.filc_core.specs.Ending.{IsAnswered}
+use Rattle.filc_core.specs.Request.{OfNetFil, Asks}
+use Rattle.filc_core.specs.commands.NetFil.{NetFil, IsMadeFrom}
+use Rattle.filc_laws.specs.OneLine.{TellOneLoop}
+
+-- both hold the text of a netlist that was made, and both were made of the design that the words ask for
+pub record HoldNetsOfOne (words : List Text) (contents : Contents) (before out out' : Text) : Type 0 where
+  pub asked : NetFil
+  pub asks : Asks words (OfNetFil asked)
+  pub made : Text
+  pub made' : Text
+  pub from : IsMadeFrom contents asked.file made
+  pub from' : IsMadeFrom contents asked.file made'
+  pub printed : out ≡ before ++ made
+  pub printed' : out' ≡ before ++ made'
+
+-- the sinks of the reports hold the same, but for which netlist was made
+abbrev pub IsSameOut : List Text → Contents → Text → Text → Text → Type 0
+IsSameOut words contents before out out' = (out ≡ out') ⊎ HoldNetsOfOne words contents before out out'
+
+-- both hold the line of a loop of one netlist or component, from the same port on
+pub record HoldOneLoop (before err err' : Text) : Type 0 where
+  pub line : Text
+  pub line' : Text
+  pub loop : TellOneLoop line line'
+  pub told : err ≡ before ++ as_line line
+  pub told' : err' ≡ before ++ as_line line'
+
+-- the sinks of the lines hold the same, but for which loop was told
+abbrev pub IsSameErr : Text → Text → Text → Type 0
+IsSameErr before err err' = (err ≡ err') ⊎ HoldOneLoop before err err'
+
+-- answers to the same words, of the same contents, into sinks that held the same
+abbrev pub OneAnswer : Type 0
+OneAnswer =
+    (words : List Text) (contents : Contents) (ended ended' : Ended) (out out' out'' err err' err'' : Text) →
+    IsAnswered words contents ended (Some out) (Some out') (Some err) (Some err') →
+    IsAnswered words contents ended' (Some out) (Some out'') (Some err) (Some err'') →
+    (ended ≡ ended') × IsSameOut words contents out out' out'' × IsSameErr err err' err''

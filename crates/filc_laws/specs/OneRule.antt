@@ -1,0 +1,52 @@
+-- The first broken rule of a netlist or a design is one, with its place and with what it shows, but for which loop that is. This project's.
+use Rattle.std.specs.Prelude.{◌≡◌, ◌⊎◌, ℕ, ◌∷◌, List}
+use Rattle.hw_names.specs.Name.{Text}
+use Rattle.fil_ast.specs.Evidence.{Evidence, ALoop}
+use Rattle.fil_ast.specs.Refusal.{IsRefusal}
+use Rattle.fil_ast.specs.Rules.{FilRules}
+use Rattle.fil_ast.specs.Tree.{Design}
+use Rattle.net_core.specs.Graph.{IsLeastLoop}
+use Rattle.net_core.specs.Netlist.{Netlist}
+use Rattle.net_core.specs.Rules.{IsValid, FirstBroken}
+
+-- what a refusal tells of a design: the rule, the component's name, the item, and what that shows
+pub record Broken : Type 0 where
+  pub rule : ℕ
+  pub name : Text
+  pub item : ℕ
+  pub evidence : Evidence
+
+abbrev pub Refuses : Design → Broken → Type 0
+Refuses design b = IsRefusal design b.name b.item b.evidence b.rule
+
+-- by F14, at item 0
+abbrev pub loop_in : Text → List Text → Broken
+loop_in name ports = record { rule = 14; name = name; item = 0; evidence = ALoop ports }
+
+-- both show a loop of one component, from the same port on
+pub record ShowOneLoop (b other : Broken) : Type 0 where
+  pub name : Text
+  pub first : Text
+  pub ports : List Text
+  pub ports' : List Text
+  pub shown : b ≡ loop_in name (first ∷ ports)
+  pub shown' : other ≡ loop_in name (first ∷ ports')
+
+abbrev pub FilRefusalIsOne : Type 0
+FilRefusalIsOne = (design : Design) (b other : Broken) → Refuses design b → Refuses design other → (b ≡ other) ⊎ ShowOneLoop b other
+
+-- a design with a broken rule doesn't keep F1 to F14
+abbrev pub RefusedDesignBreaksRules : Type 0
+RefusedDesignBreaksRules = (design : Design) (b : Broken) → Refuses design b → FilRules design → ⊥
+
+-- the first of N1 to N5 that a netlist breaks, and its line
+abbrev pub NetRuleIsOne : Type 0
+NetRuleIsOne = (n : Netlist) (rule rule' item item' : ℕ) → FirstBroken n rule item → FirstBroken n rule' item' → (rule ≡ rule') × (item ≡ item')
+
+abbrev pub BrokenNetIsNotValid : Type 0
+BrokenNetIsNotValid = (n : Netlist) (rule item : ℕ) → FirstBroken n rule item → IsValid n → ⊥
+
+-- the least loops of a netlist begin with one port
+abbrev pub LeastPortIsOne : Type 0
+LeastPortIsOne =
+    (n : Netlist) (first first' : Text) (others others' : List Text) → IsLeastLoop n first others → IsLeastLoop n first' others' → first ≡ first'

@@ -1,0 +1,40 @@
+-- The law of one verdict: for the same words and the same told contents of files there is one answer, one report and one line, but for what
+-- is left to a program: which loop it tells (N6 and F14 show one of those from the least port), and which netlist `net` makes. This project's.
+use Rattle.std.specs.Prelude.{◌≡◌, ◌⊎◌, List}
+use Rattle.hw_names.specs.Name.{Text}
+use Rattle.filc_stop.specs.Outcome.{Contents, Outcome}
+use Rattle.filc_core.specs.Request.{OfNetFil, Asks}
+use Rattle.filc_core.specs.Verdict.{Verdict}
+use Rattle.filc_core.specs.commands.NetFil.{NetFil, IsMadeFrom}
+use Rattle.filc_laws.specs.OneLine.{IsSameLine}
+
+-- each report is the netlist's text that was made, and both were made of the design that the words ask for
+pub record AreMadeOfOne (words : List Text) (contents : Contents) (made made' report other : Text) : Type 0 where
+  pub asked : NetFil
+  pub asks : Asks words (OfNetFil asked)
+  pub from : IsMadeFrom contents asked.file made
+  pub from' : IsMadeFrom contents asked.file made'
+  pub printed : report ≡ made
+  pub printed' : other ≡ made'
+
+-- the same report, but for which netlist is made
+abbrev pub IsSameReport : List Text → Contents → Text → Text → Text → Text → Type 0
+IsSameReport words contents made made' report other = (report ≡ other) ⊎ AreMadeOfOne words contents made made' report other
+
+-- two outcomes are one: the same answer, the same report and the same line
+pub record AreOne (words : List Text) (contents : Contents) (made made' : Text) (o other : Outcome) : Type 0 where
+  pub ended : o.ended ≡ other.ended
+  pub report : IsSameReport words contents made made' o.report other.report
+  pub line : IsSameLine o.line other.line
+
+-- the law: two verdicts of the same words and contents are one
+abbrev pub OneVerdict : Type 0
+OneVerdict =
+    (words : List Text) (contents : Contents) (made made' : Text) (o other : Outcome) →
+    Verdict words contents made o → Verdict words contents made' other → AreOne words contents made made' o other
+
+-- so where what was made is the same text, the reports are the same to the byte
+abbrev pub OneReport : Type 0
+OneReport =
+    (words : List Text) (contents : Contents) (made : Text) (o other : Outcome) →
+    Verdict words contents made o → Verdict words contents made other → o.report ≡ other.report
