@@ -1,0 +1,15 @@
+pub mod Steps
+pub mod GuardLaws
+pub mod SettingLaws
+pub mod ControlLaws
+pub mod LineLists
+pub mod PinLists
+pub mod Attributes
+pub mod Imports
+pub mod Parts
+pub mod Guards
+pub mod Settings
+pub mod Exactness
+pub mod Passages
+pub mod Designs
+pub mod Parsed

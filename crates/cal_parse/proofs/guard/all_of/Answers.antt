@@ -1,0 +1,10 @@
+use Rattle.std.proofs.Common.{arith}
+use Rattle.cal_parse.proofs.GuardLaws.{all_tree}
+use Rattle.cal_parse.proofs.guard.all_of.Goals as goal
+
+pub returns-then-len-ne1 : goal.returns-then-len-ne1
+returns-then-len-ne1 c = λ names. all_tree names c.args.guards (λ e. absurd (omega (arith, c.len.ensures, c.if-len-ne1.true)))
+
+-- one guard is there
+pub returns-in-None : goal.returns-in-None
+returns-in-None c = let h = rw c.in-None.is at c.pop.ensures.cases in absurd (omega (arith, h.0, c.len.ensures, c.if-len-ne1.false))

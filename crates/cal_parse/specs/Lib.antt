@@ -1,0 +1,6 @@
+pub mod Grammar
+pub mod Pins
+pub mod Lines
+pub mod Reading
+pub mod Spelling
+pub mod Written
