@@ -1,0 +1,3 @@
+pub mod TxDrive
+pub mod Shown
+pub mod Laws
