@@ -87,7 +87,7 @@ check() {
     awk "BEGIN { printf \"ratio: %.2f\\n\", $whole / $half }"
 }
 
-check components 2700
+check components 2600
 check statements 20000
 check shared 20000
 check single 5000
