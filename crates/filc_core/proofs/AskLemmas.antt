@@ -6,8 +6,11 @@ use Rattle.std.specs.Prelude.{reverse, bytes_eq}
 use Rattle.hw_names.specs.Name.{Text}
 use Rattle.filc_stop.specs.declared.language.Language.{Language}
 use Rattle.filc_stop.specs.declared.language.Language.TheVariants.{Netlists, Filament}
-use Rattle.filc_core.specs.Request.{Request, OfCheck, OfRows, OfSimNet, OfTraceNet, OfFlow, OfTimeline, OfNetFil, command_of, Asks}
+use Rattle.filc_core.specs.Request.{Request, OfCheck, OfRows, OfSimNet, OfTraceNet, OfFlow, OfTimeline, OfNetFil, OfSimFil, OfTraceFil, command_of, Asks, AskNothing}
 use Rattle.filc_core.specs.Words.{IsFileIn}
+use Rattle.filc_core.specs.commands.Check.{Check}
+use Rattle.filc_core.specs.commands.NetFil.{NetFil}
+use Rattle.filc_core.specs.commands.Rows.{Rows}
 use Rattle.filc_core.specs.commands.NetRun as net_run
 use Rattle.filc_core.specs.commands.NetRun.{Driven}
 use Rattle.filc_core.specs.commands.Transactions as transactions
@@ -27,6 +30,14 @@ same_language Netlists Filament file named named' = absurd (ending_apart named.0
 same_language Filament Netlists file named named' = absurd (ending_apart named'.0 named.0 (sym named'.2 ∙ named.2))
 same_language Filament Filament file named named' = refl
 
+abbrev second_of : List Text → Text
+second_of words = get_or words 1 []
+
+-- no words have a netlist's file and a Filament file as their second
+no_other_file : (words : List Text) (file other : Text) → second_of words ≡ file → second_of words ≡ other → IsFileIn Netlists file → IsFileIn Filament other → ⊥
+no_other_file words file other second second' named named' =
+    let e : Netlists ≡ Filament = same_language Netlists Filament file named (subst (IsFileIn Filament) (sym second' ∙ second) named') in cc e
+
 -- which kind of request has such a first word
 abbrev kind_of : Request → ℕ
 kind_of (OfCheck c) = 0
@@ -36,6 +47,8 @@ kind_of (OfTraceNet c) = 3
 kind_of (OfFlow c) = 4
 kind_of (OfTimeline c) = 5
 kind_of (OfNetFil c) = 6
+kind_of (OfSimFil c) = 2
+kind_of (OfTraceFil c) = 3
 
 abbrev kind_by_word : Text → ℕ
 kind_by_word word =
@@ -51,6 +64,8 @@ word_tells (OfTraceNet c) = refl
 word_tells (OfFlow c) = refl
 word_tells (OfTimeline c) = refl
 word_tells (OfNetFil c) = refl
+word_tells (OfSimFil c) = refl
+word_tells (OfTraceFil c) = refl
 
 same_kind : (words : List Text) (r r' : Request) → Asks words r → Asks words r' → kind_of r ≡ kind_of r'
 same_kind words r r' asks asks' = sym (word_tells r) ∙ ap (λ (ws : List Text). kind_by_word (get_or ws 0 [])) (sym asks.0 ∙ asks'.0) ∙ word_tells r'
@@ -84,4 +99,26 @@ asks_once words (OfTimeline c) (OfTimeline d) asks asks' = ap OfTimeline (same_s
 asks_once words (OfNetFil c) (OfNetFil d) asks asks' =
     let file : c.file ≡ d.file = ap (λ (ws : List Text). get_or ws 1 []) (sym asks.0 ∙ asks'.0) in
     λ k. OfNetFil (record { file = file k })
+asks_once words (OfSimFil c) (OfSimFil d) asks asks' = ap OfSimFil (same_started words (codes "sim") c d asks.0 asks'.0)
+asks_once words (OfTraceFil c) (OfTraceFil d) asks asks' = ap OfTraceFil (same_started words (codes "trace") c d asks.0 asks'.0)
+asks_once words (OfSimNet c) (OfSimFil d) asks asks' = absurd (no_other_file words c.file d.file (ap second_of asks.0) (ap second_of asks'.0) asks.1.0 asks'.1.0)
+asks_once words (OfSimFil c) (OfSimNet d) asks asks' = absurd (no_other_file words d.file c.file (ap second_of asks'.0) (ap second_of asks.0) asks'.1.0 asks.1.0)
+asks_once words (OfTraceNet c) (OfTraceFil d) asks asks' = absurd (no_other_file words c.file d.file (ap second_of asks.0) (ap second_of asks'.0) asks.1.0 asks'.1.0)
+asks_once words (OfTraceFil c) (OfTraceNet d) asks asks' = absurd (no_other_file words d.file c.file (ap second_of asks'.0) (ap second_of asks.0) asks'.1.0 asks.1.0)
 asks_once words r r' asks asks' = absurd (let apart = same_kind words r r' asks asks' in omega (arith, apart))
+
+-- words that ask for no command of the list ask for nothing
+pub none_asked : (words : List Text) → ((c : Check) → Asks words (OfCheck c) → ⊥) → ((c : Rows) → Asks words (OfRows c) → ⊥)
+    → ((c : Driven) → Asks words (OfSimNet c) → ⊥) → ((c : Driven) → Asks words (OfTraceNet c) → ⊥)
+    → ((c : Started) → Asks words (OfFlow c) → ⊥) → ((c : Started) → Asks words (OfTimeline c) → ⊥)
+    → ((c : NetFil) → Asks words (OfNetFil c) → ⊥) → ((c : Started) → Asks words (OfSimFil c) → ⊥)
+    → ((c : Started) → Asks words (OfTraceFil c) → ⊥) → AskNothing words
+none_asked words check rows sim trace flow timeline net sim_fil trace_fil (OfCheck c) asks = check c asks
+none_asked words check rows sim trace flow timeline net sim_fil trace_fil (OfRows c) asks = rows c asks
+none_asked words check rows sim trace flow timeline net sim_fil trace_fil (OfSimNet c) asks = sim c asks
+none_asked words check rows sim trace flow timeline net sim_fil trace_fil (OfTraceNet c) asks = trace c asks
+none_asked words check rows sim trace flow timeline net sim_fil trace_fil (OfFlow c) asks = flow c asks
+none_asked words check rows sim trace flow timeline net sim_fil trace_fil (OfTimeline c) asks = timeline c asks
+none_asked words check rows sim trace flow timeline net sim_fil trace_fil (OfNetFil c) asks = net c asks
+none_asked words check rows sim trace flow timeline net sim_fil trace_fil (OfSimFil c) asks = sim_fil c asks
+none_asked words check rows sim trace flow timeline net sim_fil trace_fil (OfTraceFil c) asks = trace_fil c asks

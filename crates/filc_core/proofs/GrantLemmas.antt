@@ -16,11 +16,13 @@ use Rattle.filc_core.proofs.PerformLemmas.{one_told, both_told}
 use Rattle.filc_core.proofs.RowsLemmas.{rows_reads, rows_comes}
 use Rattle.filc_core.proofs.SourceLemmas.{is_told}
 use Rattle.filc_core.proofs.StartedLemmas.{started_reads, started_comes}
+use Rattle.filc_core.proofs.TraceFilLemmas.{trace_fil_reading, trace_fil_done}
 use Rattle.filc_core.specs.Files.{IsToldFor}
-use Rattle.filc_core.specs.Request.{Request, OfCheck, OfRows, OfSimNet, OfTraceNet, OfFlow, OfTimeline, OfNetFil, command_of}
+use Rattle.filc_core.specs.Request.{Request, OfCheck, OfRows, OfSimNet, OfTraceNet, OfFlow, OfTimeline, OfNetFil, OfSimFil, OfTraceFil, command_of}
 use Rattle.filc_core.specs.commands.NetRun as net_run
 use Rattle.filc_core.specs.commands.NetRun.{Driven}
 use Rattle.filc_core.specs.commands.Flow.{flow_of_top}
+use Rattle.filc_core.specs.commands.SimFil.{rows_of_top}
 use Rattle.filc_core.specs.commands.Timeline.{holds_in_top}
 use Rattle.filc_core.specs.commands.Transactions as started
 use Rattle.filc_core.specs.commands.Transactions.{Started, Top}
@@ -56,6 +58,8 @@ granted_ends (OfTraceNet c) contents made o granted comes = net_run_ends (codes 
 granted_ends (OfFlow c) contents made o granted comes = started_ends (codes "flow") flow_of_top c contents granted made o comes
 granted_ends (OfTimeline c) contents made o granted comes = started_ends (codes "timeline") holds_in_top c contents granted made o comes
 granted_ends (OfNetFil c) contents made o granted comes = inl (ap (λ (x : Outcome). x.ended) (net_fil_comes c contents made o granted comes))
+granted_ends (OfSimFil c) contents made o granted comes = started_ends (codes "sim") rows_of_top c contents granted made o comes
+granted_ends (OfTraceFil c) contents made o granted comes = inl (trace_fil_done c contents granted.top granted.run granted.gives made o comes)
 
 -- and its files are told
 pub granted_told : (r : Request) (contents : Contents) → (command_of r).granted contents → IsToldFor contents r
@@ -70,3 +74,7 @@ granted_told (OfFlow c) contents granted =
 granted_told (OfTimeline c) contents granted =
     both_told (OfTimeline c) Filament c.file (started_reads (codes "timeline") holds_in_top c) c.stimulus refl contents (granted.top.design, granted.gives.gives_top.gives) (list_is_told c contents granted)
 granted_told (OfNetFil c) contents granted = one_told (OfNetFil c) Filament c.file (net_fil_reads c) contents refl granted
+granted_told (OfSimFil c) contents granted =
+    both_told (OfSimFil c) Filament c.file (started_reads (codes "sim") rows_of_top c) c.stimulus refl contents (granted.top.design, granted.gives.gives_top.gives) (list_is_told c contents granted)
+granted_told (OfTraceFil c) contents granted =
+    both_told (OfTraceFil c) Filament c.file (trace_fil_reading c).reads c.stimulus refl contents (granted.top.design, granted.gives.gives_top.gives) (list_is_told c contents granted)

@@ -1,16 +1,12 @@
 -- What comes of `net` of a Filament design.
-use Rattle.std.proofs.Common.{◌≡◌, ℕ, Option, Result, Ok, Err, Vec, Global, refl, sym, ap, subst, inl, inr}
-use Rattle.std.specs.Prelude.{IfOk, IfErr, OnOk, OnErr}
+use Rattle.std.proofs.Common.{◌≡◌, Option, Result, Ok, Err, refl, sym, ap, subst, inl, inr}
+use Rattle.std.specs.Prelude.{IfErr, OnOk, OnErr}
 use Rattle.std.specs.Io.KnownBytes.{Appends}
-use Rattle.hw_bits.specs.declared.memory.Memory.{Memory}
 use Rattle.hw_io.specs.Writing.{AppendsPrefix}
 use Rattle.hw_names.specs.Name.{Text}
-use Rattle.net_core.specs.Netlist.{Netlist}
-use Rattle.net_text.specs.Layout.{net_text}
-use Rattle.net_text.specs.Names.{HasText}
 use Rattle.fil_ast.specs.Tree.{Design}
-use Rattle.fil_fsm.specs.Refines.{Refines}
 use Rattle.filc_load.specs.Source.{FileGivesFil, IsAccepted}
+use Rattle.filc_run.specs.Traced.{IsMadeOf}
 use Rattle.filc_stop.specs.Leaving.{IsCutShort, Leaves}
 use Rattle.filc_stop.specs.Outcome.{Contents, Outcome, done_with}
 use Rattle.filc_stop.specs.Stops.{IsWritingStop}
@@ -19,12 +15,11 @@ use Rattle.filc_stop.specs.declared.stop.Stop.{Stop}
 use Rattle.filc_stop.specs.declared.stop.Stop.TheVariants as stop
 use Rattle.filc_core.proofs.PerformLemmas.{ReadsDesign}
 use Rattle.filc_core.proofs.SourceLemmas.{accepted_not_refused}
-use Rattle.filc_core.specs.commands.NetFil.{NetFil, IsNetOf, IsMadeFrom, net_fil}
+use Rattle.filc_core.specs.commands.NetFil.{NetFil, IsMadeFrom, net_fil}
 
--- the text of a netlist that keeps what the design promises
-pub printed_net : (design : Design) (net : Netlist) (result : Result (Vec ℕ Global) Memory) → Refines design net → HasText net → IfOk result (λ (text : Vec ℕ Global). text.items ≡ net_text net) → IfOk result (λ (text : Vec ℕ Global). (n : Netlist) × IsNetOf design n text.items)
-printed_net design net (Ok text) refines has is = (net, record { refines = refines; spells = (has, is) })
-printed_net design net (Err why) refines has is = tt
+-- a text that was made for the design that the file gives
+pub made_of_file : (contents : Contents) (file : Text) (design : Design) (made : Text) → FileGivesFil contents file design → IsMadeOf design made → IsMadeFrom contents file made
+made_of_file contents file design made gives made_net = record { design = design; net = made_net.0; gives = gives; made_net = made_net.1 }
 
 module _ (c : NetFil) where
   pub net_fil_reads : ReadsDesign (net_fil c) Filament c.file
@@ -34,10 +29,6 @@ module _ (c : NetFil) where
   pub net_fil_comes : (contents : Contents) (made : Text) (o : Outcome) → IsAccepted contents Filament c.file → (net_fil c).comes contents made o → o ≡ done_with made
   net_fil_comes contents made o accepted (inl refused) = absurd (accepted_not_refused contents c.file Filament o accepted refused)
   net_fil_comes contents made o accepted (inr prints) = prints.outcome
-
-  -- a text that was made for the design that the file gives
-  pub net_fil_made : (contents : Contents) (design : Design) (made : Text) → FileGivesFil contents c.file design → ((net : Netlist) × IsNetOf design net made) → IsMadeFrom contents c.file made
-  net_fil_made contents design made gives made_net = record { design = design; net = made_net.0; gives = gives; made_net = made_net.1 }
 
   module _ (contents : Contents) (made : Text) (from : IsMadeFrom contents c.file made) (out out' : Option Text) where
     -- a part of the text that was made

@@ -294,23 +294,28 @@ module _ {F : Type 0} (r : Request) (language : Language) (file : Text) (is : Re
 
 -- ---- what a report leaves
 
-still_cut : (makes : Text → Type 0) (comes comes' : Coming) → ((made : Text) (o : Outcome) → comes' made o → comes made o) → (out out' : Option Text) → IsCutShort makes comes out out' → IsCutShort makes comes' out out'
-still_cut makes comes comes' less out out' (inl kept) = inl kept
-still_cut makes comes comes' less out out' (inr has) = inr (record { made = has.made; makes_it = has.makes_it; part = λ o may. has.part o (less has.made o may) })
+still_cut : (makes makes' : Text → Type 0) (comes comes' : Coming) → ((made : Text) → makes made → makes' made) → ((made : Text) (o : Outcome) → comes' made o → comes made o) → (out out' : Option Text) → IsCutShort makes comes out out' → IsCutShort makes' comes' out out'
+still_cut makes makes' comes comes' made_too less out out' (inl kept) = inl kept
+still_cut makes makes' comes comes' made_too less out out' (inr has) = inr (record { made = has.made; makes_it = made_too has.made has.makes_it; part = λ o may. has.part o (less has.made o may) })
 
 part_leaves : (comes : Coming) (text : Text) (out out' : Option Text) → ((o : Outcome) → comes [] o → o ≡ done_with text) → AppendsPrefix out out' text → IsCutShort MakesNone comes out out'
 part_leaves comes text out out' alone part =
     inr (record { made = []; makes_it = refl; part = λ o may. subst (λ (bytes : Text). AppendsPrefix out out' bytes) (ap (λ (x : Outcome). x.report) (sym (alone o may))) part })
 
--- what comes of two is the same, so is what is left
+-- what comes of two is the same, and what one makes the other makes too: so is what is left
+pub leaves_of : (makes makes' : Text → Type 0) (comes comes' : Coming) → ((made : Text) → makes made → makes' made) → ((made : Text) (o : Outcome) → comes made o → comes' made o) → ((made : Text) (o : Outcome) → comes' made o → comes made o)
+    → (result : Result (Unit {0}) Stop) (out out' : Option Text) → Leaves makes comes result out out' → Leaves makes' comes' result out out'
+leaves_of makes makes' comes comes' made_too more less (Ok done) out out' has = record { made = has.made; report = has.report; outcome = more has.made _ has.outcome; reported = has.reported }
+leaves_of makes makes' comes comes' made_too more less (Err stop.ReadFault) out out' kept = kept
+leaves_of makes makes' comes comes' made_too more less (Err stop.StimulusReadFault) out out' kept = kept
+leaves_of makes makes' comes comes' made_too more less (Err (stop.Refused why)) out out' has = record { made = has.made; report = has.report; outcome = more has.made _ has.outcome; reported = has.reported }
+leaves_of makes makes' comes comes' made_too more less (Err stop.WriteFault) out out' cut = still_cut makes makes' comes comes' made_too less out out' cut
+leaves_of makes makes' comes comes' made_too more less (Err stop.Memory) out out' cut = still_cut makes makes' comes comes' made_too less out out' cut
+
+-- the same, where both make the same
 pub leaves_as : (makes : Text → Type 0) (comes comes' : Coming) → ((made : Text) (o : Outcome) → comes made o → comes' made o) → ((made : Text) (o : Outcome) → comes' made o → comes made o)
     → (result : Result (Unit {0}) Stop) (out out' : Option Text) → Leaves makes comes result out out' → Leaves makes comes' result out out'
-leaves_as makes comes comes' more less (Ok done) out out' has = record { made = has.made; report = has.report; outcome = more has.made _ has.outcome; reported = has.reported }
-leaves_as makes comes comes' more less (Err stop.ReadFault) out out' kept = kept
-leaves_as makes comes comes' more less (Err stop.StimulusReadFault) out out' kept = kept
-leaves_as makes comes comes' more less (Err (stop.Refused why)) out out' has = record { made = has.made; report = has.report; outcome = more has.made _ has.outcome; reported = has.reported }
-leaves_as makes comes comes' more less (Err stop.WriteFault) out out' cut = still_cut makes comes comes' less out out' cut
-leaves_as makes comes comes' more less (Err stop.Memory) out out' cut = still_cut makes comes comes' less out out' cut
+leaves_as makes comes comes' more less result out out' has = leaves_of makes makes comes comes' (λ made is. is) more less result out out' has
 
 -- a text that alone may come was written, or a part of it
 pub text_leaves : (comes : Coming) (text : Text) (result : Result (Unit {0}) Stop) (out out' : Option Text) → comes [] (done_with text) → ((o : Outcome) → comes [] o → o ≡ done_with text)

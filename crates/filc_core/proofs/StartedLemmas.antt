@@ -1,19 +1,23 @@
 -- What comes of the transactions of a design's top component.
 use Rattle.std.proofs.Common.{◌≡◌, ◌⊎◌, ℕ, ◌≤◌, List, [], map, Option, Some, IsSome, Result, Err, refl, sym, ap₂, subst, ◌∙◌, inl, inr, ⊎_elim}
+use Rattle.std.proofs.lemmas.List.Elements.{All-weaker}
 use Rattle.std.proofs.lemmas.Option.{same_Some}
-use Rattle.std.specs.Prelude.{slice_get, Contains, IfErr, IsErrOf, OnOk, OnErr}
+use Rattle.std.specs.Prelude.{slice_get, All, Contains, IfErr, IsErrOf, OnOk, OnErr}
 use Rattle.std.specs.Result.{IsErrAnd}
 use Rattle.hw_io.specs.Faults.{Rose}
 use Rattle.hw_io.specs.Reading.{KeepsFiles, IsReadFault}
 use Rattle.std.specs.Io.KnownBytes.{Appends}
 use Rattle.hw_io.specs.Writing.{AppendsPrefix}
 use Rattle.hw_names.specs.Name.{Text}
+use Rattle.fil_ast.specs.Holds as holds
 use Rattle.fil_ast.specs.Top.{IsTop}
 use Rattle.fil_ast.specs.declared.tx.TxList.{TxList}
-use Rattle.fil_ast.specs.Tree.{Design}
+use Rattle.fil_ast.specs.Tree.{Component, Design}
+use Rattle.fil_driven.specs.Laws.{IsTransactionOf, AreTransactionsOf}
+use Rattle.fil_share.specs.Uses.{starts_of}
 use Rattle.stim_read.specs.TxRun.{Transaction, TxRun, transaction_seen, tx_run_seen}
 use Rattle.filc_load.proofs.TopLemmas.{one_number}
-use Rattle.filc_load.specs.Built.{KnowsFile, AreGivenBy, IsNotGiven}
+use Rattle.filc_load.specs.Built.{KnowsFile, AreGivenBy, FitsComponent, IsNotGiven}
 use Rattle.filc_load.specs.FilFile.{HasTop}
 use Rattle.filc_load.specs.Source.{FileGivesFil}
 use Rattle.filc_load.specs.StimulusFile.{FileGivesTransactions, IsRefusedForStimulus, transaction_causes}
@@ -29,7 +33,7 @@ use Rattle.filc_core.specs.Command.{Command}
 use Rattle.filc_core.specs.Files.{IsToldFor}
 use Rattle.filc_core.specs.Performing.{Performs}
 use Rattle.filc_core.specs.Request.{Request, command_of}
-use Rattle.filc_core.specs.commands.Transactions.{Started, Top, GivesTop, GivesTransactionsOf, transactions}
+use Rattle.filc_core.specs.commands.Transactions.{Started, Top, GivesTop, GivesTransactionsOf, IsRefusedWithTop, transactions}
 
 -- a file gives one top component
 same_top : (contents : Contents) (file : Text) (top other : Top) → GivesTop contents file top → GivesTop contents file other → top ≡ other
@@ -38,6 +42,29 @@ same_top contents file top other gives gives' =
     let number = one_number other.design top.number other.number (subst (λ (d : Design). IsTop d top.number) design gives.top) gives'.top in
     let comp = same_Some top.comp other.comp (sym gives.at ∙ ap₂ slice_get design number ∙ gives'.at) in
     λ k. record { design = design k; number = number k; comp = comp k }
+
+-- the transactions that were loaded for a component are its own, a legal list
+pub loaded_transactions : (c : Component) (list : TxList) → All (FitsComponent c) list.txs.items → holds.IsLegal c (starts_of c list.txs.items) → AreTransactionsOf c list
+loaded_transactions c list fit legal = record {
+  each = All-weaker (FitsComponent c) (IsTransactionOf c) (λ tx is. record { event = is.event; start = is.start; widths = is.widths }) list.txs.items fit;
+  legal = legal;
+}
+
+module _ (c : Started) (contents : Contents) (top : Top) (run : TxRun) (gives : GivesTransactionsOf c contents top run) where
+  -- what gives transactions is not refused
+  pub top_not_refused : (o : Outcome) → IsRefusedWithTop c contents o → ⊥
+  top_not_refused o refused =
+      list_not_refused contents c.stimulus top.comp run o gives.gives_transactions
+      (subst (λ (t : Top). IsRefusedForStimulus contents c.stimulus (λ bytes. transaction_causes bytes t.comp) o) (same_top contents c.file refused.top top refused.gives gives.gives_top) refused.refused)
+
+  -- and gives one list, to one component
+  pub given_top : (other : Top) (run' : TxRun) → GivesTransactionsOf c contents other run' → other ≡ top
+  given_top other run' gives' = same_top contents c.file other top gives'.gives_top gives.gives_top
+
+  pub given_run : (other : Top) (run' : TxRun) → GivesTransactionsOf c contents other run' → run' ≡ run
+  given_run other run' gives' =
+      one_given_list contents c.stimulus top.comp run' run
+      (subst (λ (t : Top). FileGivesTransactions contents c.stimulus t.comp run') (given_top other run' gives') gives'.gives_transactions) gives.gives_transactions
 
 module _ (word : Text) (told : Top → List Transaction → Text) (c : Started) where
   pub started_reads : ReadsDesign (transactions word told c) Filament c.file
@@ -51,13 +78,9 @@ module _ (word : Text) (told : Top → List Transaction → Text) (c : Started) 
     -- of transactions comes what is told of them alone
     pub started_comes : (run : TxRun) → GivesTransactionsOf c contents top run → (made : Text) (o : Outcome) → (transactions word told c).comes contents made o → o ≡ done_with (told top run.transactions)
     started_comes run gives made o (inl refused) = absurd (accepted_not_refused contents c.file Filament o (top.design, gives.gives_top.gives) refused)
-    started_comes run gives made o (inr (inl refused)) =
-        absurd (list_not_refused contents c.stimulus top.comp run o gives.gives_transactions
-        (subst (λ (t : Top). IsRefusedForStimulus contents c.stimulus (λ bytes. transaction_causes bytes t.comp) o) (same_top contents c.file refused.top top refused.gives gives.gives_top) refused.refused))
+    started_comes run gives made o (inr (inl refused)) = absurd (top_not_refused c contents top run gives o refused)
     started_comes run gives made o (inr (inr prints)) =
-        let same = same_top contents c.file prints.top top prints.gives.gives_top gives.gives_top in
-        let same_run = one_given_list contents c.stimulus top.comp prints.run run (subst (λ (t : Top). FileGivesTransactions contents c.stimulus t.comp prints.run) same prints.gives.gives_transactions) gives.gives_transactions in
-        prints.outcome ∙ ap₂ (λ (t : Top) (a : TxRun). done_with (told t a.transactions)) same same_run
+        prints.outcome ∙ ap₂ (λ (t : Top) (a : TxRun). done_with (told t a.transactions)) (given_top c contents top run gives prints.top prints.run prints.gives) (given_run c contents top run gives prints.top prints.run prints.gives)
 
     -- what was written of them is what the command leaves
     pub started_leaves : (run : TxRun) → GivesTransactionsOf c contents top run → (result : Result (Unit {0}) Stop) (out out' : Option Text)
@@ -77,28 +100,16 @@ transactions_given r c reads takes contents now kept told top has gives list giv
       gives_transactions = by_earlier contents now c.stimulus (λ (k : Contents). AreGivenBy k c.stimulus top.comp list) kept (stimulus_told r Filament c.file reads c.stimulus takes contents told (top.design, gives_fil)) given;
     }
 
--- ---- what a command with this report performs
+-- ---- what a command performs
 
--- a command that prints this of the transactions of a design's top component
-pub record IsStarted (command : Command) (told : Top → List Transaction → Text) (c : Started) : Type 0 where
+-- a command that reads the transactions of a design's top component
+pub record ReadsTransactions (command : Command) (c : Started) : Type 0 where
   pub reads : ReadsDesign command Filament c.file
   pub takes : command.stimulus ≡ Some c.stimulus
   pub refused : (contents : Contents) (top : Top) → GivesTop contents c.file top → (o : Outcome) → IsRefusedForStimulus contents c.stimulus (λ bytes. transaction_causes bytes top.comp) o → command.comes contents [] o
-  pub leaves : (contents : Contents) (top : Top) (run : TxRun) → GivesTransactionsOf c contents top run → (result : Result (Unit {0}) Stop) (out out' : Option Text)
-      → OnOk result (Appends out out' (told top run.transactions)) → OnErr result (AppendsPrefix out out' (told top run.transactions)) → IfErr result IsWritingStop
-      → Leaves (command.makes contents) (command.comes contents) result out out'
   pub stops : (why : Stop) → IsOfStimulus why ⊎ IsWritingStop why → command.stops why
 
-pub is_started : (word : Text) (told : Top → List Transaction → Text) (c : Started) → IsStarted (transactions word told c) told c
-is_started word told c = record {
-  reads = started_reads word told c;
-  takes = refl;
-  refused = λ contents top gives o refused. started_refused word told c contents top gives o refused [];
-  leaves = λ contents top run gives result out out' written part stops. started_leaves word told c contents top run gives result out out' written part stops;
-  stops = λ why of. ⊎_elim (λ s. inr (inl s)) (λ s. inr (inr s)) of;
-}
-
-module _ {F : Type 0} {told : Top → List Transaction → Text} {c : Started} {names : F → List Text} {contents : F → Contents} {faults : F → Text → ℕ} {old mid new : F} (r : Request) (is : IsStarted (command_of r) told c) (top : Top) (has : HasTop top.design top.number top.comp) (first : DesignRead names contents faults Filament c.file old mid) (gives : IsSome (contents old c.file) → FileGivesFil (contents old) c.file top.design) (late : KeepsFiles names contents faults c.stimulus mid new) where
+module _ {F : Type 0} {c : Started} {names : F → List Text} {contents : F → Contents} {faults : F → Text → ℕ} {old mid new : F} (r : Request) (is : ReadsTransactions (command_of r) c) (top : Top) (has : HasTop top.design top.number top.comp) (first : DesignRead names contents faults Filament c.file old mid) (gives : IsSome (contents old c.file) → FileGivesFil (contents old) c.file top.design) (late : KeepsFiles names contents faults c.stimulus mid new) where
   -- the stimulus gives nothing
   pub started_stops : {T : Type 0} {result : Result (Unit {0}) Stop} {out : Option Text} {count : ℕ} (why : Stop) → IsErrAnd result (λ e. e ≡ why)
       → (IsSome (contents mid c.stimulus) → IsNotGiven (contents mid) c.stimulus (λ text. transaction_causes text top.comp) why) → KnowsFile {T = T} (names mid) c.stimulus (Err why)
@@ -106,13 +117,44 @@ module _ {F : Type 0} {told : Top → List Transaction → Text} {c : Started} {
       → Performs r names contents faults old new result out out count count
   started_stops why passed not_given known fault of =
       stimulus_stops r is.reads is.takes first late (λ text. transaction_causes text top.comp) why passed
-      (λ told' o refused. is.refused (contents old) top (record { gives = gives (design_told r Filament c.file is.reads (contents old) told'); top = has.is_top; at = has.at }) o refused) not_given known fault of (is.stops why (inl of))
+      (λ told o refused. is.refused (contents old) top (record { gives = gives (design_told r Filament c.file is.reads (contents old) told); top = has.is_top; at = has.at }) o refused) not_given known fault of (is.stops why (inl of))
 
-  -- what the transactions are is printed
-  pub started_reports : {result : Result (Unit {0}) Stop} {out out' : Option Text} {before after : ℕ} (list : TxList) → Contains (names mid) c.stimulus → (IsSome (contents mid c.stimulus) → AreGivenBy (contents mid) c.stimulus top.comp list)
-      → OnOk result (Appends out out' (told top (map transaction_seen list.txs.items))) → OnErr result (AppendsPrefix out out' (told top (map transaction_seen list.txs.items))) → IfErr result IsWritingStop → (IsErrOf result stop.WriteFault → Rose before after) → before ≤ after
+  -- a report of the transactions was written, or a part of it
+  pub started_writes : {result : Result (Unit {0}) Stop} {out out' : Option Text} {before after : ℕ} (list : TxList) → Contains (names mid) c.stimulus → (IsSome (contents mid c.stimulus) → AreGivenBy (contents mid) c.stimulus top.comp list)
+      → (GivesTransactionsOf c (contents old) top (tx_run_seen list) → Leaves ((command_of r).makes (contents old)) ((command_of r).comes (contents old)) result out out')
+      → IfErr result IsWritingStop → (IsErrOf result stop.WriteFault → Rose before after) → before ≤ after
       → Performs r names contents faults old new result out out' before after
-  started_reports {result = result} {out = out} {out' = out'} list known given written part stops rose more =
+  started_writes {result = result} list known given leaves stops rose more =
       reports (read_both r is.reads is.takes first late known)
-      (λ told'. is.leaves (contents old) top (tx_run_seen list) (transactions_given r c is.reads is.takes (contents old) (contents mid) first.files.contents_kept told' top has gives list given) result out out' written part stops)
+      (λ told. leaves (transactions_given r c is.reads is.takes (contents old) (contents mid) first.files.contents_kept told top has gives list given))
       (if_stops IsWritingStop (command_of r).stops result (λ why of. is.stops why (inr of)) stops) (if_stops IsWritingStop IsNoReadFault result no_fault_at_writing stops) rose more
+
+-- ---- what a command with this report performs
+
+-- a command that prints this of the transactions of a design's top component
+pub record IsStarted (command : Command) (told : Top → List Transaction → Text) (c : Started) : Type 0 where
+  pub reading : ReadsTransactions command c
+  pub leaves : (contents : Contents) (top : Top) (run : TxRun) → GivesTransactionsOf c contents top run → (result : Result (Unit {0}) Stop) (out out' : Option Text)
+      → OnOk result (Appends out out' (told top run.transactions)) → OnErr result (AppendsPrefix out out' (told top run.transactions)) → IfErr result IsWritingStop
+      → Leaves (command.makes contents) (command.comes contents) result out out'
+
+pub is_started : (word : Text) (told : Top → List Transaction → Text) (c : Started) → IsStarted (transactions word told c) told c
+is_started word told c = record {
+  reading = record {
+    reads = started_reads word told c;
+    takes = refl;
+    refused = λ contents top gives o refused. started_refused word told c contents top gives o refused [];
+    stops = λ why of. ⊎_elim (λ s. inr (inl s)) (λ s. inr (inr s)) of;
+  };
+  leaves = λ contents top run gives result out out' written part stops. started_leaves word told c contents top run gives result out out' written part stops;
+}
+
+-- what the transactions are is printed
+pub started_reports : {F : Type 0} {told : Top → List Transaction → Text} {c : Started} {names : F → List Text} {contents : F → Contents} {faults : F → Text → ℕ} {old mid new : F} {result : Result (Unit {0}) Stop} {out out' : Option Text} {before after : ℕ}
+    → (r : Request) → IsStarted (command_of r) told c → (top : Top) → HasTop top.design top.number top.comp → DesignRead names contents faults Filament c.file old mid → (IsSome (contents old c.file) → FileGivesFil (contents old) c.file top.design) → KeepsFiles names contents faults c.stimulus mid new
+    → (list : TxList) → Contains (names mid) c.stimulus → (IsSome (contents mid c.stimulus) → AreGivenBy (contents mid) c.stimulus top.comp list)
+    → OnOk result (Appends out out' (told top (map transaction_seen list.txs.items))) → OnErr result (AppendsPrefix out out' (told top (map transaction_seen list.txs.items))) → IfErr result IsWritingStop → (IsErrOf result stop.WriteFault → Rose before after) → before ≤ after
+    → Performs r names contents faults old new result out out' before after
+started_reports {contents = contents} {old = old} {result = result} {out = out} {out' = out'} r is top has first gives late list known given written part stops rose more =
+    started_writes r is.reading top has first gives late list known given
+    (λ gives_them. is.leaves (contents old) top (tx_run_seen list) gives_them result out out' written part stops) stops rose more

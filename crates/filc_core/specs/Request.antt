@@ -8,8 +8,10 @@ use Rattle.filc_core.specs.commands.Flow.{flow}
 use Rattle.filc_core.specs.commands.NetFil.{NetFil, net_fil}
 use Rattle.filc_core.specs.commands.NetRun.{Driven}
 use Rattle.filc_core.specs.commands.Rows.{Rows, rows}
+use Rattle.filc_core.specs.commands.SimFil.{sim_fil}
 use Rattle.filc_core.specs.commands.SimNet.{sim_net}
 use Rattle.filc_core.specs.commands.Timeline.{timeline}
+use Rattle.filc_core.specs.commands.TraceFil.{trace_fil}
 use Rattle.filc_core.specs.commands.TraceNet.{trace_net}
 use Rattle.filc_core.specs.commands.Transactions.{Started}
 
@@ -22,6 +24,8 @@ pub data Request : Type 0 where
   OfFlow : Started → Request
   OfTimeline : Started → Request
   OfNetFil : NetFil → Request
+  OfSimFil : Started → Request
+  OfTraceFil : Started → Request
 
 abbrev pub command_of : Request → Command
 command_of (OfCheck c) = check c
@@ -31,6 +35,8 @@ command_of (OfTraceNet c) = trace_net c
 command_of (OfFlow c) = flow c
 command_of (OfTimeline c) = timeline c
 command_of (OfNetFil c) = net_fil c
+command_of (OfSimFil c) = sim_fil c
+command_of (OfTraceFil c) = trace_fil c
 
 -- the words ask for this, exactly
 abbrev pub Asks : List Text → Request → Type 0

@@ -1,5 +1,5 @@
 -- The program's own values, as what they say.
-use Rattle.filc_core.specs.Request.{Request, OfCheck, OfRows, OfSimNet, OfTraceNet, OfFlow, OfTimeline, OfNetFil}
+use Rattle.filc_core.specs.Request.{Request, OfCheck, OfRows, OfSimNet, OfTraceNet, OfFlow, OfTimeline, OfNetFil, OfSimFil, OfTraceFil}
 use Rattle.filc_core.specs.commands.Check.{Check}
 use Rattle.filc_core.specs.commands.NetFil.{NetFil}
 use Rattle.filc_core.specs.commands.NetRun.{Driven}
@@ -10,8 +10,10 @@ use Rattle.filc_core.specs.declared.commands.flow.Flow.{Flow as FlowValue}
 use Rattle.filc_core.specs.declared.commands.net_fil.NetFil.{NetFil as NetFilValue}
 use Rattle.filc_core.specs.declared.commands.net_run.Driven.{Driven as DrivenValue}
 use Rattle.filc_core.specs.declared.commands.rows.Rows.{Rows as RowsValue}
+use Rattle.filc_core.specs.declared.commands.sim_fil.SimFil.{SimFil as SimFilValue}
 use Rattle.filc_core.specs.declared.commands.sim_net.SimNet.{SimNet as SimNetValue}
 use Rattle.filc_core.specs.declared.commands.timeline.Timeline.{Timeline as TimelineValue}
+use Rattle.filc_core.specs.declared.commands.trace_fil.TraceFil.{TraceFil as TraceFilValue}
 use Rattle.filc_core.specs.declared.commands.trace_net.TraceNet.{TraceNet as TraceNetValue}
 use Rattle.filc_core.specs.declared.commands.transactions.Started.{Started as StartedValue}
 use Rattle.filc_core.specs.declared.request.Request.{Request as RequestValue}
@@ -44,6 +46,12 @@ flow_told c = started_told c.0
 abbrev pub timeline_told : TimelineValue → Started
 timeline_told c = started_told c.0
 
+abbrev pub sim_fil_told : SimFilValue → Started
+sim_fil_told c = started_told c.0
+
+abbrev pub trace_fil_told : TraceFilValue → Started
+trace_fil_told c = started_told c.0
+
 abbrev pub request_told : RequestValue → Request
 request_told (value.Check c) = OfCheck (check_told c)
 request_told (value.Rows c) = OfRows (rows_told c)
@@ -52,3 +60,5 @@ request_told (value.TraceNet c) = OfTraceNet (trace_net_told c)
 request_told (value.Flow c) = OfFlow (flow_told c)
 request_told (value.Timeline c) = OfTimeline (timeline_told c)
 request_told (value.NetFil c) = OfNetFil (net_fil_told c)
+request_told (value.SimFil c) = OfSimFil (sim_fil_told c)
+request_told (value.TraceFil c) = OfTraceFil (trace_fil_told c)

@@ -8,3 +8,5 @@ pub mod Transactions
 pub mod Flow
 pub mod Timeline
 pub mod NetFil
+pub mod SimFil
+pub mod TraceFil

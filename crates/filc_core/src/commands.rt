@@ -8,8 +8,10 @@ pub(crate) mod flow;
 pub(crate) mod net_fil;
 mod net_run;
 pub(crate) mod rows;
+pub(crate) mod sim_fil;
 pub(crate) mod sim_net;
 pub(crate) mod timeline;
+pub(crate) mod trace_fil;
 pub(crate) mod trace_net;
 mod transactions;
 

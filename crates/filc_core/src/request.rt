@@ -8,8 +8,10 @@ use crate::commands::check::Check;
 use crate::commands::flow::Flow;
 use crate::commands::net_fil::NetFil;
 use crate::commands::rows::Rows;
+use crate::commands::sim_fil::SimFil;
 use crate::commands::sim_net::SimNet;
 use crate::commands::timeline::Timeline;
+use crate::commands::trace_fil::TraceFil;
 use crate::commands::trace_net::TraceNet;
 use filc_stop::Stop;
 use hw_io::{Files, Sink};
@@ -25,6 +27,8 @@ pub(crate) enum Request<'a> {
     Flow(Flow<'a>),
     Timeline(Timeline<'a>),
     NetFil(NetFil<'a>),
+    SimFil(SimFil<'a>),
+    TraceFil(TraceFil<'a>),
 }
 
 /// What the words after the program's name ask for; `None` where they aren't well formed.
@@ -50,7 +54,13 @@ pub(crate) fn asked<'a>(words: &[&'a str]) -> Option<Request<'a>>
     if let Some(timeline) = Timeline::asked(words) {
         return Some(Request::Timeline(timeline));
     }
-    Some(Request::NetFil(NetFil::asked(words)?))
+    if let Some(net) = NetFil::asked(words) {
+        return Some(Request::NetFil(net));
+    }
+    if let Some(sim) = SimFil::asked(words) {
+        return Some(Request::SimFil(sim));
+    }
+    Some(Request::TraceFil(TraceFil::asked(words)?))
 }
 
 impl Command for Request<'_> {
@@ -67,6 +77,8 @@ impl Command for Request<'_> {
             Request::Flow(it) => it.design(),
             Request::Timeline(it) => it.design(),
             Request::NetFil(it) => it.design(),
+            Request::SimFil(it) => it.design(),
+            Request::TraceFil(it) => it.design(),
         }
     }
 
@@ -79,6 +91,8 @@ impl Command for Request<'_> {
             Request::Flow(it) => it.stimulus(),
             Request::Timeline(it) => it.stimulus(),
             Request::NetFil(it) => it.stimulus(),
+            Request::SimFil(it) => it.stimulus(),
+            Request::TraceFil(it) => it.stimulus(),
         }
     }
 
@@ -96,6 +110,8 @@ impl Command for Request<'_> {
             Request::Flow(it) => it.perform(alloc, files, out),
             Request::Timeline(it) => it.perform(alloc, files, out),
             Request::NetFil(it) => it.perform(alloc, files, out),
+            Request::SimFil(it) => it.perform(alloc, files, out),
+            Request::TraceFil(it) => it.perform(alloc, files, out),
         }
     }
 }

@@ -10,7 +10,7 @@ use Rattle.filc_laws.specs.OneVerdict.{IsSameReport}
 
 same_out : (words : List Text) (contents : Contents) (made made' report report' out out' out'' : Text) → out' ≡ out ++ report → out'' ≡ out ++ report' → IsSameReport words contents made made' report report' → IsSameOut words contents out out' out''
 same_out words contents made made' report report' out out' out'' e e' (inl same) = inl (e ∙ ap (λ (r : Text). out ++ r) same ∙ sym e')
-same_out words contents made made' report report' out out' out'' e e' (inr of) = inr (record {
+same_out words contents made made' report report' out out' out'' e e' (inr (inl of)) = inr (inl (record {
   asked = of.asked;
   asks = of.asks;
   made = made;
@@ -19,7 +19,9 @@ same_out words contents made made' report report' out out' out'' e e' (inr of) =
   from' = of.from';
   printed = e ∙ ap (λ (r : Text). out ++ r) of.printed;
   printed' = e' ∙ ap (λ (r : Text). out ++ r) of.printed';
-})
+}))
+same_out words contents made made' report report' out out' out'' e e' (inr (inr traces)) =
+    inr (inr (record { made = made; made' = made'; report = report; report' = report'; traces = traces; printed = e; printed' = e' }))
 
 same_err : (line line' err err' err'' : Text) → err' ≡ err ++ as_line line → err'' ≡ err ++ as_line line' → IsSameLine line line' → IsSameErr err err' err''
 same_err line line' err err' err'' e e' (inl same) = inl (e ∙ ap (λ (l : Text). err ++ as_line l) same ∙ sym e')

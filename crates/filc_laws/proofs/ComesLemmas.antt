@@ -1,54 +1,40 @@
 -- One outcome comes of each command, but for which loop is told and which netlist is made.
-use Rattle.std.proofs.Common.{◌≡◌, ℕ, ◌⊎◌, inl, inr, List, Bool, true, false, sym, ap, ap₂, subst, subst₂, ◌∙◌, get_or, arith}
-use Rattle.std.specs.Prelude.{slice_get, All, Contains}
-use Rattle.std.proofs.lemmas.List.{get_or_default}
+use Rattle.std.proofs.Common.{◌≡◌, ℕ, ◌⊎◌, inl, inr, List, Bool, sym, ap, ap₂, subst, subst₂, ◌∙◌, arith}
+use Rattle.std.specs.Prelude.{slice_get}
 use Rattle.std.proofs.lemmas.Option.{same_Some}
 use Rattle.hw_names.specs.Name.{Text}
 use Rattle.fil_ast.specs.Top.{IsTop}
 use Rattle.fil_ast.specs.Tree.{Component, Design}
 use Rattle.net_core.specs.Netlist.{Netlist}
-use Rattle.net_sim.specs.Layout.{port_names}
 use Rattle.stim_read.specs.CycleRun.{Run}
 use Rattle.stim_read.specs.TxRun.{Transaction, TxRun}
 use Rattle.stim_read.specs.declared.stim_end.StimEnd.{StimEnd}
 use Rattle.filc_load.specs.Settable.{settable_inputs, settable_memories}
 use Rattle.filc_load.specs.Source.{IsAccepted, IsRefusedForSource}
 use Rattle.filc_load.specs.StimulusFile.{GivesRun, GivesTransactions, FileGivesRun, FileGivesTransactions, IsRefusedBy, IsRefusedForStimulus, run_causes, transaction_causes, component_events}
-use Rattle.filc_report.proofs.PortLemmas.{output_is_port}
-use Rattle.filc_report.specs.Rows.{outputs_of_net}
 use Rattle.filc_report.specs.Runs.{RunComes, plain_run, stimulus_run}
-use Rattle.filc_report.specs.Streams.{shown_ports}
+use Rattle.filc_run.specs.Traced.{Traces}
 use Rattle.filc_stop.specs.Outcome.{Contents, Outcome, done_with, refused_with}
 use Rattle.filc_stop.specs.declared.language.Language.{Language}
 use Rattle.filc_stop.specs.declared.language.Language.TheVariants.{Netlists, Filament}
-use Rattle.filc_core.specs.Request.{OfNetFil, Asks}
+use Rattle.filc_core.specs.Request.{OfNetFil, OfTraceFil, Asks}
 use Rattle.filc_core.specs.commands.Check.{Check, Accepts}
 use Rattle.filc_core.specs.commands.NetFil.{NetFil, PrintsNet}
 use Rattle.filc_core.specs.commands.NetRun.{Driven, IsRefusedWithNet, GivesRunOf}
 use Rattle.filc_core.specs.commands.NetRun as net_run
 use Rattle.filc_core.specs.commands.Rows.{Rows, AsksTooMany}
 use Rattle.filc_core.specs.commands.Rows as rows
-use Rattle.filc_core.specs.commands.Transactions.{Started, Top, GivesTop, IsRefusedWithTop, Prints}
+use Rattle.filc_core.specs.commands.TraceFil.{PrintsTrace}
+use Rattle.filc_core.specs.commands.Transactions.{Started, Top, GivesTop, IsGranted, IsRefusedWithTop, Prints}
 use Rattle.filc_laws.proofs.CauseLemmas.{run_is_given_once, run_cause_is_one, given_run_has_no_cause, transactions_are_given_once, transaction_cause_is_one, given_transactions_have_no_cause}
 use Rattle.filc_laws.proofs.FilSourceLemmas.{top_once}
 use Rattle.filc_laws.proofs.LineLemmas.{along_lines}
 use Rattle.filc_laws.proofs.ReportLemmas.{comes_once}
 use Rattle.filc_laws.proofs.SourceLemmas.{net_is_given_once, fil_is_given_once, source_is_refused_once, refused_source_is_not_accepted}
 use Rattle.filc_laws.proofs.StimulusLemmas.{refused_by_once, not_refused}
+use Rattle.filc_laws.proofs.TraceLemmas.{plain_shows, stimulus_shows, traces_report}
 use Rattle.filc_laws.specs.OneStimulus.{CauseIsOne}
 use Rattle.filc_laws.specs.OneVerdict.{AreOne}
-
--- ---- ports that rows show
-
-outputs_shown : (n : Netlist) → All (λ port. Contains (port_names n) port) (outputs_of_net n)
-outputs_shown n k d within = output_is_port n (get_or (outputs_of_net n) k d) (k, within, get_or_default (outputs_of_net n) k (get_or (outputs_of_net n) k d) d within)
-
-all_shown : (n : Netlist) → All (λ port. Contains (port_names n) port) (port_names n)
-all_shown n k d within = (k, within, get_or_default (port_names n) k (get_or (port_names n) k d) d within)
-
-shown : (n : Netlist) (all : Bool) → All (λ port. Contains (port_names n) port) (shown_ports n all)
-shown n true = all_shown n
-shown n false = outputs_shown n
 
 module _ (words : List Text) (contents : Contents) (made made' : Text) (o o' : Outcome) where
   abbrev One : Type 0
@@ -98,7 +84,7 @@ module _ (words : List Text) (contents : Contents) (made made' : Text) (o o' : O
       let net = net_is_given_once contents c.file b.net a.net b.gives a.gives in
       let other : RunComes (plain_run a.net c.cycles) o' = subst (λ (n : Netlist). RunComes (plain_run n c.cycles) o') net b.run in
       let accepted = a.gives.gives.accepted in
-      same_outcome (comes_once (plain_run a.net c.cycles) accepted.valid accepted.no_loop (outputs_shown a.net) o o' a.run other)
+      same_outcome (comes_once (plain_run a.net c.cycles) accepted.valid accepted.no_loop (plain_shows a.net c.cycles) o o' a.run other)
 
   pub rows_once : (c : Rows) → IsRefusedForSource contents Netlists c.file o ⊎ AsksTooMany c contents o ⊎ rows.Runs c contents o → IsRefusedForSource contents Netlists c.file o' ⊎ AsksTooMany c contents o' ⊎ rows.Runs c contents o' → One
   rows_once c (inl p) (inl q) = from_source Netlists c.file p q
@@ -143,7 +129,7 @@ module _ (words : List Text) (contents : Contents) (made made' : Text) (o o' : O
         let run : b.run ≡ a.run = one_given a.net b.run a.run given a.gives.gives_run in
         let other : RunComes (stimulus_run a.net a.run (head a.net) all) o' = subst₂ (λ (n : Netlist) (r : Run). RunComes (stimulus_run n r (head n) all) o') net run b.comes in
         let accepted = a.gives.gives_net.gives.accepted in
-        same_outcome (comes_once (stimulus_run a.net a.run (head a.net) all) accepted.valid accepted.no_loop (shown a.net all) o o' a.comes other)
+        same_outcome (comes_once (stimulus_run a.net a.run (head a.net) all) accepted.valid accepted.no_loop (stimulus_shows a.net a.run (head a.net) all) o o' a.comes other)
 
     pub net_run_once : IsRefusedForSource contents Netlists c.file o ⊎ IsRefusedWithNet c contents o ⊎ net_run.Runs c head all contents o → IsRefusedForSource contents Netlists c.file o' ⊎ IsRefusedWithNet c contents o' ⊎ net_run.Runs c head all contents o' → One
     net_run_once (inl p) (inl q) = from_source Netlists c.file p q
@@ -165,15 +151,15 @@ module _ (words : List Text) (contents : Contents) (made made' : Text) (o o' : O
       let comp = same_Some t.comp u.comp (sym p.at ∙ ap₂ (λ (d : Design) (n : ℕ). slice_get d n) design number ∙ q.at) in
       λ k. record { design = design k; number = number k; comp = comp k }
 
-  module _ (c : Started) (told : Top → List Transaction → Text) where
+  module _ (c : Started) where
     refused_tops : IsRefusedWithTop c contents o → IsRefusedWithTop c contents o' → One
     refused_tops a b =
         let top = same_top c.file b.top a.top b.gives a.gives in
         let other : IsRefusedForStimulus contents c.stimulus (λ bytes. transaction_causes bytes a.top.comp) o' = subst (λ (t : Top). IsRefusedForStimulus contents c.stimulus (λ bytes. transaction_causes bytes t.comp) o') top b.refused in
         from_stimulus c.stimulus (λ bytes. transaction_causes bytes a.top.comp) (λ bytes. transaction_cause_is_one bytes (component_events a.top.comp)) a.refused other
 
-    told_or_not : (x y : Outcome) → IsRefusedWithTop c contents x → Prints c told contents y → ⊥
-    told_or_not x y a b =
+    granted_or_not : (x : Outcome) → IsRefusedWithTop c contents x → IsGranted c contents → ⊥
+    granted_or_not x a b =
         let given = b.gives.gives_transactions in
         let top : a.top ≡ b.top = same_top c.file a.top b.top a.gives b.gives.gives_top in
         let text : a.refused.refused.bytes ≡ given.bytes = same_Some a.refused.refused.bytes given.bytes (sym a.refused.refused.told ∙ given.told) in
@@ -182,29 +168,75 @@ module _ (words : List Text) (contents : Contents) (made made' : Text) (o o' : O
         not_refused (transaction_causes given.bytes b.top.comp) given.bytes a.refused.ended a.refused.line given.gives.within
         (given_transactions_have_no_cause given.bytes (component_events b.top.comp) b.run given.gives.gives) here
 
+    refused_file : (x : Outcome) → IsRefusedForSource contents Filament c.file x → IsGranted c contents → ⊥
+    refused_file x p b = refused_here Filament c.file x p (b.top.design, b.gives.gives_top.gives)
+
     one_told : (comp : Component) (run run' : TxRun) → FileGivesTransactions contents c.stimulus comp run → FileGivesTransactions contents c.stimulus comp run' → run ≡ run'
     one_told comp run run' p q =
         let text : q.bytes ≡ p.bytes = same_Some q.bytes p.bytes (sym q.told ∙ p.told) in
         let other : GivesTransactions p.bytes comp run' = subst (λ (b : Text). GivesTransactions b comp run') text q.gives in
         transactions_are_given_once p.bytes (component_events comp) run run' p.gives.gives other.gives
 
-    two_lists : Prints c told contents o → Prints c told contents o' → One
-    two_lists a b =
+    -- the files give one top component and one list of transactions
+    one_granted : (a b : IsGranted c contents) → (b.top ≡ a.top) × (b.run ≡ a.run)
+    one_granted a b =
         let top : b.top ≡ a.top = same_top c.file b.top a.top b.gives.gives_top a.gives.gives_top in
         let given : FileGivesTransactions contents c.stimulus a.top.comp b.run = subst (λ (t : Top). FileGivesTransactions contents c.stimulus t.comp b.run) top b.gives.gives_transactions in
-        let run : b.run ≡ a.run = one_told a.top.comp b.run a.run given a.gives.gives_transactions in
-        same_outcome (a.outcome ∙ ap₂ (λ (t : Top) (r : TxRun). done_with (told t r.transactions)) (sym top) (sym run) ∙ sym b.outcome)
+        (top, one_told a.top.comp b.run a.run given a.gives.gives_transactions)
+
+    -- whatever comes where the files give transactions, one thing comes of the command where one does there
+    module _ (Made Made' : Type 0) (grants : Made → IsGranted c contents) (grants' : Made' → IsGranted c contents) (both : Made → Made' → One) where
+      started_once : IsRefusedForSource contents Filament c.file o ⊎ IsRefusedWithTop c contents o ⊎ Made → IsRefusedForSource contents Filament c.file o' ⊎ IsRefusedWithTop c contents o' ⊎ Made' → One
+      started_once (inl p) (inl q) = from_source Filament c.file p q
+      started_once (inl p) (inr (inl b)) = absurd (refused_here Filament c.file o p (b.top.design, b.gives.gives))
+      started_once (inl p) (inr (inr b)) = absurd (refused_file o p (grants' b))
+      started_once (inr (inl a)) (inl q) = absurd (refused_here Filament c.file o' q (a.top.design, a.gives.gives))
+      started_once (inr (inl a)) (inr (inl b)) = refused_tops a b
+      started_once (inr (inl a)) (inr (inr b)) = absurd (granted_or_not o a (grants' b))
+      started_once (inr (inr a)) (inl q) = absurd (refused_file o' q (grants a))
+      started_once (inr (inr a)) (inr (inl b)) = absurd (granted_or_not o' b (grants a))
+      started_once (inr (inr a)) (inr (inr b)) = both a b
+
+  -- ---- what transactions are
+
+  module _ (c : Started) (told : Top → List Transaction → Text) where
+    abbrev prints_grants : (x : Outcome) → Prints c told contents x → IsGranted c contents
+    prints_grants x a = record { top = a.top; run = a.run; gives = a.gives }
+
+    two_lists : Prints c told contents o → Prints c told contents o' → One
+    two_lists a b =
+        let same = one_granted c (prints_grants o a) (prints_grants o' b) in
+        same_outcome (a.outcome ∙ ap₂ (λ (t : Top) (r : TxRun). done_with (told t r.transactions)) (sym same.0) (sym same.1) ∙ sym b.outcome)
 
     pub transactions_once : IsRefusedForSource contents Filament c.file o ⊎ IsRefusedWithTop c contents o ⊎ Prints c told contents o → IsRefusedForSource contents Filament c.file o' ⊎ IsRefusedWithTop c contents o' ⊎ Prints c told contents o' → One
-    transactions_once (inl p) (inl q) = from_source Filament c.file p q
-    transactions_once (inl p) (inr (inl b)) = absurd (refused_here Filament c.file o p (b.top.design, b.gives.gives))
-    transactions_once (inl p) (inr (inr b)) = absurd (refused_here Filament c.file o p (b.top.design, b.gives.gives_top.gives))
-    transactions_once (inr (inl a)) (inl q) = absurd (refused_here Filament c.file o' q (a.top.design, a.gives.gives))
-    transactions_once (inr (inl a)) (inr (inl b)) = refused_tops a b
-    transactions_once (inr (inl a)) (inr (inr b)) = absurd (told_or_not o o' a b)
-    transactions_once (inr (inr a)) (inl q) = absurd (refused_here Filament c.file o' q (a.top.design, a.gives.gives_top.gives))
-    transactions_once (inr (inr a)) (inr (inl b)) = absurd (told_or_not o' o b a)
-    transactions_once (inr (inr a)) (inr (inr b)) = two_lists a b
+    transactions_once p q = started_once c (Prints c told contents o) (Prints c told contents o') (prints_grants o) (prints_grants o') two_lists p q
+
+  -- ---- the trace of a design's netlist
+
+  module _ (c : Started) (asks : Asks words (OfTraceFil c)) where
+    abbrev trace_grants : (text : Text) (x : Outcome) → PrintsTrace c contents text x → IsGranted c contents
+    trace_grants text x a = record { top = a.top; run = a.run; gives = a.gives }
+
+    two_traces : PrintsTrace c contents made o → PrintsTrace c contents made' o' → One
+    two_traces a b =
+        let same = one_granted c (trace_grants made o a) (trace_grants made' o' b) in
+        let other : Traces a.top.design a.top.comp a.run made' o' = subst₂ (λ (t : Top) (r : TxRun). Traces t.design t.comp r made' o') same.0 same.1 b.traces in
+        record {
+          ended = ap (λ (x : Outcome). x.ended) a.traces.outcome ∙ sym (ap (λ (x : Outcome). x.ended) b.traces.outcome);
+          report = inr (inr (record {
+            asked = c;
+            asks = asks;
+            top = a.top;
+            run = a.run;
+            gives = a.gives;
+            traces = traces_report a.top.comp a.run a.top.design made o a.traces;
+            traces' = traces_report a.top.comp a.run a.top.design made' o' other;
+          }));
+          line = inl (ap (λ (x : Outcome). x.line) a.traces.outcome ∙ sym (ap (λ (x : Outcome). x.line) b.traces.outcome));
+        }
+
+    pub trace_fil_once : IsRefusedForSource contents Filament c.file o ⊎ IsRefusedWithTop c contents o ⊎ PrintsTrace c contents made o → IsRefusedForSource contents Filament c.file o' ⊎ IsRefusedWithTop c contents o' ⊎ PrintsTrace c contents made' o' → One
+    trace_fil_once p q = started_once c (PrintsTrace c contents made o) (PrintsTrace c contents made' o') (trace_grants made o) (trace_grants made' o') two_traces p q
 
   -- ---- the netlist of a design
 
@@ -214,6 +246,6 @@ module _ (words : List Text) (contents : Contents) (made made' : Text) (o o' : O
   net_fil_once c asks (inr a) (inl q) = absurd (refused_here Filament c.file o' q (a.made_from.design, a.made_from.gives))
   net_fil_once c asks (inr a) (inr b) = record {
     ended = ap (λ (x : Outcome). x.ended) a.outcome ∙ sym (ap (λ (x : Outcome). x.ended) b.outcome);
-    report = inr (record { asked = c; asks = asks; from = a.made_from; from' = b.made_from; printed = ap (λ (x : Outcome). x.report) a.outcome; printed' = ap (λ (x : Outcome). x.report) b.outcome });
+    report = inr (inl (record { asked = c; asks = asks; from = a.made_from; from' = b.made_from; printed = ap (λ (x : Outcome). x.report) a.outcome; printed' = ap (λ (x : Outcome). x.report) b.outcome }));
     line = inl (ap (λ (x : Outcome). x.line) a.outcome ∙ sym (ap (λ (x : Outcome). x.line) b.outcome));
   }

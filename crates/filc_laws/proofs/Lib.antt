@@ -10,6 +10,7 @@ pub mod EvidenceLemmas
 pub mod FilRuleLemmas
 pub mod CauseLemmas
 pub mod ReportLemmas
+pub mod TraceLemmas
 pub mod LineLemmas
 pub mod NetSourceLemmas
 pub mod FilSourceLemmas

@@ -1,55 +1,35 @@
 -- One thing comes of a run that is printed.
-use Rattle.std.proofs.Common.{◌≡◌, ℕ, zero, suc, ◌<◌, ◌≤◌, List, [], ◌∷◌, ◌++◌, length, Option, Some, None, refl, sym, ap, ap₂, ◌∙◌, arith, inl, inr, subst, if◌then◌else◌}
-use Rattle.std.specs.Prelude.{Contains, decimal}
-use Rattle.std.specs.List.{flat_map}
-use Rattle.std.proofs.lemmas.List.Elements.{All-contains}
-use Rattle.hw_graph.proofs.MemberLemmas.{In, at_of, in_of, contains_of}
+use Rattle.std.proofs.Common.{◌≡◌, ℕ, suc, ◌<◌, ◌≤◌, List, ◌++◌, length, refl, sym, ap, ap₂, ◌∙◌, arith, inl, inr, subst}
+use Rattle.hw_graph.proofs.MemberLemmas.{in_of}
 use Rattle.hw_names.specs.Name.{Text}
 use Rattle.hw_prims.specs.Row.{Trace}
-use Rattle.hw_prims.specs.State.{State, words_of}
-use Rattle.hw_prims.specs.Table.{prim_of}
-use Rattle.hw_prims.specs.declared.prim.Primitive.{Primitive}
 use Rattle.net_core.specs.Circuit.{HasConflict, IsReported, states_before}
 use Rattle.net_core.specs.Graph.{HasNoLoop}
-use Rattle.net_core.specs.NetRun.{net_circuit, net_drive, IsNetCell}
+use Rattle.net_core.specs.NetRun.{net_circuit, net_drive}
 use Rattle.net_core.specs.Rules.{IsValid}
 use Rattle.net_sim.proofs.AgreeLemmas.{drivers_agree, set_reads}
 use Rattle.net_sim.specs.Layout.{port_names}
-use Rattle.filc_report.specs.Rows.{row_text, rows_text, port_text, memory_text, memories_text, shown_text, cell_words}
+use Rattle.filc_report.proofs.RowLemmas.{lines_same}
+use Rattle.filc_report.specs.Rows.{lines_text}
 use Rattle.filc_report.specs.Runs.{PrintedRun, IsRunOf, EndsInConflict, RunsWhole, RunComes, text_to}
 use Rattle.filc_stop.specs.Outcome.{Outcome, done_with, conflict_after}
 use Rattle.filc_laws.proofs.OrderLemmas.{Below, Above, Same, compared, neither_greater}
 use Rattle.filc_laws.proofs.RowLemmas.{AgreeIn, agree_in, states_alike}
-use Rattle.filc_laws.specs.OneOutcome.{ShowsItsPorts, RunIsOne}
+use Rattle.filc_laws.specs.OneOutcome.{ShowsItsNetlist, RunIsOne}
 
-flat_same : {X : Type 0} (f g : X → Text) (xs : List X) → ((x : X) → In xs x → f x ≡ g x) → flat_map f xs ≡ flat_map g xs
-flat_same f g [] same = refl
-flat_same f g (x ∷ xs) same = ap₂ ◌++◌ (same x (inl refl)) (flat_same f g xs (λ y has. same y (inr has)))
-
-words_same : (states states' : Text → Primitive → State) (name : Text) (made : Option Primitive) → ((prim : Primitive) → made ≡ Some prim → states name prim ≡ states' name prim) → cell_words states name made ≡ cell_words states' name made
-words_same states states' name None same = refl
-words_same states states' name (Some prim) same = ap words_of (same prim refl)
-
-module _ (p : PrintedRun) (valid : IsValid p.net) (no_loop : HasNoLoop p.net) (shows : ShowsItsPorts p) where
+module _ (p : PrintedRun) (valid : IsValid p.net) (no_loop : HasNoLoop p.net) (shows : ShowsItsNetlist p) where
   abbrev Agree : Trace → Trace → ℕ → Type 0
   Agree = AgreeIn p.net valid no_loop
 
   -- ---- texts
 
-  row_same : (t : ℕ) (trace other : Trace) → Agree trace other t → row_text p.ports t (trace t) ≡ row_text p.ports t (other t)
-  row_same t trace other agree =
-      ap (λ (ports : Text). decimal t ++ ports ++ 10 ∷ [])
-      (flat_same (λ port. port_text port (trace t port)) (λ port. port_text port (other t port)) p.ports
-      (λ port has. ap (port_text port) (agree port (in_of (port_names p.net) port (All-contains (λ x. Contains (port_names p.net) x) p.ports port shows (contains_of p.ports port has))))))
+  rows_same : (t : ℕ) (trace other : Trace) → ((s : ℕ) → s < t → Agree trace other s) → lines_text p.line trace t ≡ lines_text p.line other t
+  rows_same t trace other agree = lines_same p.line trace other t (λ s less. shows.line s (trace s) (other s) (λ port has. agree s less port (in_of (port_names p.net) port has)))
 
-  rows_same : (t : ℕ) (trace other : Trace) → ((s : ℕ) → s < t → Agree trace other s) → rows_text p.ports trace t ≡ rows_text p.ports other t
-  rows_same zero trace other agree = refl
-  rows_same (suc t) trace other agree = ap₂ ◌++◌ (rows_same t trace other (λ s less. agree s (omega (arith, less)))) (row_same t trace other (agree t (omega arith)))
-
-  memories_same : (states states' : Text → Primitive → State) → ((cell : Text) (prim : Primitive) → IsNetCell p.net cell prim → states cell prim ≡ states' cell prim) → memories_text p.net states ≡ memories_text p.net states'
-  memories_same states states' same = flat_same (shown_text states) (shown_text states') p.net.cells (λ c has.
-      let k = at_of p.net.cells c has in
-      ap (λ (words : List ℕ). if c.shown then memory_text c.name words else []) (words_same states states' c.name (prim_of c.prim c.params) (λ prim made. same c.name prim (k.0, c, k.1, refl, made))))
+  -- two runs of as many rows have the same lines
+  pub lines_once : (height : ℕ) (trace other : Trace) → IsRunOf p height trace → IsRunOf p height other → lines_text p.line trace height ≡ lines_text p.line other height
+  lines_once height trace other run run' =
+      rows_same height trace other (λ s less. agree_in p.net valid no_loop p.inputs p.loads height height trace other run.rows run'.rows s less less)
 
   -- ---- Conflicts
 
@@ -110,8 +90,8 @@ module _ (p : PrintedRun) (valid : IsValid p.net) (no_loop : HasNoLoop p.net) (s
   two_whole o o' w w' =
       let here : (s : ℕ) → s < p.cycles → Agree w.trace w'.trace s = λ s less. agree p.cycles p.cycles w.trace w'.trace w.run w'.run s less less in
       let rows = rows_same p.cycles w.trace w'.trace here in
-      let memories = memories_same (states_before p.cycles w.trace p.loads) (states_before p.cycles w'.trace p.loads) (states_alike p.net valid no_loop p.loads w.trace w'.trace p.cycles here) in
-      w.outcome ∙ ap₂ (λ (lines words : Text). done_with ((p.head ++ lines) ++ words)) rows memories ∙ sym w'.outcome
+      let last = shows.last (states_before p.cycles w.trace p.loads) (states_before p.cycles w'.trace p.loads) (states_alike p.net valid no_loop p.loads w.trace w'.trace p.cycles here) in
+      w.outcome ∙ ap₂ (λ (lines after : Text). done_with ((p.head ++ lines) ++ after)) rows last ∙ sym w'.outcome
 
   pub comes_once : (o o' : Outcome) → RunComes p o → RunComes p o' → o ≡ o'
   comes_once o o' (inl e) (inl e') = two_conflicts o o' e e'

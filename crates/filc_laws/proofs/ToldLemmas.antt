@@ -14,7 +14,7 @@ use Rattle.filc_stop.specs.declared.ended.Ended.{Ended}
 use Rattle.filc_stop.specs.declared.language.Language.{Language}
 use Rattle.filc_stop.specs.declared.language.Language.TheVariants.{Netlists, Filament}
 use Rattle.filc_core.specs.Files.{IsDesignOf, IsStimulusOf}
-use Rattle.filc_core.specs.Request.{Request, OfCheck, OfRows, OfSimNet, OfTraceNet, OfFlow, OfTimeline, OfNetFil, command_of, Asks}
+use Rattle.filc_core.specs.Request.{Request, OfCheck, OfRows, OfSimNet, OfTraceNet, OfFlow, OfTimeline, OfNetFil, OfSimFil, OfTraceFil, command_of, Asks}
 use Rattle.filc_core.specs.Verdict.{Verdict, NotAsked, Asked}
 use Rattle.filc_core.specs.commands.Check.{Check, Accepts}
 use Rattle.filc_core.specs.commands.Flow.{flow_of_top}
@@ -23,8 +23,10 @@ use Rattle.filc_core.specs.commands.NetRun.{Driven, IsRefusedWithNet}
 use Rattle.filc_core.specs.commands.NetRun as net_run
 use Rattle.filc_core.specs.commands.Rows.{Rows, AsksTooMany}
 use Rattle.filc_core.specs.commands.Rows as rows
+use Rattle.filc_core.specs.commands.SimFil.{rows_of_top}
 use Rattle.filc_core.specs.commands.Timeline.{holds_in_top}
-use Rattle.filc_core.specs.commands.Transactions.{Started, Top, GivesTop, IsRefusedWithTop, Prints}
+use Rattle.filc_core.specs.commands.TraceFil.{PrintsTrace}
+use Rattle.filc_core.specs.commands.Transactions.{Started, Top, GivesTop, GivesTransactionsOf, IsRefusedWithTop, Prints}
 use Rattle.filc_laws.specs.OnlyWhatIsTold.{OnlyWhatIsTold}
 
 module _ (contents other : Contents) where
@@ -89,17 +91,25 @@ module _ (contents other : Contents) where
     comes = a.comes;
   }))
 
+  refused_top_too : (c : Started) (o : Outcome) → contents c.file ≡ other c.file → contents c.stimulus ≡ other c.stimulus → IsRefusedWithTop c contents o → IsRefusedWithTop c other o
+  refused_top_too c o same same' a =
+      record { top = a.top; gives = top_too c.file same a.top a.gives; refused = stimulus_too c.stimulus same' (λ bytes. transaction_causes bytes a.top.comp) o a.refused }
+
+  given_too : (c : Started) (top : Top) (run : TxRun) → contents c.file ≡ other c.file → contents c.stimulus ≡ other c.stimulus → GivesTransactionsOf c contents top run → GivesTransactionsOf c other top run
+  given_too c top run same same' g =
+      record { gives_top = top_too c.file same top g.gives_top; gives_transactions = transactions_too c.stimulus same' top.comp run g.gives_transactions }
+
   started_too : (c : Started) (told : Top → List Transaction → Text) (o : Outcome) → contents c.file ≡ other c.file → contents c.stimulus ≡ other c.stimulus
       → IsRefusedForSource contents Filament c.file o ⊎ IsRefusedWithTop c contents o ⊎ Prints c told contents o → IsRefusedForSource other Filament c.file o ⊎ IsRefusedWithTop c other o ⊎ Prints c told other o
   started_too c told o same same' (inl p) = inl (source_too c.file same Filament o p)
-  started_too c told o same same' (inr (inl a)) =
-      inr (inl (record { top = a.top; gives = top_too c.file same a.top a.gives; refused = stimulus_too c.stimulus same' (λ bytes. transaction_causes bytes a.top.comp) o a.refused }))
-  started_too c told o same same' (inr (inr a)) = inr (inr (record {
-    top = a.top;
-    run = a.run;
-    gives = record { gives_top = top_too c.file same a.top a.gives.gives_top; gives_transactions = transactions_too c.stimulus same' a.top.comp a.run a.gives.gives_transactions };
-    outcome = a.outcome;
-  }))
+  started_too c told o same same' (inr (inl a)) = inr (inl (refused_top_too c o same same' a))
+  started_too c told o same same' (inr (inr a)) = inr (inr (record { top = a.top; run = a.run; gives = given_too c a.top a.run same same' a.gives; outcome = a.outcome }))
+
+  trace_fil_too : (c : Started) (made : Text) (o : Outcome) → contents c.file ≡ other c.file → contents c.stimulus ≡ other c.stimulus
+      → IsRefusedForSource contents Filament c.file o ⊎ IsRefusedWithTop c contents o ⊎ PrintsTrace c contents made o → IsRefusedForSource other Filament c.file o ⊎ IsRefusedWithTop c other o ⊎ PrintsTrace c other made o
+  trace_fil_too c made o same same' (inl p) = inl (source_too c.file same Filament o p)
+  trace_fil_too c made o same same' (inr (inl a)) = inr (inl (refused_top_too c o same same' a))
+  trace_fil_too c made o same same' (inr (inr a)) = inr (inr (record { top = a.top; run = a.run; gives = given_too c a.top a.run same same' a.gives; traces = a.traces }))
 
   made_too : (file made : Text) → contents file ≡ other file → IsMadeFrom contents file made → IsMadeFrom other file made
   made_too file made same m = record { design = m.design; net = m.net; gives = fil_too file same m.design m.gives; made_net = m.made_net }
@@ -117,6 +127,8 @@ module _ (contents other : Contents) where
   comes_too (OfFlow c) made o same p = started_too c flow_of_top o (same c.file (inl (record { language = Filament; name = c.file }, refl, refl))) (same c.stimulus (inr refl)) p
   comes_too (OfTimeline c) made o same p = started_too c holds_in_top o (same c.file (inl (record { language = Filament; name = c.file }, refl, refl))) (same c.stimulus (inr refl)) p
   comes_too (OfNetFil c) made o same p = net_fil_too c made o (same c.file (inl (record { language = Filament; name = c.file }, refl, refl))) p
+  comes_too (OfSimFil c) made o same p = started_too c rows_of_top o (same c.file (inl (record { language = Filament; name = c.file }, refl, refl))) (same c.stimulus (inr refl)) p
+  comes_too (OfTraceFil c) made o same p = trace_fil_too c made o (same c.file (inl (record { language = Filament; name = c.file }, refl, refl))) (same c.stimulus (inr refl)) p
 
 verdict_too : (words : List Text) (contents other : Contents) (made : Text) (o : Outcome) → ((r : Request) → Asks words r → (file : Text) → IsDesignOf r file ⊎ IsStimulusOf r file → contents file ≡ other file) → Verdict words contents made o → Verdict words other made o
 verdict_too words contents other made o same (NotAsked none e) = NotAsked none e

@@ -8,6 +8,7 @@ use Rattle.filc_core.specs.Ending.{IsAnswered}
 use Rattle.filc_core.specs.Request.{OfNetFil, Asks}
 use Rattle.filc_core.specs.commands.NetFil.{NetFil, IsMadeFrom}
 use Rattle.filc_laws.specs.OneLine.{TellOneLoop}
+use Rattle.filc_laws.specs.OneVerdict.{AreTracesOfOne}
 
 -- both hold the text of a netlist that was made, and both were made of the design that the words ask for
 pub record HoldNetsOfOne (words : List Text) (contents : Contents) (before out out' : Text) : Type 0 where
@@ -20,9 +21,19 @@ pub record HoldNetsOfOne (words : List Text) (contents : Contents) (before out o
   pub printed : out ≡ before ++ made
   pub printed' : out' ≡ before ++ made'
 
+-- both hold the trace of a netlist that was made, both netlists were made of the design that the words ask for, and the same transactions drive them
+pub record HoldTracesOfOne (words : List Text) (contents : Contents) (before out out' : Text) : Type 0 where
+  pub made : Text
+  pub made' : Text
+  pub report : Text
+  pub report' : Text
+  pub traces : AreTracesOfOne words contents made made' report report'
+  pub printed : out ≡ before ++ report
+  pub printed' : out' ≡ before ++ report'
+
 -- the sinks of the reports hold the same, but for which netlist was made
 abbrev pub IsSameOut : List Text → Contents → Text → Text → Text → Type 0
-IsSameOut words contents before out out' = (out ≡ out') ⊎ HoldNetsOfOne words contents before out out'
+IsSameOut words contents before out out' = (out ≡ out') ⊎ HoldNetsOfOne words contents before out out' ⊎ HoldTracesOfOne words contents before out out'
 
 -- both hold the line of a loop of one netlist or component, from the same port on
 pub record HoldOneLoop (before err err' : Text) : Type 0 where

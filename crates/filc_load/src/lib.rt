@@ -3,6 +3,7 @@
 
 mod accepted;
 pub mod fil_file;
+mod made;
 pub mod net_file;
 mod ports;
 mod settable;
@@ -12,5 +13,6 @@ mod top;
 
 pub use accepted::accept;
 pub use fil_file::FilBuilt;
+pub use made::make_ready;
 pub use net_file::Built;
 pub use ports::name_of;

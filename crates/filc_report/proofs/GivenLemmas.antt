@@ -41,7 +41,8 @@ stimulus_run_is n list head all = λ k. record {
   inputs = driven_same n list.sets.items k;
   loads = after_loads n (map load_seen list.loads.items) no_loads;
   head = head;
-  ports = (run_from n list head all).ports;
+  line = (run_from n list head all).line;
+  last = (run_from n list head all).last;
 }
 
 -- a run without settings and loads
@@ -52,5 +53,6 @@ plain_run_is n list no_set no_load = λ k. record {
   inputs = (ap (driven n) no_set ∙ no_sets n) k;
   loads = ap (λ (loads : List MemLoad). after_loads n (map load_seen loads) no_loads) no_load k;
   head = [];
-  ports = (plain_run n list.cycles).ports;
+  line = (plain_run n list.cycles).line;
+  last = (plain_run n list.cycles).last;
 }

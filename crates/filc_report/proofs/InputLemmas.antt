@@ -1,6 +1,6 @@
 -- The inputs of a run as they are set.
-use Rattle.std.proofs.Common.{◌≡◌, ℕ, zero, suc, ◌+◌, ◌-◌, ◌<◌, ◌≤◌, List, [], ◌∷◌, ◌++◌, length, take, drop, get_or, set, slice_get, slice_range, slice_set, replicate, Some, cond, false, ⊎_elim, refl, sym, ap, ap₂, ◌∙◌, arith, get_or-drop}
-use Rattle.std.proofs.lemmas.List.{map-set, take_more, take_more_set, length-drop, length-map, get_or-map, replicate-append-replicate}
+use Rattle.std.proofs.Common.{◌≡◌, ℕ, zero, suc, ◌+◌, ◌-◌, ◌<◌, ◌≤◌, List, [], ◌∷◌, ◌++◌, length, take, drop, get_or, set, slice_get, slice_range, slice_set, replicate, Some, cond, false, ⊎_elim, refl, sym, ap, ◌∙◌, arith, get_or-drop}
+use Rattle.std.proofs.lemmas.List.{map-set, take_more, length-drop, length-map, get_or-map}
 use Rattle.std.proofs.lemmas.Option.{get_or_from_slice_get, slice_get_within, slice_get-get_or}
 use Rattle.std.proofs.Math.Seq.{map-set_same, take-add}
 use Rattle.std.proofs.lemmas.Bool.{cases_lt, le-leb}
@@ -12,14 +12,7 @@ use Rattle.hw_bits.specs.Values.{values_of, widths_of}
 use Rattle.hw_bits.specs.declared.bits.Bits.{Bits}
 use Rattle.net_core.specs.declared.stimulus.InputSet.{InputSet}
 use Rattle.filc_load.specs.Inputs.{with_sets, is_due, values_in_row}
-
--- one more input is 0
-pub clear_more : (inputs : List Bits) (i : ℕ) (bits : Bits) → i < length inputs → bits.value ≡ 0 → take i (values_of inputs) ≡ replicate i 0 → take (i + 1) (values_of (set inputs i bits)) ≡ replicate (i + 1) 0
-clear_more inputs i bits within none front =
-    ap (take (i + 1)) (map-set (λ (b : Bits). b.value) inputs i bits)
-    ∙ take_more_set (values_of inputs) i bits.value (omega (arith, length-map inputs (λ (b : Bits). b.value)))
-    ∙ ap₂ (λ xs x. xs ++ x ∷ []) front none
-    ∙ replicate-append-replicate i 1 0
+use Rattle.filc_report.specs.Driving.{AreMade}
 
 pub with_sets-append : (xs ys : List InputSet) (values : List ℕ) → with_sets (xs ++ ys) values ≡ with_sets ys (with_sets xs values)
 with_sets-append [] ys values = refl
@@ -74,12 +67,6 @@ take-append-range : {X : Type 0} (xs : List X) (from to : ℕ) → from ≤ to �
 take-append-range xs from to in_order =
     let sum : from + (to - from) ≡ to = omega arith in
     sym (take-add from (to - from) xs) ∙ ap (λ n. take n xs) sum
-
--- the first sets were made, up to those of later rows than the last
-pub record AreMade (sets : List InputSet) (inputs : List Bits) (taken row : ℕ) (count : ℕ) : Type 0 where
-  pub fits : taken ≤ length sets
-  pub due : (i : ℕ) (d : InputSet) → i < taken → (get_or sets i d).from < row
-  pub values : values_of inputs ≡ with_sets (take taken sets) (replicate count 0)
 
 pub none_made : (sets : List InputSet) (inputs : List Bits) (count : ℕ) → values_of inputs ≡ replicate count 0 → AreMade sets inputs 0 0 count
 none_made sets inputs count clear = record { fits = omega arith; due = λ i d before. absurd (omega (arith, before)); values = clear }

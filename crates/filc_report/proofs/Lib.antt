@@ -3,6 +3,11 @@ pub mod PortLemmas
 pub mod NetLaws
 pub mod MemoryLemmas
 pub mod InputLemmas
+pub mod IntervalLemmas
+pub mod TxInputLemmas
+pub mod DriveLemmas
+pub mod InputStepLemmas
+pub mod ViewLemmas
 pub mod StandLemmas
 pub mod StreamLemmas
 pub mod LoadedLemmas

@@ -1,34 +1,36 @@
 -- What was written of a run's first rows is a part of whatever report may come of the run.
 use Rattle.std.proofs.Common.{◌≡◌, ℕ, suc, ◌<◌, ◌≤◌, List, [], ◌++◌, Option, refl, sym, ap, ap₂, subst, ◌∙◌, arith, append_assoc, inl, inr, ⊎_elim}
-use Rattle.std.specs.Prelude.{Contains}
 use Rattle.std.proofs.lemmas.Bool.{cases_lt}
 use Rattle.hw_io.specs.Writing.{AppendsPrefix}
 use Rattle.hw_names.specs.Name.{Text}
-use Rattle.hw_prims.specs.Row.{Trace}
+use Rattle.hw_prims.specs.Row.{Row, Trace}
+use Rattle.hw_prims.specs.State.{State}
+use Rattle.hw_prims.specs.declared.prim.Primitive.{Primitive}
 use Rattle.net_core.specs.Circuit.{HasConflict, states_before}
-use Rattle.net_core.specs.NetRun.{NetRun, net_circuit}
+use Rattle.net_core.specs.NetRun.{NetRun, net_circuit, IsNetCell}
 use Rattle.net_core.specs.Netlist.{Netlist}
 use Rattle.net_core.specs.Rules.{IsValid}
 use Rattle.net_sim.specs.Order.{IsOrderOf}
 use Rattle.filc_stop.specs.Leaving.{IsCutShort, MakesNone}
 use Rattle.filc_stop.specs.Outcome.{Outcome}
-use Rattle.filc_report.specs.Rows.{rows_text, memories_text}
+use Rattle.filc_report.specs.Rows.{lines_text}
 use Rattle.filc_report.specs.Runs.{PrintedRun, IsRunOf, RunComes, text_to, run_text}
 use Rattle.filc_report.specs.Streams.{RunsCleanly}
-use Rattle.filc_report.proofs.MemoryLemmas.{memories_same, states_same}
+use Rattle.filc_report.proofs.MemoryLemmas.{states_same}
 use Rattle.filc_report.proofs.NetLaws.{IsPort, same_rows, same_conflicts}
-use Rattle.filc_report.proofs.RowLemmas.{rows_same, fewer_rows}
+use Rattle.filc_report.proofs.RowLemmas.{lines_same, fewer_lines}
 
 -- the report of the run was cut short
 abbrev pub IsCutShortOf : PrintedRun → Option Text → Option Text → Type 0
 IsCutShortOf p out out' = IsCutShort MakesNone (λ made. RunComes p) out out'
 
--- the netlist of a run keeps the rules and has an order, and the ports that are shown are its own
+-- the netlist of a run keeps the rules and has an order, and what is printed depends on its ports and its cells alone
 pub record IsRunnable (p : PrintedRun) : Type 0 where
   pub valid : IsValid p.net
   pub order : List ℕ
   pub ordered : IsOrderOf p.net order
-  pub ports : (port : Text) → Contains p.ports port → IsPort p.net port
+  pub line : (t : ℕ) (row row' : Row) → ((port : Text) → IsPort p.net port → row port ≡ row' port) → p.line t row ≡ p.line t row'
+  pub last : (states states' : Text → Primitive → State) → ((cell : Text) (prim : Primitive) → IsNetCell p.net cell prim → states cell prim ≡ states' cell prim) → p.last states ≡ p.last states'
 
 -- fewer rows of a run are a run of fewer rows
 fewer_of_run : (n : Netlist) (asked : ℕ) (inputs : Trace) (loads : Text → List ℕ) (height t : ℕ) (trace : Trace) → t ≤ height → NetRun n asked inputs loads height trace → NetRun n t inputs loads t trace
@@ -43,13 +45,13 @@ module _ (p : PrintedRun) (runnable : IsRunnable p) (t : ℕ) (trace : Trace) (f
   agrees : (height : ℕ) (trace' : Trace) → t ≤ height → IsRunOf p height trace' → (k : ℕ) → k < t → (port : Text) → IsPort p.net port → trace k port ≡ trace' k port
   agrees height trace' long run' k before = same_rows p.net runnable.valid runnable.order runnable.ordered t t t p.inputs p.loads trace trace' runs.run (fewer_of_run p.net p.cycles p.inputs p.loads height t trace' long run') k before before
 
-  same_text : (height : ℕ) (trace' : Trace) → t ≤ height → IsRunOf p height trace' → rows_text p.ports trace t ≡ rows_text p.ports trace' t
-  same_text height trace' long run' = rows_same p.ports trace trace' t (λ k before port has. agrees height trace' long run' k before port (runnable.ports port has))
+  same_text : (height : ℕ) (trace' : Trace) → t ≤ height → IsRunOf p height trace' → lines_text p.line trace t ≡ lines_text p.line trace' t
+  same_text height trace' long run' = lines_same p.line trace trace' t (λ k before. runnable.line k (trace k) (trace' k) (agrees height trace' long run' k before))
 
   begins : (height u : ℕ) (trace' : Trace) → t ≤ height → t ≤ u → IsRunOf p height trace' → (rest : Text) × (text_to p trace t ++ rest ≡ text_to p trace' u)
   begins height u trace' long more run' =
-      let fewer = fewer_rows p.ports trace' t u more in
-      (fewer.0, append_assoc p.head (rows_text p.ports trace t) fewer.0 ∙ ap (λ rows. p.head ++ rows) (ap (λ front. front ++ fewer.0) (same_text height trace' long run') ∙ fewer.1))
+      let fewer = fewer_lines p.line trace' t u more in
+      (fewer.0, append_assoc p.head (lines_text p.line trace t) fewer.0 ∙ ap (λ rows. p.head ++ rows) (ap (λ front. front ++ fewer.0) (same_text height trace' long run') ∙ fewer.1))
 
   -- no row before t of any run has a Conflict
   conflict_is_later : (u : ℕ) (trace' : Trace) (port : Text) → IsRunOf p (suc u) trace' → HasConflict (net_circuit p.net) u (trace' u) port → t ≤ u
@@ -68,7 +70,7 @@ module _ (p : PrintedRun) (runnable : IsRunnable p) (t : ℕ) (trace : Trace) (f
       (text.0, text.1 ∙ sym (ap (λ (o : Outcome). o.report) clash.outcome))
   begins_report o (inr whole) =
       let text = begins p.cycles p.cycles whole.trace few few whole.run in
-      let memories = memories_text p.net (states_before p.cycles whole.trace p.loads) in
+      let memories = p.last (states_before p.cycles whole.trace p.loads) in
       (text.0 ++ memories, sym (append_assoc (text_to p trace t) text.0 memories) ∙ ap (λ front. front ++ memories) text.1 ∙ sym (ap (λ (o : Outcome). o.report) whole.outcome))
 
   -- so what was written of these rows is a part of the report, whatever the rest would be
@@ -92,7 +94,7 @@ module _ (p : PrintedRun) (runnable : IsRunnable p) (trace : Trace) (runs : Runs
   same_run_text trace' run' =
       let alike = agrees p runnable p.cycles trace (omega arith) runs p.cycles trace' (omega arith) run' in
       ap₂ ◌++◌ (ap (λ rows. p.head ++ rows) (same_text p runnable p.cycles trace (omega arith) runs p.cycles trace' (omega arith) run'))
-      (memories_same p.net (states_before p.cycles trace p.loads) (states_before p.cycles trace' p.loads) (states_same p.net p.loads trace trace' p.cycles alike))
+      (runnable.last (states_before p.cycles trace p.loads) (states_before p.cycles trace' p.loads) (states_same p.net p.loads trace trace' p.cycles alike))
 
   is_report : (o : Outcome) → RunComes p o → run_text p trace ≡ o.report
   is_report o (inl clash) =

@@ -1,11 +1,15 @@
 -- Printed rows: they depend on the printed ports alone, and more rows go on from fewer.
-use Rattle.std.proofs.Common.{◌≡◌, ℕ, zero, suc, ◌+◌, ◌-◌, ◌<◌, ◌≤◌, List, [], ◌∷◌, ◌++◌, length, take, drop, get_or, slice_get, slice_range, Some, flat_map, decimal, Contains, refl, sym, ap, ap₂, subst, ◌∙◌, arith, append_assoc, add-zero, add-suc}
+use Rattle.std.proofs.Common.{◌≡◌, ℕ, zero, suc, ◌+◌, ◌-◌, ◌<◌, ◌≤◌, List, [], ◌∷◌, ◌++◌, length, drop, get_or, flat_map, decimal, Contains, refl, sym, ap, ap₂, subst, ◌∙◌, arith, append_assoc, add-zero, add-suc, slice_get, slice_range, Some, get_or-take, get_or-drop, length-take, length-drop}
 use Rattle.std.proofs.lemmas.List.{append-nil, drop_more}
-use Rattle.std.proofs.lemmas.Option.{slice_get-get_or, get_or_from_slice_get}
+use Rattle.std.proofs.lemmas.Option.{get_or_from_slice_get}
+use Rattle.std.specs.Prelude.{Bool, All, codes}
 use Rattle.std.proofs.lemmas.List.Elements.{Contains-append_right}
 use Rattle.hw_names.specs.Name.{Text}
+use Rattle.fil_ast.specs.Signature.{SigPort}
+use Rattle.stim_read.specs.TxRun.{Transaction}
 use Rattle.hw_prims.specs.Row.{Row, Trace}
-use Rattle.filc_report.specs.Rows.{port_text, ports_text, line_text, row_text, rows_text}
+use Rattle.filc_report.specs.Rows.{port_text, row_text, lines_text, marked_port, marked_ports, marked_line}
+use Rattle.fil_driven.specs.Shown.{shown_value, outputs_line}
 
 values_same : (row row' : Row) (ports : List Text) → ((port : Text) → Contains ports port → row port ≡ row' port) → flat_map (λ port. port_text port (row port)) ports ≡ flat_map (λ port. port_text port (row' port)) ports
 values_same row row' [] same = refl
@@ -13,49 +17,73 @@ values_same row row' (port ∷ ports) same =
     ap₂ ◌++◌ (ap (λ v. port_text port v) (same port (0, omega arith, refl)))
     (values_same row row' ports (λ other has. same other (Contains-append_right (port ∷ []) ports other has)))
 
-row_same : (ports : List Text) (cycle : ℕ) (row row' : Row) → ((port : Text) → Contains ports port → row port ≡ row' port) → row_text ports cycle row ≡ row_text ports cycle row'
+pub row_same : (ports : List Text) (cycle : ℕ) (row row' : Row) → ((port : Text) → Contains ports port → row port ≡ row' port) → row_text ports cycle row ≡ row_text ports cycle row'
 row_same ports cycle row row' same = ap (λ values. (decimal cycle ++ values) ++ 10 ∷ []) (values_same row row' ports same)
 
-pub rows_same : (ports : List Text) (trace trace' : Trace) (t : ℕ) → ((k : ℕ) → k < t → (port : Text) → Contains ports port → trace k port ≡ trace' k port) → rows_text ports trace t ≡ rows_text ports trace' t
-rows_same ports trace trace' zero same = refl
-rows_same ports trace trace' (suc t) same =
-    ap₂ ◌++◌ (rows_same ports trace trace' t (λ k before. same k (omega arith))) (row_same ports t (trace t) (trace' t) (same t (omega arith)))
+-- outputs with the same values have the same line
+outputs_same : (txs : List Transaction) (cycle : ℕ) (row row' : Row) (outs : List SigPort) → All (λ (p : SigPort). row p.name ≡ row' p.name) outs → flat_map (λ (p : SigPort). codes " " ++ p.name ++ codes "=" ++ shown_value txs cycle p (row p.name)) outs ≡ flat_map (λ (p : SigPort). codes " " ++ p.name ++ codes "=" ++ shown_value txs cycle p (row' p.name)) outs
+outputs_same txs cycle row row' [] same = refl
+outputs_same txs cycle row row' (p ∷ outs) same =
+    ap₂ ◌++◌ (ap (λ v. codes " " ++ p.name ++ codes "=" ++ shown_value txs cycle p v) (same 0 p (omega arith)))
+    (outputs_same txs cycle row row' outs (λ k d within. same (suc k) d (omega arith)))
 
-rows_and_more : (ports : List Text) (trace : Trace) (t more : ℕ) → (rest : Text) × (rows_text ports trace t ++ rest ≡ rows_text ports trace (t + more))
-rows_and_more ports trace t zero = ([], append-nil (rows_text ports trace t) ∙ ap (rows_text ports trace) (sym (add-zero t)))
-rows_and_more ports trace t (suc more) =
-    let fewer = rows_and_more ports trace t more in
-    let last : Text = row_text ports (t + more) (trace (t + more)) in
-    (fewer.0 ++ last, sym (append_assoc (rows_text ports trace t) fewer.0 last) ∙ ap (λ front. front ++ last) fewer.1 ∙ ap (rows_text ports trace) (sym (add-suc t more)))
+pub outputs_line_same : (txs : List Transaction) (outs : List SigPort) (cycle : ℕ) (row row' : Row) → All (λ (p : SigPort). row p.name ≡ row' p.name) outs → outputs_line txs outs cycle row ≡ outputs_line txs outs cycle row'
+outputs_line_same txs outs cycle row row' same = ap (λ values. (decimal cycle ++ values) ++ 10 ∷ []) (outputs_same txs cycle row row' outs same)
+
+pub lines_same : (line : ℕ → Row → Text) (trace trace' : Trace) (t : ℕ) → ((k : ℕ) → k < t → line k (trace k) ≡ line k (trace' k)) → lines_text line trace t ≡ lines_text line trace' t
+lines_same line trace trace' zero same = refl
+lines_same line trace trace' (suc t) same = ap₂ ◌++◌ (lines_same line trace trace' t (λ k before. same k (omega arith))) (same t (omega arith))
+
+lines_and_more : (line : ℕ → Row → Text) (trace : Trace) (t more : ℕ) → (rest : Text) × (lines_text line trace t ++ rest ≡ lines_text line trace (t + more))
+lines_and_more line trace t zero = ([], append-nil (lines_text line trace t) ∙ ap (lines_text line trace) (sym (add-zero t)))
+lines_and_more line trace t (suc more) =
+    let fewer = lines_and_more line trace t more in
+    let last : Text = line (t + more) (trace (t + more)) in
+    (fewer.0 ++ last, sym (append_assoc (lines_text line trace t) fewer.0 last) ∙ ap (λ front. front ++ last) fewer.1 ∙ ap (lines_text line trace) (sym (add-suc t more)))
 
 -- the text of fewer rows is a prefix of the text of more
-pub fewer_rows : (ports : List Text) (trace : Trace) (t u : ℕ) → t ≤ u → (rest : Text) × (rows_text ports trace t ++ rest ≡ rows_text ports trace u)
-fewer_rows ports trace t u few =
+pub fewer_lines : (line : ℕ → Row → Text) (trace : Trace) (t u : ℕ) → t ≤ u → (rest : Text) × (lines_text line trace t ++ rest ≡ lines_text line trace u)
+fewer_lines line trace t u few =
     let all : t + (u - t) ≡ u = omega arith in
-    subst (λ n. (rest : Text) × (rows_text ports trace t ++ rest ≡ rows_text ports trace n)) all (rows_and_more ports trace t (u - t))
+    subst (λ n. (rest : Text) × (lines_text line trace t ++ rest ≡ lines_text line trace n)) all (lines_and_more line trace t (u - t))
 
--- what a line still has from port k on
-abbrev pub rest_of_line : List Text → List ℕ → ℕ → ℕ → Text
-rest_of_line names values k last = ports_text (slice_range names k last) (slice_range values k last) ++ 10 ∷ []
+-- ---- the ports of a line, one after another
 
-next_of_range : {X : Type 0} (xs : List X) (k last : ℕ) (x : X) → k < last → last ≤ length xs → x ≡ get_or xs k x → slice_range xs k last ≡ x ∷ slice_range xs (k + 1) last
-next_of_range xs k last x before within is =
-    let at : last - k ≡ suc (last - (k + 1)) = omega arith in
-    let in_list : k < length xs = omega arith in
-    ap (take (last - k)) (drop_more xs k x in_list) ∙ ap (λ n. take n (get_or xs k x ∷ drop (k + 1) xs)) at ∙ ap (λ y. y ∷ take (last - (k + 1)) (drop (k + 1) xs)) (sym is)
+-- what a line still has from its port k on
+abbrev pub rest_of_line : List Text → List ℕ → List Bool → ℕ → Text
+rest_of_line names values marks k = marked_ports (drop k names) (drop k values) (drop k marks) ++ 10 ∷ []
 
-pub next_of_line : (names : List Text) (values : List ℕ) (k last : ℕ) (name : Text) (value : ℕ) → k < last → last ≤ length names → last ≤ length values → slice_get names k ≡ Some name → value ≡ get_or values k 0 → rest_of_line names values k last ≡ port_text name value ++ rest_of_line names values (k + 1) last
-next_of_line names values k last name value before named valued name_is value_is =
-    let read = slice_get-get_or values k 0 (omega arith) in
-    ap₂ (λ ns vs. ports_text ns vs ++ 10 ∷ [])
-    (next_of_range names k last name before named (sym (get_or_from_slice_get names k name name name_is)))
-    (next_of_range values k last value before valued (value_is ∙ sym (get_or_from_slice_get values k (get_or values k 0) value read)))
-    ∙ append_assoc (port_text name value) (ports_text (slice_range names (k + 1) last) (slice_range values (k + 1) last)) (10 ∷ [])
+next_of_list : {X : Type 0} (xs : List X) (k : ℕ) (x : X) → k < length xs → x ≡ get_or xs k x → drop k xs ≡ x ∷ drop (k + 1) xs
+next_of_list xs k x within is = drop_more xs k x within ∙ ap (λ y. y ∷ drop (k + 1) xs) (sym is)
 
-pub end_of_line : (names : List Text) (values : List ℕ) (k last : ℕ) → last ≤ k → rest_of_line names values k last ≡ 10 ∷ []
-end_of_line names values k last past =
-    let none : last - k ≡ 0 = omega arith in
-    ap (λ n. ports_text (take n (drop k names)) (take n (drop k values)) ++ 10 ∷ []) none
+pub next_of_line : (names : List Text) (values : List ℕ) (marks : List Bool) (k : ℕ) (name : Text) (value : ℕ) (mark : Bool) → k < length names → k < length values → k < length marks → name ≡ get_or names k name → value ≡ get_or values k value → mark ≡ get_or marks k mark → rest_of_line names values marks k ≡ marked_port name value mark ++ rest_of_line names values marks (k + 1)
+next_of_line names values marks k name value mark named valued marked name_is value_is mark_is =
+    ap₂ (λ ns (f : List Text → Text). f ns) (next_of_list names k name named name_is) (λ j. λ (ns : List Text). marked_ports ns (next_of_list values k value valued value_is j) (next_of_list marks k mark marked mark_is j) ++ 10 ∷ [])
+    ∙ append_assoc (marked_port name value mark) (marked_ports (drop (k + 1) names) (drop (k + 1) values) (drop (k + 1) marks)) (10 ∷ [])
 
-pub line_from : (cycle : ℕ) (names : List Text) (values : List ℕ) (first last : ℕ) → line_text cycle (slice_range names first last) (slice_range values first last) ≡ decimal cycle ++ rest_of_line names values first last
-line_from cycle names values first last = append_assoc (decimal cycle) (ports_text (slice_range names first last) (slice_range values first last)) (10 ∷ [])
+pub no_more : {X : Type 0} (xs : List X) (k : ℕ) → length xs ≤ k → drop k xs ≡ []
+no_more [] zero past = refl
+no_more [] (suc k) past = refl
+no_more (x ∷ xs) zero past = absurd (omega (arith, past))
+no_more (x ∷ xs) (suc k) past = no_more xs k (omega (arith, past))
+
+no_marks : (names : List Text) (values : List ℕ) → marked_ports names values [] ≡ []
+no_marks [] values = refl
+no_marks (name ∷ names) [] = refl
+no_marks (name ∷ names) (value ∷ values) = refl
+
+pub end_of_line : (names : List Text) (values : List ℕ) (marks : List Bool) (k : ℕ) → length marks ≤ k → rest_of_line names values marks k ≡ 10 ∷ []
+end_of_line names values marks k past =
+    ap (λ ms. marked_ports (drop k names) (drop k values) ms ++ 10 ∷ []) (no_more marks k past) ∙ ap (λ text. text ++ 10 ∷ []) (no_marks (drop k names) (drop k values))
+
+pub line_from : (cycle : ℕ) (names : List Text) (values : List ℕ) (marks : List Bool) → marked_line cycle names values marks ≡ decimal cycle ++ rest_of_line names values marks 0
+line_from cycle names values marks = append_assoc (decimal cycle) (marked_ports names values marks) (10 ∷ [])
+
+-- a value of a range, by its place among all
+pub range_at : {X : Type 0} (xs : List X) (from to k : ℕ) (x : X) → from + k < to → slice_get xs (from + k) ≡ Some x → x ≡ get_or (slice_range xs from to) k x
+range_at xs from to k x within at =
+    let inside : k < to - from = omega arith in
+    sym (get_or-take (to - from) (drop from xs) k x inside ∙ get_or-drop from xs k x ∙ get_or_from_slice_get xs (from + k) x x at)
+
+pub range_length : {X : Type 0} (xs : List X) (from to : ℕ) → to ≤ length xs → length (slice_range xs from to) ≡ to - from
+range_length xs from to within = omega (arith, length-take (to - from) (drop from xs), length-drop from xs)

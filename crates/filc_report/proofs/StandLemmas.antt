@@ -1,12 +1,14 @@
 -- A run grows by the row that a simulator evaluated.
-use Rattle.std.proofs.Common.{◌≡◌, ◌≢◌, ℕ, zero, suc, ◌-◌, ◌<◌, ◌≤◌, ◌⊎◌, take, drop, slice_range, decimal, List, [], ◌∷◌, ◌++◌, Bool, true, false, cond, eqb, length, get_or, map, flat_map, Option, None, Some, refl, sym, ap, ap₂, subst, ◌∙◌, arith, inl, inr, ⊎_elim}
+use Rattle.std.proofs.Common.{◌≡◌, ◌≢◌, ℕ, zero, suc, ◌-◌, ◌<◌, ◌≤◌, ◌⊎◌, take, drop, slice_range, List, [], ◌∷◌, Bool, true, false, cond, eqb, length, get_or, map, Option, None, Some, refl, sym, ap, ap₂, subst, ◌∙◌, arith, inl, inr, ⊎_elim}
 use Rattle.std.specs.Prelude.{bytes_eq}
 use Rattle.std.proofs.lemmas.Bool.{ne_eqb, cases_lt}
 use Rattle.std.proofs.lemmas.Bool.Decides.{eqb_tells}
 use Rattle.std.proofs.lemmas.Slice.Eq.{bytes_eq-Decides}
 use Rattle.std.proofs.lemmas.Grind.{same_number_lists}
 use Rattle.std.proofs.lemmas.List.{length-map, get_or-map, drop-map, take-map}
-use Rattle.filc_report.specs.Rows.{port_text, ports_text, line_text, row_text}
+use Rattle.filc_report.specs.Rows.{marked_line}
+use Rattle.filc_report.specs.Views.{line_at, marked_row, ports_seen}
+use Rattle.filc_report.specs.declared.view.View.{View}
 use Rattle.hw_names.specs.Name.{Text, AreDistinct, dotted}
 use Rattle.hw_prims.specs.Meaning.{opening_state, next_state}
 use Rattle.hw_prims.specs.Row.{Row, Trace, values_at}
@@ -25,7 +27,7 @@ use Rattle.filc_report.specs.Streams.{RunsCleanly, RunsIntoConflict}
 
 -- ---- values along names
 
-apart : (a b : Text) → a ≢ b → bytes_eq a b ≡ false
+pub apart : (a b : Text) → a ≢ b → bytes_eq a b ≡ false
 apart a b differ = by (bytes_eq a b) refl
   where
     by : (t : Bool) → bytes_eq a b ≡ t → bytes_eq a b ≡ false
@@ -163,22 +165,15 @@ map_row_of names values distinct same =
     let named : k < length names = omega (arith, within, length-map names (row_of names values)) in
     get_or-map (row_of names values) names k [] 0 named ∙ row_of_at names values k distinct named (omega (arith, named, same)))
 
-texts_by_values : (row : Row) (ports : List Text) → flat_map (λ port. port_text port (row port)) ports ≡ ports_text ports (map row ports)
-texts_by_values row [] = refl
-texts_by_values row (port ∷ ports) = ap (λ rest. port_text port (row port) ++ rest) (texts_by_values row ports)
-
--- a row's text is the line of its ports and their values
-pub line_of_row : (names : List Text) (values : List ℕ) (first last cycle : ℕ) → AreDistinct names → length values ≡ length names → line_text cycle (slice_range names first last) (slice_range values first last) ≡ row_text (slice_range names first last) cycle (row_of names values)
-line_of_row names values first last cycle distinct same =
+-- a row's marked text goes by the values of its ports
+pub line_of_row : (names : List Text) (values : List ℕ) (first last cycle : ℕ) (marks : List Bool) → AreDistinct names → length values ≡ length names → marked_line cycle (slice_range names first last) (slice_range values first last) marks ≡ marked_line cycle (slice_range names first last) (map (row_of names values) (slice_range names first last)) marks
+line_of_row names values first last cycle marks distinct same =
     let row = row_of names values in
-    let ports = slice_range names first last in
-    let shown : slice_range values first last ≡ map row ports =
-    ap (λ vs. slice_range vs first last) (sym (map_row_of names values distinct same))
-    ∙ ap (take (last - first)) (drop-map row first names) ∙ take-map row (last - first) (drop first names) in
-    ap (λ vs. (decimal cycle ++ ports_text ports vs) ++ 10 ∷ []) shown
-    ∙ ap (λ text. (decimal cycle ++ text) ++ 10 ∷ []) (sym (texts_by_values row ports))
+    ap (λ vs. marked_line cycle (slice_range names first last) vs marks)
+    (ap (λ vs. slice_range vs first last) (sym (map_row_of names values distinct same))
+    ∙ ap (take (last - first)) (drop-map row first names) ∙ take-map row (last - first) (drop first names))
 
-pub line_of_table : (n : Netlist) (names : List Text) (values : List ℕ) (first last cycle : ℕ) → names ≡ port_names n → AreDistinct names → length values ≡ length (ports_of n) → line_text cycle (slice_range names first last) (slice_range values first last) ≡ row_text (slice_range names first last) cycle (port_row n values)
-line_of_table n names values first last cycle are distinct all =
-    line_of_row names values first last cycle distinct (omega (arith, all, ap length are, length-map (ports_of n) (λ (p : PortLine). p.name)))
-    ∙ ap (λ ns. row_text (slice_range names first last) cycle (row_of ns values)) are
+pub line_of_table : (n : Netlist) (names : List Text) (values : List ℕ) (view : View) (cycle : ℕ) → names ≡ port_names n → AreDistinct names → length values ≡ length (ports_of n) → line_at cycle names values view ≡ marked_row names view cycle (port_row n values)
+line_of_table n names values view cycle are distinct all =
+    line_of_row names values view.ports.start view.ports.end cycle view.shown.items distinct (omega (arith, all, ap length are, length-map (ports_of n) (λ (p : PortLine). p.name)))
+    ∙ ap (λ ns. marked_line cycle (ports_seen names view) (map (row_of ns values) (ports_seen names view)) view.shown.items) are

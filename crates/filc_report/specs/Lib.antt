@@ -3,6 +3,9 @@ pub use Rattle.filc_stop.specs.Leaving
 pub use Rattle.filc_load.specs.Given
 pub use Rattle.net_core.specs.NetRun
 pub mod Rows
+pub mod Intervals
+pub mod Driving
 pub mod Streams
+pub mod Views
 pub mod Runs
 pub mod Transactions

@@ -1,5 +1,5 @@
 -- The printed reports: rows of a run, shown memories. This project's.
-use Rattle.std.specs.Prelude.{ℕ, zero, suc, List, [], ◌∷◌, ◌++◌, codes, decimal, flat_map, map, if◌then◌else◌, Option, None, Some}
+use Rattle.std.specs.Prelude.{ℕ, zero, suc, Bool, List, [], ◌∷◌, ◌++◌, codes, decimal, flat_map, map, if◌then◌else◌, Option, None, Some}
 use Rattle.hw_names.specs.Name.{Text}
 use Rattle.hw_prims.specs.Row.{Row, Trace}
 use Rattle.hw_prims.specs.State.{State, words_of}
@@ -24,10 +24,31 @@ line_text cycle ports values = decimal cycle ++ ports_text ports values ++ 10 �
 abbrev pub row_text : List Text → ℕ → Row → Text
 row_text ports cycle row = decimal cycle ++ flat_map (λ port. port_text port (row port)) ports ++ 10 ∷ []
 
+-- the lines of the first rows, where this is the line of a row, by its number and its values
+abbrev pub lines_text : (ℕ → Row → Text) → Trace → ℕ → Text
+lines_text line trace zero = []
+lines_text line trace (suc t) = lines_text line trace t ++ line t (trace t)
+
 -- the rows of the first cycles, each a line
 abbrev pub rows_text : List Text → Trace → ℕ → Text
-rows_text ports trace zero = []
-rows_text ports trace (suc t) = rows_text ports trace t ++ row_text ports t (trace t)
+rows_text ports trace t = lines_text (row_text ports) trace t
+
+-- a value where it is shown, else a dash
+abbrev pub value_text : Bool → ℕ → Text
+value_text shown value = if shown then decimal value else codes "-"
+
+-- a space, the port, `=` and its value or a dash
+abbrev pub marked_port : Text → ℕ → Bool → Text
+marked_port port value shown = codes " " ++ port ++ codes "=" ++ value_text shown value
+
+-- ports with their values, in order, and whether each is shown
+abbrev pub marked_ports : List Text → List ℕ → List Bool → Text
+marked_ports (port ∷ ports) (value ∷ values) (shown ∷ marks) = marked_port port value shown ++ marked_ports ports values marks
+marked_ports ports values marks = []
+
+-- a line: the cycle, then ports with their values where they are shown
+abbrev pub marked_line : ℕ → List Text → List ℕ → List Bool → Text
+marked_line cycle ports values marks = decimal cycle ++ marked_ports ports values marks ++ 10 ∷ []
 
 abbrev pub outputs_of_net : Netlist → List Text
 outputs_of_net n = map (λ (p : Pin). p.name) n.outs

@@ -1,16 +1,23 @@
 //! Reports, written as they come: the rows of a run with its memories, and what transactions compute and hold.
 #![tactic(auto)]
 
+mod drive;
 mod flows;
 mod holds;
 mod inputs;
+mod intervals;
 mod memories;
 mod net_run;
 mod report;
 mod stream;
+mod tx_inputs;
+mod view;
 
+pub use drive::Drive;
 pub use flows::write_flows;
 pub use holds::write_holds;
-pub use net_run::run;
+pub use inputs::Inputs;
+pub use net_run::{Transactions, run, run_transactions};
 pub use report::{write_accepted, write_text};
-pub use stream::{Drive, RowEnd, stream_rows};
+pub use stream::{RowEnd, stream_rows};
+pub use view::View;

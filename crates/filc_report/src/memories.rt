@@ -12,7 +12,9 @@ ghost use Rattle.net_core.specs.Rules.{IsValid};
 ghost use Rattle.net_sim.specs.Shown.{shown_cells, IsShown};
 ghost use Rattle.net_sim.specs.Sim.{states_of};
 ghost use Rattle.filc_report.specs.Rows.{memory_text, memories_text};
+ghost use Rattle.filc_report.specs.Runs.{last_of};
 
+use crate::drive::Drive;
 use crate::report::push_texts;
 use hw_io::{Failed, Gather, Sink};
 use itoa::Buffer;
@@ -77,7 +79,7 @@ fn push_memories<O: Sink>(
 }
 
 /// Passes the shown memories on, and writes what is held.
-pub(crate) fn finish<O: Sink>(
+fn write_memories<O: Sink>(
     sim: &Sim,
     net: &Net,
     held: &mut Gather,
@@ -95,4 +97,28 @@ pub(crate) fn finish<O: Sink>(
 {
     push_memories(sim, net, held, out)?;
     held.flush(out)
+}
+
+/// Writes what follows the rows, after what is held: the shown memories, unless transactions drive the run.
+pub(crate) fn finish<O: Sink>(
+    drive: Drive,
+    sim: &Sim,
+    net: &Net,
+    held: &mut Gather,
+    out: &mut O,
+) -> Result<(), Failed>
+    requires net { netlist_of sim.now.net ≡ netlist_of net.now }
+    requires valid { IsValid (netlist_of net.now) }
+    requires numbers { HasNumbers net.now }
+    ensures appended { OnOk result (Appends (O.written out.old) (O.written out.new)
+        (held.old ++ last_of (netlist_of net.now) drive.entry (states_of (netlist_of net.now) sim.now.states))) }
+    ensures prefix { OnErr result (AppendsPrefix (O.written out.old) (O.written out.new)
+        (held.old ++ last_of (netlist_of net.now) drive.entry (states_of (netlist_of net.now) sim.now.states))) }
+    ensures failed { OnErr result (Rose (O.faults out.old) (O.faults out.new)) }
+    ensures never_falls { O.faults out.old ≤ O.faults out.new }
+{
+    match drive {
+        Drive::Cycles(_) => write_memories(sim, net, held, out),
+        Drive::Txs(_, _) => held.flush(out),
+    }
 }

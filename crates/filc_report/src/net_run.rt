@@ -1,34 +1,55 @@
 //! A run of a netlist, written as it comes.
 ghost use Rattle.std.specs.Prelude.{◌≡◌, ◌<◌, ◌≤◌, ◌⊎◌, ℕ, List, Option, Some, All, length, map, slice_get, IfErr, IsErrOf, IfOk};
-ghost use Rattle.hw_bits.specs.Values.{values_of, widths_of};
 ghost use Rattle.hw_io.specs.Faults.{Rose};
 ghost use Rattle.hw_names.specs.Name.{Text};
-ghost use Rattle.hw_bits.specs.declared.bits.TheConstants.{MAX_WIDTH};
-ghost use Rattle.hw_prims.specs.Memory.{word_count, word_width};
-ghost use Rattle.hw_prims.specs.declared.prim.Primitive.{Primitive};
 ghost use Rattle.net_core.specs.Netlist.{netlist_of};
 ghost use Rattle.net_core.specs.Rules.{IsValid};
 ghost use Rattle.net_core.specs.declared.stimulus.MemLoad.{MemLoad};
-ghost use Rattle.net_sim.specs.Shown.{shown_cells, IsShown};
 ghost use Rattle.net_sim.specs.Sim.{IsLoadedSim};
 ghost use Rattle.net_sim.specs.declared.sim.Phase.TheVariants.{Fresh};
 ghost use Rattle.stim_read.specs.CycleRun.{load_seen};
 ghost use Rattle.filc_load.specs.Built.{IsReady, FitsNet};
 ghost use Rattle.filc_load.specs.Given.{FitsMemory, after_load, after_loads};
-ghost use Rattle.filc_report.specs.Runs.{LeavesOfRun, run_from};
+ghost use Rattle.filc_report.specs.Runs.{LeavesOfRun, RunLeaves, run_from, transactions_run, asked_run};
+ghost use Rattle.filc_report.specs.Driving.{trace_of, FitsDrive, AreTransactionsFor};
+ghost use Rattle.fil_sig.specs.Seen.{seen};
+ghost use Rattle.stim_read.specs.TxRun.{tx_run_seen};
+ghost use Rattle.net_sim.specs.Standing.{StandsAt};
 ghost use Rattle.filc_stop.specs.Stops.{IsOfRun};
 ghost use Rattle.filc_load.specs.Slots.{NumbersPortsAsNames};
 
+use crate::drive::Drive;
+use crate::inputs::Inputs;
 use crate::memories::finish;
-use crate::stream::{Drive, RowEnd, stream_rows};
+use crate::stream::{RowEnd, stream_rows};
+use crate::view::View;
+use fil_ast::TxList;
+use fil_sig::TimeSig;
 use filc_load::{Built, name_of};
 use filc_stop::{Refusal, Stop};
-use hw_bits::{Bits, Memory};
+use hw_bits::Memory;
 use hw_io::{Gather, Sink};
 use hw_names::Word;
-use net_core::{CycleList, MemLoad, PortInfo, Table};
+use net_core::{CycleList, MemLoad, Table};
 use net_sim::Sim;
 use std::alloc::Global;
+
+/// What is asked of a run: what drives it, how many rows it has, the text before them, and whether a row shows all ports.
+#[derive(Clone, Copy)]
+pub(crate) struct Asked<'a> {
+    pub(crate) drive: Drive<'a>,
+    pub(crate) rows: u64,
+    pub(crate) head: &'a [u8],
+    pub(crate) all: bool,
+}
+
+/// Transactions of a component with this signature, for a run of so many rows.
+#[derive(Clone, Copy)]
+pub struct Transactions<'a> {
+    pub list: &'a TxList,
+    pub sig: &'a TimeSig,
+    pub rows: u64,
+}
 
 /// Writes a text, then the rows of a netlist that can be run, from what the list gives: with `all` every port, else the
 /// outputs. Without a Conflict the shown memories follow.
@@ -49,23 +70,78 @@ pub fn run<O: Sink>(
 {
     let mut sim = Sim::new(alloc, &built.net, &built.table, &built.order)?;
     load_memories(&mut sim, &list.loads);
-    let mut inputs = zeros(alloc, &built.table.ports[..built.net.ins.len()])?;
-    let mut held = Gather::new(alloc)?;
-    held.push(out, head)?;
-    let end = stream_rows(
-        &mut sim,
-        &built.net,
-        &built.table,
-        Drive::Cycles(list),
+    let asked = Asked {
+        drive: Drive::Cycles(list),
+        rows: list.cycles,
+        head,
         all,
-        list.cycles,
+    };
+    write_run(alloc, &mut sim, built, &asked, out)
+}
+
+/// Writes a text, then the first rows of a netlist that transactions of its signature drive: with `all` every port, else
+/// the outputs, each with a dash in a row that no transaction's interval for it covers.
+pub fn run_transactions<O: Sink>(
+    alloc: Global,
+    built: &Built,
+    txs: Transactions,
+    head: &[u8],
+    all: bool,
+    out: &mut O,
+) -> Result<(), Stop>
+    requires ready { IsReady built.now }
+    requires fits { AreTransactionsFor (netlist_of built.now.net) (seen txs.sig.now) txs.list.now }
+    ensures leaves { RunLeaves (transactions_run (netlist_of built.now.net) (seen txs.entry.sig.now) (tx_run_seen txs.entry.list.now) txs.entry.rows head.now all)
+        result (O.written out.old) (O.written out.new) }
+    ensures stops { IfErr result IsOfRun }
+    ensures write_fault { IsErrOf result Stop.WriteFault → Rose (O.faults out.old) (O.faults out.new) }
+    ensures never_falls { O.faults out.old ≤ O.faults out.new }
+{
+    let mut sim = Sim::new(alloc, &built.net, &built.table, &built.order)?;
+    let asked = Asked {
+        drive: Drive::Txs(txs.list, txs.sig),
+        rows: txs.rows,
+        head,
+        all,
+    };
+    write_run(alloc, &mut sim, built, &asked, out)
+}
+
+/// Writes what is asked of a simulation of the netlist that is loaded and has run no row.
+fn write_run<O: Sink>(
+    alloc: Global,
+    sim: &mut Sim,
+    built: &Built,
+    asked: &Asked,
+    out: &mut O,
+) -> Result<(), Stop>
+    requires ready { IsReady built.now }
+    requires net { netlist_of sim.old.net ≡ netlist_of built.now.net }
+    requires fresh { sim.old.phase ≡ Fresh }
+    requires fits { FitsDrive (netlist_of built.now.net) asked.now.drive }
+    ensures leaves { let n = netlist_of built.now.net in (loads : Text → List ℕ) → StandsAt n sim.old 0 (trace_of n asked.now.drive) loads
+        → RunLeaves (asked_run n asked.now loads) result (O.written out.old) (O.written out.new) }
+    ensures stops { IfErr result IsOfRun }
+    ensures write_fault { IsErrOf result Stop.WriteFault → Rose (O.faults out.old) (O.faults out.new) }
+    ensures never_falls { O.faults out.old ≤ O.faults out.new }
+{
+    let mut inputs = Inputs::new(alloc, &built.net, &built.table, asked.drive)?;
+    let mut view = View::new(alloc, &built.net, &built.table, asked.drive, asked.all)?;
+    let mut held = Gather::new(alloc)?;
+    held.push(out, asked.head)?;
+    let end = stream_rows(
+        sim,
+        &built.table,
+        asked.drive,
         &mut inputs,
+        &mut view,
+        asked.rows,
         &mut held,
         out,
     );
     match end {
         RowEnd::Done => {
-            finish(&sim, &built.net, &mut held, out)?;
+            finish(asked.drive, sim, &built.net, &mut held, out)?;
             Ok(())
         }
         RowEnd::Conflict { cycle, port } => {
@@ -104,18 +180,6 @@ fn load_memories(sim: &mut Sim, loads: &[MemLoad])
     for load in loads {
         load_memory(sim, load);
     }
-}
-
-/// A 0 for each of these ports, of its width.
-fn zeros(alloc: Global, ports: &[PortInfo]) -> Result<Vec<Bits>, Memory>
-    requires { All (λ port. (1 ≤ port.width) × (port.width ≤ MAX_WIDTH)) ports.now }
-    ensures { IfOk result (λ inputs. widths_of inputs.items ≡ map (λ port. port.width) ports.now) }
-{
-    let mut inputs = Vec::new(alloc);
-    for port in ports {
-        inputs.push(Bits::wrap(0, port.width))?;
-    }
-    Ok(inputs)
 }
 
 /// A Conflict in this row at the port with this number.

@@ -1,18 +1,19 @@
 //! The text of rows, passed on as they come.
-ghost use Rattle.std.specs.Prelude.{◌≡◌, ℕ, ◌<◌, ◌≤◌, [], ◌++◌, length, slice_get, slice_range, Some, OnOk, OnErr};
+ghost use Rattle.std.specs.Prelude.{◌≡◌, ◌+◌, ◌≤◌, [], ◌++◌, length, OnOk, OnErr};
 ghost use Rattle.std.specs.Io.KnownBytes.{Appends};
 ghost use Rattle.hw_io.specs.Faults.{Rose};
 ghost use Rattle.hw_io.specs.Writing.{AppendsPrefix, Passes};
-ghost use Rattle.filc_report.specs.Rows.{accepted_text, port_text, line_text};
+ghost use Rattle.filc_report.specs.Rows.{accepted_text, port_text, marked_port};
+ghost use Rattle.filc_report.specs.Views.{line_at};
 ghost use Rattle.filc_load.specs.Slots.{NumbersPortsAsNames};
 ghost use Rattle.filc_stop.specs.Stops.{joined};
 
+use crate::view::View;
 use filc_load::name_of;
 use hw_io::{Failed, Gather, Sink, write_whole};
 use itoa::Buffer;
 use net_core::Table;
 use net_sim::Sim;
-use std::ops::Range;
 
 /// Passes the texts on, one after another.
 pub(crate) fn push_texts<O: Sink>(
@@ -55,31 +56,63 @@ pub(crate) fn push_port<O: Sink>(
     push_texts(held, out, &texts)
 }
 
-/// Passes the line of a row on: the cycle, and these ports with their values in the row.
+/// Passes a port on, with its value or a dash.
+fn push_marked<O: Sink>(
+    held: &mut Gather,
+    out: &mut O,
+    port: &[u8],
+    value: u128,
+    shown: bool,
+) -> Result<(), Failed>
+    ensures passed { OnOk result (Passes (O.written out.old) held.old (O.written out.new) held.new (marked_port port.now value shown)) }
+    ensures prefix { OnErr result (AppendsPrefix (O.written out.old) (O.written out.new) (held.old ++ marked_port port.now value shown)) }
+    ensures emptied { OnErr result (held.new ≡ []) }
+    ensures failed { OnErr result (Rose (O.faults out.old) (O.faults out.new)) }
+    ensures never_falls { O.faults out.old ≤ O.faults out.new }
+{
+    if shown {
+        push_port(held, out, port, value)
+    } else {
+        push_texts(
+            held,
+            out,
+            &[" ".as_bytes(), port, "=".as_bytes(), "-".as_bytes()],
+        )
+    }
+}
+
+/// Passes the line of a row on: the cycle, and the ports of the view with their values in the row, where they are shown.
 pub(crate) fn push_row<O: Sink>(
     sim: &Sim,
     table: &Table,
-    ports: &Range<usize>,
+    view: &View,
     cycle: u64,
     held: &mut Gather,
     out: &mut O,
 ) -> Result<(), Failed>
-    requires in_order { ports.now.start ≤ ports.now.end }
-    requires named { ports.now.end ≤ length table.now.names }
+    requires marks { view.now.ports.start + length view.now.shown.items ≡ view.now.ports.end }
+    requires named { view.now.ports.end ≤ length table.now.names }
     requires numbers { NumbersPortsAsNames table.now }
-    requires evaluated { ports.now.end ≤ length sim.now.values }
+    requires evaluated { view.now.ports.end ≤ length sim.now.values }
     ensures passed { OnOk result (Passes (O.written out.old) held.old (O.written out.new) held.new
-        (line_text cycle (slice_range table.now.names ports.now.start ports.now.end) (slice_range sim.now.values ports.now.start ports.now.end))) }
-    ensures prefix { OnErr result (AppendsPrefix (O.written out.old) (O.written out.new)
-        (held.old ++ line_text cycle (slice_range table.now.names ports.now.start ports.now.end) (slice_range sim.now.values ports.now.start ports.now.end))) }
+        (line_at cycle table.now.names sim.now.values view.now)) }
+    ensures prefix { OnErr result (AppendsPrefix (O.written out.old) (O.written out.new) (held.old ++ line_at cycle table.now.names sim.now.values view.now)) }
     ensures emptied { OnErr result (held.new ≡ []) }
     ensures failed { OnErr result (Rose (O.faults out.old) (O.faults out.new)) }
     ensures never_falls { O.faults out.old ≤ O.faults out.new }
 {
     let mut digits = Buffer::new();
     held.push(out, digits.format(cycle).as_bytes())?;
-    for port in ports.start..ports.end {
-        push_port(held, out, name_of(table, port), sim.value(port).value())?;
+    let first = view.ports.start;
+    for at in 0..view.shown.len() {
+        let port = first + at;
+        push_marked(
+            held,
+            out,
+            name_of(table, port),
+            sim.value(port).value(),
+            view.shown[at],
+        )?;
     }
     held.push(out, "\n".as_bytes())
 }

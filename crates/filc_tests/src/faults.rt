@@ -2,7 +2,7 @@
 use crate::case::{CHECK, ROWS, Said, ask, files};
 use crate::counter::COUNTER;
 use crate::nets::NET;
-use crate::stimuli::{FLOW, SIM, TIMELINE, TRACE};
+use crate::stimuli::{FLOW, SIM, SIM_FIL, TIMELINE, TRACE, TRACE_FIL};
 use filc_core::{Ended, filc};
 use hw_io::MemSink;
 use std::alloc::Global;
@@ -66,6 +66,8 @@ const ASKED: &[(&[&str], &str, &str)] = &[
     (FLOW, SUM, SUM_STIMULUS),
     (TIMELINE, SUM, SUM_STIMULUS),
     (NET, SUM, ""),
+    (SIM_FIL, SUM, SUM_STIMULUS),
+    (TRACE_FIL, SUM, SUM_STIMULUS),
     (FLOW, SUM, "{"),
     (
         TRACE,
@@ -134,6 +136,8 @@ const READ: &[(&[&str], &str, &str, &str)] = &[
     (TRACE, GATED, GATED_STIMULUS, "read fault: f.net\n"),
     (FLOW, SUM, SUM_STIMULUS, "read fault: f.fil\n"),
     (TIMELINE, SUM, SUM_STIMULUS, "read fault: f.fil\n"),
+    (SIM_FIL, SUM, SUM_STIMULUS, "read fault: f.fil\n"),
+    (TRACE_FIL, SUM, SUM_STIMULUS, "read fault: f.fil\n"),
 ];
 
 // The design's two pieces come first, then the stimulus's.

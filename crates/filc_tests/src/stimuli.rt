@@ -12,6 +12,11 @@ pub(crate) const SIM: &[&str] = &["sim", "f.net", "s.json"];
 
 pub(crate) const TRACE: &[&str] = &["trace", "f.net", "s.json"];
 
+/// The words of the commands that run the netlist of a design.
+pub(crate) const SIM_FIL: &[&str] = &["sim", "f.fil", "s.json"];
+
+pub(crate) const TRACE_FIL: &[&str] = &["trace", "f.fil", "s.json"];
+
 /// The words of the commands that tell of transactions.
 pub(crate) const FLOW: &[&str] = &["flow", "f.fil", "s.json"];
 
@@ -180,6 +185,8 @@ const UNREAD: &[(&[&str], &str, &str)] = &[
         MAC,
         "read fault: t.json\n",
     ),
+    (&["sim", "f.fil", "t.json"], MAC, "read fault: t.json\n"),
+    (&["trace", "f.fil", "t.json"], MAC, "read fault: t.json\n"),
     // The design is read first.
     (&["sim", "g.net", "t.json"], COUNTER, "read fault: g.net\n"),
     (
@@ -189,6 +196,8 @@ const UNREAD: &[(&[&str], &str, &str)] = &[
     ),
     (&["flow", "g.fil", "t.json"], MAC, "read fault: g.fil\n"),
     (&["timeline", "g.fil", "s.json"], MAC, "read fault: g.fil\n"),
+    (&["sim", "g.fil", "t.json"], MAC, "read fault: g.fil\n"),
+    (&["trace", "g.fil", "s.json"], MAC, "read fault: g.fil\n"),
 ];
 
 /// Words, a design that is refused, and how; the stimulus isn't looked for.
@@ -223,6 +232,16 @@ const UNFIT: &[(&[&str], &str, &str)] = &[
         "comp A<G: 1>(@[G, G+2] a: 8) -> () {}",
         "refused F6 A item 0\n",
     ),
+    (
+        &["sim", "f.fil", "t.json"],
+        "comp A<G: 1>(@[G, G+2] a: 8) -> () {}",
+        "refused F6 A item 0\n",
+    ),
+    (
+        &["trace", "f.fil", "t.json"],
+        "comp A<G: 1>(",
+        "refused grammar at byte 13\n",
+    ),
 ];
 
 /// Words that ask for nothing.
@@ -234,7 +253,13 @@ const UNASKED: &[&[&str]] = &[
     &["sim", "f.net", "s.json", "5"],
     &["sim", ".net", "s.json"],
     &["sim", "s.json", "f.net"],
-    &["sim", "f.fil", "s.json"],
+    &["sim", "f.fil"],
+    &["sim", "f.fil", ""],
+    &["sim", ".fil", "s.json"],
+    &["sim", "f.fil", "s.json", "s.json"],
+    &["trace", "f.fil"],
+    &["trace", "f.fil", "-s.json"],
+    &["trace", "-f.fil", "s.json"],
     &["trace", "-f.net", "s.json"],
     &["trace", "f.net"],
     &["flow", "f.fil"],

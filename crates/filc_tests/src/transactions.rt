@@ -63,7 +63,7 @@ const DUO: StimulusCase = StimulusCase {
 };
 
 /// The component with two events is used by times on one event, and on two.
-const USED: StimulusCase = StimulusCase {
+pub(crate) const USED: StimulusCase = StimulusCase {
     name: "a component with two events",
     text: "comp Duo<G: 1, H: 2>(@interface[G] go: 1, @interface[H] ho: 1, @[H, H+1] b: 8, @[G, G+1] a: 8)
   -> (@[H, H+1] q: 8, @[G+1, G+2] p: 8) {
@@ -89,7 +89,7 @@ comp Top<S: 3, T: 3>(@interface[S] so: 1, @interface[T] to: 1, @[S, S+1] x: 8, @
 
 /// A component is used three times, twice by one instance, with values of its own each time; the design's last component
 /// isn't its top.
-const STEPS: StimulusCase = StimulusCase {
+pub(crate) const STEPS: StimulusCase = StimulusCase {
     name: "components in components",
     text: "comp Step<G: 1>(@interface[G] go: 1, @[G, G+1] a: 8, @[G, G+1] b: 8) -> (@[G+2, G+3] high: 8, @[G, G+1] low: 8) {
   p := new FastMult[8]<G>(a, b);
@@ -118,7 +118,7 @@ comp After<G: 1>() -> (@[G, G+1] none: 1) { none = 1'd1; }
 };
 
 /// The event `E` has no port at all, and `F` no output.
-const BARE: StimulusCase = StimulusCase {
+pub(crate) const BARE: StimulusCase = StimulusCase {
     name: "events without outputs",
     text: "comp Bare<E: 1, F: 2>(@interface[F] go: 1, @[F, F+1] a: 8) -> () {}",
     stimulus: r#"{"version":2,"transactions":[{"start":0,"inputs":{}},{"start":1000000,"inputs":{}},{"event":"F","start":3,"inputs":{"a":1}}]}"#,

@@ -19,4 +19,4 @@ mod txs;
 pub use cycles::read_cycles;
 pub use limits::{MOST_CYCLES, MOST_TRANSACTIONS};
 pub use stim_end::StimEnd;
-pub use txs::read_txs;
+pub use txs::{read_txs, run_rows_of};

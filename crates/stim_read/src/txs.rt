@@ -191,3 +191,13 @@ pub fn read_txs(alloc: Global, bytes: &[u8], sig: &TimeSig) -> Result<TxList, St
     let events = Events::of(alloc, sig)?;
     judge(alloc, &events, text)
 }
+
+/// How many rows a run of these transactions has: the last of their intervals ends there.
+pub fn run_rows_of(alloc: Global, sig: &TimeSig, txs: &[Tx]) -> Result<u64, Memory>
+    requires events { AreDistinct (event_names (seen sig.now)) }
+    requires inputs { AreDistinct (port_targets (seen sig.now).ins).names }
+    ensures { IfOk result (λ rows. rows ≡ run_rows (events_of (seen sig.now)).events (map transaction_seen txs.now)) }
+{
+    let events = Events::of(alloc, sig)?;
+    Ok(run_rows(&events.inputs, txs))
+}

@@ -2,24 +2,17 @@
 use Rattle.std.specs.Prelude.{◌≡◌, ◌⊎◌, [], ◌∷◌, codes, Some, None}
 use Rattle.hw_names.specs.Name.{Text}
 use Rattle.net_core.specs.Netlist.{Netlist}
-use Rattle.net_text.specs.Reading.{Spells}
 use Rattle.fil_ast.specs.Tree.{Design}
-use Rattle.fil_fsm.specs.Refines.{Refines}
 use Rattle.filc_load.specs.Source.{FileGivesFil, IsAccepted, IsRefusedForSource}
 use Rattle.filc_stop.specs.Outcome.{Contents, Outcome, done_with}
 use Rattle.filc_stop.specs.Stops.{IsOfSource, IsWritingStop}
 use Rattle.filc_stop.specs.declared.language.Language.TheVariants.{Filament}
+use Rattle.filc_run.specs.Traced.{IsNetOf}
 use Rattle.filc_core.specs.Command.{Command}
 use Rattle.filc_core.specs.Words.{IsFileIn}
 
 pub record NetFil : Type 0 where
   pub file : Text
-
--- the text spells a netlist that keeps what the design promises: for every legal list of transactions, overlapping as it may, each instance at each path
--- carries what the list gives it
-pub record IsNetOf (design : Design) (net : Netlist) (made : Text) : Type 0 where
-  pub refines : Refines design net
-  pub spells : Spells made net
 
 -- the text is that of such a netlist for the design of the file
 pub record IsMadeFrom (contents : Contents) (file made : Text) : Type 0 where

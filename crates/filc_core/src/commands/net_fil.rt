@@ -1,21 +1,14 @@
 //! The command `net` of a Filament design: the text of its netlist.
-ghost use Rattle.std.specs.Prelude.{map, MatchOption, IfOk};
-ghost use Rattle.fil_ast.specs.Tree.{design_of};
-ghost use Rattle.net_core.specs.Netlist.{Netlist};
-ghost use Rattle.filc_load.specs.Built.{IsFilReady};
+ghost use Rattle.std.specs.Prelude.{map, MatchOption};
 ghost use Rattle.filc_core.specs.Request.{OfNetFil, Asks};
-ghost use Rattle.filc_core.specs.commands.NetFil.{IsNetOf};
 
 use crate::commands::Command;
 use crate::words::is_file_in;
-use fil_ast::FilOk;
-use fil_net::net_of;
-use filc_load::{FilBuilt, fil_file};
+use filc_load::fil_file;
 use filc_report::write_text;
+use filc_run::text_of;
 use filc_stop::{Language, Stop};
-use hw_bits::Memory;
 use hw_io::{Files, Sink};
-use net_text::print_net;
 use std::alloc::Global;
 
 /// The text of the netlist of a Filament design.
@@ -37,15 +30,6 @@ impl<'a> NetFil<'a> {
             _ => None,
         }
     }
-}
-
-/// The text of the netlist of a design.
-fn text_of(alloc: Global, built: &FilBuilt) -> Result<Vec<u8>, Memory>
-    requires { IsFilReady built.now }
-    ensures { IfOk result (λ text. (net : Netlist) × IsNetOf (design_of built.now.design) net text.items) }
-{
-    let net = net_of(alloc, &FilOk::new(&built.design))?;
-    print_net(alloc, &net)
 }
 
 impl Command for NetFil<'_> {

@@ -1,19 +1,14 @@
 //! The command `trace` of a netlist: its text, and the rows of all its ports under a stimulus.
-ghost use Rattle.std.specs.Prelude.{map, MatchOption, ◌≡◌, ◌∷◌, ◌++◌, [], IfOk};
-ghost use Rattle.net_core.specs.Netlist.{netlist_of};
-ghost use Rattle.net_core.specs.Numbers.{HasNumbers};
-ghost use Rattle.net_text.specs.Layout.{net_text};
+ghost use Rattle.std.specs.Prelude.{map, MatchOption};
 ghost use Rattle.filc_core.specs.Request.{OfTraceNet, Asks};
 
 use crate::commands::Command;
 use crate::commands::net_run::Driven;
 use filc_load::{net_file, stimulus};
 use filc_report::run;
+use filc_run::with_empty_line;
 use filc_stop::Stop;
-use hw_bits::Memory;
 use hw_io::{Files, Sink};
-use net_core::Net;
-use net_text::print_net;
 use std::alloc::Global;
 
 /// A netlist's text, and the rows of all its ports, as a stimulus drives it.
@@ -30,16 +25,6 @@ impl<'a> TraceNet<'a> {
     {
         Some(TraceNet(Driven::asked("trace", words)?))
     }
-}
-
-/// A netlist's text and an empty line.
-fn text_of(alloc: Global, net: &Net) -> Result<Vec<u8>, Memory>
-    requires { HasNumbers net.now }
-    ensures { IfOk result (λ text. text.items ≡ net_text (netlist_of net.now) ++ 10 ∷ []) }
-{
-    let mut text = print_net(alloc, net)?;
-    text.push(b'\n')?;
-    Ok(text)
 }
 
 impl Command for TraceNet<'_> {
@@ -63,7 +48,7 @@ impl Command for TraceNet<'_> {
     ) -> Result<(), Stop> {
         let built = net_file::load(alloc, self.0.file, files)?;
         let list = stimulus::load_cycles(alloc, self.0.stimulus, &built, files)?;
-        let text = text_of(alloc, &built.net)?;
+        let text = with_empty_line(alloc, &built.net)?;
         run(alloc, &built, &list, &text, true, out)
     }
 }

@@ -15,7 +15,7 @@ returns-in-Ok-clause-streamed g c =
     let told = g.O.Sink.written in
     let row = running c.args.sim.now.phase (IsRowOfSim c.args.sim.now (values_of c.args.inputs.now) c.row.new.self None) c.requires.goes_on c.in_default.ensures.running in
     let edge = subst (λ (p : Phase). IfEvaluated p (IsEdgeOfSim c.row.new.self c.edge.new.self)) row.phase c.edge.ensures.evaluated in
-    let line = line_of_table (netlist_of c.args.sim.now.net) c.args.table.now.names c.row.new.self.values c.args.ports.now.start c.args.ports.now.end c.args.cycle c.requires.table.names c.requires.distinct (row.values ∙ length-map (ports_of (netlist_of c.args.sim.now.net)) (λ (p : PortLine). p.name)) in
+    let line = line_of_table (netlist_of c.args.sim.now.net) c.args.table.now.names c.row.new.self.values c.args.view.now c.args.cycle c.requires.table.names c.requires.distinct (row.values ∙ length-map (ports_of (netlist_of c.args.sim.now.net)) (λ (p : PortLine). p.name)) in
     record {
       between = c.row.new.self;
       row = row;
@@ -27,7 +27,7 @@ pub returns-in-Err-push_row-clause-streamed : goal.returns-in-Err-push_row-claus
 returns-in-Err-push_row-clause-streamed g c =
     let told = g.O.Sink.written in
     let row = running c.args.sim.now.phase (IsRowOfSim c.args.sim.now (values_of c.args.inputs.now) c.row.new.self None) c.requires.goes_on c.in_default.ensures.running in
-    let line = line_of_table (netlist_of c.args.sim.now.net) c.args.table.now.names c.row.new.self.values c.args.ports.now.start c.args.ports.now.end c.args.cycle c.requires.table.names c.requires.distinct (row.values ∙ length-map (ports_of (netlist_of c.args.sim.now.net)) (λ (p : PortLine). p.name)) in
+    let line = line_of_table (netlist_of c.args.sim.now.net) c.args.table.now.names c.row.new.self.values c.args.view.now c.args.cycle c.requires.table.names c.requires.distinct (row.values ∙ length-map (ports_of (netlist_of c.args.sim.now.net)) (λ (p : PortLine). p.name)) in
     record {
       row = row;
       emptied = c.in-Err-push_row.ensures.emptied;

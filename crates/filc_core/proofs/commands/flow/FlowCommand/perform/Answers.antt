@@ -12,13 +12,13 @@ use Rattle.filc_core.proofs.commands.flow.FlowCommand.perform.Goals as goal
 pub returns-in_err-built : goal.returns-in_err-built
 returns-in_err-built g c =
     let is = is_started (codes "flow") flow_of_top (flow_told c.args.self.now) in let failed = c.in_err-built.ensures in
-    source_stops (OfFlow (flow_told c.args.self.now)) is.reads failed.files c.in_err-built.field-0.0 c.from_residual.ensures.1 failed.unread failed.known failed.read_fault failed.stops
+    source_stops (OfFlow (flow_told c.args.self.now)) is.reading.reads failed.files c.in_err-built.field-0.0 c.from_residual.ensures.1 failed.unread failed.known failed.read_fault failed.stops
 
 pub returns-in_err-list : goal.returns-in_err-list
 returns-in_err-list g c =
     let is = is_started (codes "flow") flow_of_top (flow_told c.args.self.now) in let built = c.in_ok-built.built in let first = c.in_ok-built.ensures in let failed = c.in_err-list.ensures in
     let found = has_top (design_of built.design) built.top first.ready.top in let top : Top = record { design = design_of built.design; number = built.top; comp = found.0 } in
-    started_stops (OfFlow (flow_told c.args.self.now)) is top found.1 (record { files = first.files; known = first.known; accepted = λ told. (top.design, first.read told) }) first.read failed.files
+    started_stops (OfFlow (flow_told c.args.self.now)) is.reading top found.1 (record { files = first.files; known = first.known; accepted = λ told. (top.design, first.read told) }) first.read failed.files
     c.in_err-list.field-0.0 c.from_residual-in_err-list.ensures.1 (failed.refused found.0 found.1.at) failed.known failed.read_fault failed.stops
 
 pub write_flows-requires-clause-fits : goal.write_flows-requires-clause-fits

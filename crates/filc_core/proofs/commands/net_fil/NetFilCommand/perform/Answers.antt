@@ -3,7 +3,7 @@ use Rattle.fil_ast.specs.Tree.{design_of}
 use Rattle.filc_stop.proofs.SinkLemmas.{keeps_all}
 use Rattle.filc_stop.specs.declared.language.Language.TheVariants.{Filament}
 use Rattle.filc_stop.specs.declared.stop.Stop.TheVariants as stop
-use Rattle.filc_core.proofs.NetFilLemmas.{net_fil_reads, net_fil_made, net_fil_leaves}
+use Rattle.filc_core.proofs.NetFilLemmas.{made_of_file, net_fil_reads, net_fil_leaves}
 use Rattle.filc_core.proofs.PerformLemmas.{source_stops, read_one, reports, report_stops, design_told}
 use Rattle.filc_core.specs.Request.{OfNetFil}
 use Rattle.filc_core.specs.Told.{net_fil_told}
@@ -25,7 +25,7 @@ returns-in_err-write_text g c =
     let asked = net_fil_told c.args.self.now in let contents = g.F.Files.content c.args.files.now in let made = c.in_ok-text.text.items in let first = c.in_ok-built.ensures in let failed = c.in_err-write_text.ensures in
     report_stops (read_one (OfNetFil asked) (net_fil_reads asked) refl first.files first.known) stop.WriteFault c.from_residual-in_err-write_text.ensures.1
     (λ told. net_fil_leaves asked contents made
-    (net_fil_made asked contents (design_of c.in_ok-built.built.design) made (first.read (design_told (OfNetFil asked) Filament asked.file (net_fil_reads asked) contents told)) c.in_ok-text.ensures)
+    (made_of_file contents asked.file (design_of c.in_ok-built.built.design) made (first.read (design_told (OfNetFil asked) Filament asked.file (net_fil_reads asked) contents told)) c.in_ok-text.ensures)
     (g.O.Sink.written c.args.out.now) (g.O.Sink.written c.write_text.new.out) (Err stop.WriteFault) tt (rw c.deref.ensures.value at failed.prefix) tt)
     (inr tt) tt (λ why. failed.failed) failed.never_falls
 
@@ -34,6 +34,6 @@ returns g c =
     let asked = net_fil_told c.args.self.now in let contents = g.F.Files.content c.args.files.now in let made = c.in_ok-text.text.items in let first = c.in_ok-built.ensures in let wrote = c.in_ok-write_text.ensures in
     reports (read_one (OfNetFil asked) (net_fil_reads asked) refl first.files first.known)
     (λ told. net_fil_leaves asked contents made
-    (net_fil_made asked contents (design_of c.in_ok-built.built.design) made (first.read (design_told (OfNetFil asked) Filament asked.file (net_fil_reads asked) contents told)) c.in_ok-text.ensures)
+    (made_of_file contents asked.file (design_of c.in_ok-built.built.design) made (first.read (design_told (OfNetFil asked) Filament asked.file (net_fil_reads asked) contents told)) c.in_ok-text.ensures)
     (g.O.Sink.written c.args.out.now) (g.O.Sink.written c.write_text.new.out) (Ok tt) (rw c.deref.ensures.value at wrote.appended) tt tt)
     tt tt (λ fault. absurd (let e = fault in cc e)) wrote.never_falls

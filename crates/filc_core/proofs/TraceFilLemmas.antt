@@ -1,0 +1,44 @@
+-- What comes of `trace` of a Filament design.
+use Rattle.std.proofs.Common.{◌≡◌, Option, Result, refl, ap, subst, inl, inr, ⊎_elim}
+use Rattle.hw_names.specs.Name.{Text}
+use Rattle.stim_read.specs.TxRun.{TxRun}
+use Rattle.filc_run.specs.Traced.{IsMadeOf, Traces}
+use Rattle.filc_stop.specs.Leaving.{Leaves}
+use Rattle.filc_stop.specs.Outcome.{Contents, Outcome}
+use Rattle.filc_stop.specs.declared.ended.Ended.TheVariants.{Done}
+use Rattle.filc_stop.specs.declared.language.Language.TheVariants.{Filament}
+use Rattle.filc_stop.specs.declared.stop.Stop.{Stop}
+use Rattle.filc_core.proofs.NetFilLemmas.{made_of_file}
+use Rattle.filc_core.proofs.PerformLemmas.{leaves_of}
+use Rattle.filc_core.proofs.SourceLemmas.{accepted_not_refused}
+use Rattle.filc_core.proofs.StartedLemmas.{ReadsTransactions, top_not_refused, given_top, given_run}
+use Rattle.filc_core.specs.commands.TraceFil.{trace_fil}
+use Rattle.filc_core.specs.commands.Transactions.{Started, Top, GivesTransactionsOf}
+
+pub trace_fil_reading : (c : Started) → ReadsTransactions (trace_fil c) c
+trace_fil_reading c = record {
+  reads = record { design = refl; refused = λ contents o refused. inl refused; stops = λ why of. inl of };
+  takes = refl;
+  refused = λ contents top gives o refused. inr (inl (record { top = top; gives = gives; refused = refused }));
+  stops = λ why of. ⊎_elim (λ s. inr (inl s)) (λ s. inr (inr s)) of;
+}
+
+module _ (c : Started) (contents : Contents) (top : Top) (run : TxRun) (gives : GivesTransactionsOf c contents top run) where
+  -- of transactions comes a trace of them, alone
+  pub trace_fil_comes : (made : Text) (o : Outcome) → (trace_fil c).comes contents made o → Traces top.design top.comp run made o
+  trace_fil_comes made o (inl refused) = absurd (accepted_not_refused contents c.file Filament o (top.design, gives.gives_top.gives) refused)
+  trace_fil_comes made o (inr (inl refused)) = absurd (top_not_refused c contents top run gives o refused)
+  trace_fil_comes made o (inr (inr prints)) =
+      subst (λ (a : TxRun). Traces top.design top.comp a made o) (given_run c contents top run gives prints.top prints.run prints.gives)
+      (subst (λ (t : Top). Traces t.design t.comp prints.run made o) (given_top c contents top run gives prints.top prints.run prints.gives) prints.traces)
+
+  -- which is the whole report
+  pub trace_fil_done : (made : Text) (o : Outcome) → (trace_fil c).comes contents made o → o.ended ≡ Done
+  trace_fil_done made o comes = ap (λ (x : Outcome). x.ended) (trace_fil_comes made o comes).outcome
+
+  -- what is left of a trace is what the command leaves
+  pub trace_fil_leaves : (result : Result (Unit {0}) Stop) (out out' : Option Text) → Leaves (IsMadeOf top.design) (Traces top.design top.comp run) result out out' → Leaves ((trace_fil c).makes contents) ((trace_fil c).comes contents) result out out'
+  trace_fil_leaves =
+      leaves_of (IsMadeOf top.design) ((trace_fil c).makes contents) (Traces top.design top.comp run) ((trace_fil c).comes contents)
+      (λ made is. made_of_file contents c.file top.design made gives.gives_top.gives is)
+      (λ made o traces. inr (inr (record { top = top; run = run; gives = gives; traces = traces }))) trace_fil_comes

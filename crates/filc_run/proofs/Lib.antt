@@ -1,0 +1,4 @@
+pub mod TextLemmas
+pub mod FitLemmas
+pub mod MeantLemmas
+pub mod TraceLemmas
