@@ -6,9 +6,10 @@ use Rattle.std.specs.Prelude.{reverse, bytes_eq}
 use Rattle.hw_names.specs.Name.{Text}
 use Rattle.filc_stop.specs.declared.language.Language.{Language}
 use Rattle.filc_stop.specs.declared.language.Language.TheVariants.{Netlists, Filament}
-use Rattle.filc_core.specs.Request.{Request, OfCheck, OfRows, OfSimNet, OfTraceNet, OfFlow, OfTimeline, OfNetFil, OfSimFil, OfTraceFil, command_of, Asks, AskNothing}
+use Rattle.filc_core.specs.Request.{Request, OfCheck, OfRows, OfSimNet, OfTraceNet, OfFlow, OfTimeline, OfNetFil, OfSimFil, OfTraceFil, OfLowerFil, command_of, Asks, AskNothing}
 use Rattle.filc_core.specs.Words.{IsFileIn}
 use Rattle.filc_core.specs.commands.Check.{Check}
+use Rattle.filc_core.specs.commands.LowerFil.{LowerFil}
 use Rattle.filc_core.specs.commands.NetFil.{NetFil}
 use Rattle.filc_core.specs.commands.Rows.{Rows}
 use Rattle.filc_core.specs.commands.NetRun as net_run
@@ -49,12 +50,14 @@ kind_of (OfTimeline c) = 5
 kind_of (OfNetFil c) = 6
 kind_of (OfSimFil c) = 2
 kind_of (OfTraceFil c) = 3
+kind_of (OfLowerFil c) = 7
 
 abbrev kind_by_word : Text → ℕ
 kind_by_word word =
     if bytes_eq word (codes "check") then 0 else if bytes_eq word (codes "rows") then 1
     else if bytes_eq word (codes "sim") then 2 else if bytes_eq word (codes "trace") then 3
-    else if bytes_eq word (codes "flow") then 4 else if bytes_eq word (codes "timeline") then 5 else 6
+    else if bytes_eq word (codes "flow") then 4 else if bytes_eq word (codes "timeline") then 5
+    else if bytes_eq word (codes "net") then 6 else 7
 
 word_tells : (r : Request) → kind_by_word (get_or (command_of r).words 0 []) ≡ kind_of r
 word_tells (OfCheck c) = refl
@@ -66,6 +69,7 @@ word_tells (OfTimeline c) = refl
 word_tells (OfNetFil c) = refl
 word_tells (OfSimFil c) = refl
 word_tells (OfTraceFil c) = refl
+word_tells (OfLowerFil c) = refl
 
 same_kind : (words : List Text) (r r' : Request) → Asks words r → Asks words r' → kind_of r ≡ kind_of r'
 same_kind words r r' asks asks' = sym (word_tells r) ∙ ap (λ (ws : List Text). kind_by_word (get_or ws 0 [])) (sym asks.0 ∙ asks'.0) ∙ word_tells r'
@@ -101,6 +105,9 @@ asks_once words (OfNetFil c) (OfNetFil d) asks asks' =
     λ k. OfNetFil (record { file = file k })
 asks_once words (OfSimFil c) (OfSimFil d) asks asks' = ap OfSimFil (same_started words (codes "sim") c d asks.0 asks'.0)
 asks_once words (OfTraceFil c) (OfTraceFil d) asks asks' = ap OfTraceFil (same_started words (codes "trace") c d asks.0 asks'.0)
+asks_once words (OfLowerFil c) (OfLowerFil d) asks asks' =
+    let file : c.file ≡ d.file = ap (λ (ws : List Text). get_or ws 1 []) (sym asks.0 ∙ asks'.0) in
+    λ k. OfLowerFil (record { file = file k })
 asks_once words (OfSimNet c) (OfSimFil d) asks asks' = absurd (no_other_file words c.file d.file (ap second_of asks.0) (ap second_of asks'.0) asks.1.0 asks'.1.0)
 asks_once words (OfSimFil c) (OfSimNet d) asks asks' = absurd (no_other_file words d.file c.file (ap second_of asks'.0) (ap second_of asks.0) asks'.1.0 asks.1.0)
 asks_once words (OfTraceNet c) (OfTraceFil d) asks asks' = absurd (no_other_file words c.file d.file (ap second_of asks.0) (ap second_of asks'.0) asks.1.0 asks'.1.0)
@@ -112,13 +119,14 @@ pub none_asked : (words : List Text) → ((c : Check) → Asks words (OfCheck c)
     → ((c : Driven) → Asks words (OfSimNet c) → ⊥) → ((c : Driven) → Asks words (OfTraceNet c) → ⊥)
     → ((c : Started) → Asks words (OfFlow c) → ⊥) → ((c : Started) → Asks words (OfTimeline c) → ⊥)
     → ((c : NetFil) → Asks words (OfNetFil c) → ⊥) → ((c : Started) → Asks words (OfSimFil c) → ⊥)
-    → ((c : Started) → Asks words (OfTraceFil c) → ⊥) → AskNothing words
-none_asked words check rows sim trace flow timeline net sim_fil trace_fil (OfCheck c) asks = check c asks
-none_asked words check rows sim trace flow timeline net sim_fil trace_fil (OfRows c) asks = rows c asks
-none_asked words check rows sim trace flow timeline net sim_fil trace_fil (OfSimNet c) asks = sim c asks
-none_asked words check rows sim trace flow timeline net sim_fil trace_fil (OfTraceNet c) asks = trace c asks
-none_asked words check rows sim trace flow timeline net sim_fil trace_fil (OfFlow c) asks = flow c asks
-none_asked words check rows sim trace flow timeline net sim_fil trace_fil (OfTimeline c) asks = timeline c asks
-none_asked words check rows sim trace flow timeline net sim_fil trace_fil (OfNetFil c) asks = net c asks
-none_asked words check rows sim trace flow timeline net sim_fil trace_fil (OfSimFil c) asks = sim_fil c asks
-none_asked words check rows sim trace flow timeline net sim_fil trace_fil (OfTraceFil c) asks = trace_fil c asks
+    → ((c : Started) → Asks words (OfTraceFil c) → ⊥) → ((c : LowerFil) → Asks words (OfLowerFil c) → ⊥) → AskNothing words
+none_asked words check rows sim trace flow timeline net sim_fil trace_fil lower (OfCheck c) asks = check c asks
+none_asked words check rows sim trace flow timeline net sim_fil trace_fil lower (OfRows c) asks = rows c asks
+none_asked words check rows sim trace flow timeline net sim_fil trace_fil lower (OfSimNet c) asks = sim c asks
+none_asked words check rows sim trace flow timeline net sim_fil trace_fil lower (OfTraceNet c) asks = trace c asks
+none_asked words check rows sim trace flow timeline net sim_fil trace_fil lower (OfFlow c) asks = flow c asks
+none_asked words check rows sim trace flow timeline net sim_fil trace_fil lower (OfTimeline c) asks = timeline c asks
+none_asked words check rows sim trace flow timeline net sim_fil trace_fil lower (OfNetFil c) asks = net c asks
+none_asked words check rows sim trace flow timeline net sim_fil trace_fil lower (OfSimFil c) asks = sim_fil c asks
+none_asked words check rows sim trace flow timeline net sim_fil trace_fil lower (OfTraceFil c) asks = trace_fil c asks
+none_asked words check rows sim trace flow timeline net sim_fil trace_fil lower (OfLowerFil c) asks = lower c asks

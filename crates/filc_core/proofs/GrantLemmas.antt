@@ -10,6 +10,7 @@ use Rattle.filc_stop.specs.declared.ended.Ended.{Ended}
 use Rattle.filc_stop.specs.declared.ended.Ended.TheVariants.{Done, Conflict}
 use Rattle.filc_stop.specs.declared.language.Language.TheVariants.{Netlists, Filament}
 use Rattle.filc_core.proofs.CheckLemmas.{check_reads, check_comes}
+use Rattle.filc_core.proofs.LowerFilLemmas.{lower_fil_reads, lower_fil_comes}
 use Rattle.filc_core.proofs.NetFilLemmas.{net_fil_reads, net_fil_comes}
 use Rattle.filc_core.proofs.NetRunLemmas.{net_run_reads, net_run_comes}
 use Rattle.filc_core.proofs.PerformLemmas.{one_told, both_told}
@@ -18,7 +19,7 @@ use Rattle.filc_core.proofs.SourceLemmas.{is_told}
 use Rattle.filc_core.proofs.StartedLemmas.{started_reads, started_comes}
 use Rattle.filc_core.proofs.TraceFilLemmas.{trace_fil_reading, trace_fil_done}
 use Rattle.filc_core.specs.Files.{IsToldFor}
-use Rattle.filc_core.specs.Request.{Request, OfCheck, OfRows, OfSimNet, OfTraceNet, OfFlow, OfTimeline, OfNetFil, OfSimFil, OfTraceFil, command_of}
+use Rattle.filc_core.specs.Request.{Request, OfCheck, OfRows, OfSimNet, OfTraceNet, OfFlow, OfTimeline, OfNetFil, OfSimFil, OfTraceFil, OfLowerFil, command_of}
 use Rattle.filc_core.specs.commands.NetRun as net_run
 use Rattle.filc_core.specs.commands.NetRun.{Driven}
 use Rattle.filc_core.specs.commands.Flow.{flow_of_top}
@@ -60,6 +61,7 @@ granted_ends (OfTimeline c) contents made o granted comes = started_ends (codes 
 granted_ends (OfNetFil c) contents made o granted comes = inl (ap (λ (x : Outcome). x.ended) (net_fil_comes c contents made o granted comes))
 granted_ends (OfSimFil c) contents made o granted comes = started_ends (codes "sim") rows_of_top c contents granted made o comes
 granted_ends (OfTraceFil c) contents made o granted comes = inl (trace_fil_done c contents granted.top granted.run granted.gives made o comes)
+granted_ends (OfLowerFil c) contents made o granted comes = inl (ap (λ (x : Outcome). x.ended) (lower_fil_comes c contents made o granted comes))
 
 -- and its files are told
 pub granted_told : (r : Request) (contents : Contents) → (command_of r).granted contents → IsToldFor contents r
@@ -78,3 +80,4 @@ granted_told (OfSimFil c) contents granted =
     both_told (OfSimFil c) Filament c.file (started_reads (codes "sim") rows_of_top c) c.stimulus refl contents (granted.top.design, granted.gives.gives_top.gives) (list_is_told c contents granted)
 granted_told (OfTraceFil c) contents granted =
     both_told (OfTraceFil c) Filament c.file (trace_fil_reading c).reads c.stimulus refl contents (granted.top.design, granted.gives.gives_top.gives) (list_is_told c contents granted)
+granted_told (OfLowerFil c) contents granted = one_told (OfLowerFil c) Filament c.file (lower_fil_reads c) contents refl granted

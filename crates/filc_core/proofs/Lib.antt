@@ -7,6 +7,7 @@ pub mod RowsLemmas
 pub mod NetRunLemmas
 pub mod StartedLemmas
 pub mod NetFilLemmas
+pub mod LowerFilLemmas
 pub mod TraceFilLemmas
 pub mod AskLemmas
 pub mod GrantLemmas

@@ -5,6 +5,7 @@ use Rattle.hw_names.specs.Name.{Text}
 use Rattle.filc_core.specs.Command.{Command, DesignFile}
 use Rattle.filc_core.specs.commands.Check.{Check, check}
 use Rattle.filc_core.specs.commands.Flow.{flow}
+use Rattle.filc_core.specs.commands.LowerFil.{LowerFil, lower_fil}
 use Rattle.filc_core.specs.commands.NetFil.{NetFil, net_fil}
 use Rattle.filc_core.specs.commands.NetRun.{Driven}
 use Rattle.filc_core.specs.commands.Rows.{Rows, rows}
@@ -26,6 +27,7 @@ pub data Request : Type 0 where
   OfNetFil : NetFil → Request
   OfSimFil : Started → Request
   OfTraceFil : Started → Request
+  OfLowerFil : LowerFil → Request
 
 abbrev pub command_of : Request → Command
 command_of (OfCheck c) = check c
@@ -37,6 +39,7 @@ command_of (OfTimeline c) = timeline c
 command_of (OfNetFil c) = net_fil c
 command_of (OfSimFil c) = sim_fil c
 command_of (OfTraceFil c) = trace_fil c
+command_of (OfLowerFil c) = lower_fil c
 
 -- the words ask for this, exactly
 abbrev pub Asks : List Text → Request → Type 0

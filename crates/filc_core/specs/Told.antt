@@ -1,12 +1,14 @@
 -- The program's own values, as what they say.
-use Rattle.filc_core.specs.Request.{Request, OfCheck, OfRows, OfSimNet, OfTraceNet, OfFlow, OfTimeline, OfNetFil, OfSimFil, OfTraceFil}
+use Rattle.filc_core.specs.Request.{Request, OfCheck, OfRows, OfSimNet, OfTraceNet, OfFlow, OfTimeline, OfNetFil, OfSimFil, OfTraceFil, OfLowerFil}
 use Rattle.filc_core.specs.commands.Check.{Check}
+use Rattle.filc_core.specs.commands.LowerFil.{LowerFil}
 use Rattle.filc_core.specs.commands.NetFil.{NetFil}
 use Rattle.filc_core.specs.commands.NetRun.{Driven}
 use Rattle.filc_core.specs.commands.Rows.{Rows}
 use Rattle.filc_core.specs.commands.Transactions.{Started}
 use Rattle.filc_core.specs.declared.commands.check.Check.{Check as CheckValue}
 use Rattle.filc_core.specs.declared.commands.flow.Flow.{Flow as FlowValue}
+use Rattle.filc_core.specs.declared.commands.lower_fil.LowerFil.{LowerFil as LowerFilValue}
 use Rattle.filc_core.specs.declared.commands.net_fil.NetFil.{NetFil as NetFilValue}
 use Rattle.filc_core.specs.declared.commands.net_run.Driven.{Driven as DrivenValue}
 use Rattle.filc_core.specs.declared.commands.rows.Rows.{Rows as RowsValue}
@@ -27,6 +29,9 @@ rows_told c = record { file = c.file.now; cycles = c.cycles }
 
 abbrev pub net_fil_told : NetFilValue → NetFil
 net_fil_told c = record { file = c.file.now }
+
+abbrev pub lower_fil_told : LowerFilValue → LowerFil
+lower_fil_told c = record { file = c.file.now }
 
 abbrev pub driven_told : DrivenValue → Driven
 driven_told c = record { file = c.file.now; stimulus = c.stimulus.now }
@@ -62,3 +67,4 @@ request_told (value.Timeline c) = OfTimeline (timeline_told c)
 request_told (value.NetFil c) = OfNetFil (net_fil_told c)
 request_told (value.SimFil c) = OfSimFil (sim_fil_told c)
 request_told (value.TraceFil c) = OfTraceFil (trace_fil_told c)
+request_told (value.LowerFil c) = OfLowerFil (lower_fil_told c)

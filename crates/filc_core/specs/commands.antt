@@ -10,3 +10,4 @@ pub mod Timeline
 pub mod NetFil
 pub mod SimFil
 pub mod TraceFil
+pub mod LowerFil

@@ -5,6 +5,7 @@ ghost use Rattle.filc_core.specs.Request.{Request, design_name, stimulus_name};
 
 pub(crate) mod check;
 pub(crate) mod flow;
+pub(crate) mod lower_fil;
 pub(crate) mod net_fil;
 mod net_run;
 pub(crate) mod rows;

@@ -6,6 +6,7 @@ ghost use Rattle.filc_core.specs.Told.{request_told};
 use crate::commands::Command;
 use crate::commands::check::Check;
 use crate::commands::flow::Flow;
+use crate::commands::lower_fil::LowerFil;
 use crate::commands::net_fil::NetFil;
 use crate::commands::rows::Rows;
 use crate::commands::sim_fil::SimFil;
@@ -29,6 +30,7 @@ pub(crate) enum Request<'a> {
     NetFil(NetFil<'a>),
     SimFil(SimFil<'a>),
     TraceFil(TraceFil<'a>),
+    LowerFil(LowerFil<'a>),
 }
 
 /// What the words after the program's name ask for; `None` where they aren't well formed.
@@ -60,7 +62,10 @@ pub(crate) fn asked<'a>(words: &[&'a str]) -> Option<Request<'a>>
     if let Some(sim) = SimFil::asked(words) {
         return Some(Request::SimFil(sim));
     }
-    Some(Request::TraceFil(TraceFil::asked(words)?))
+    if let Some(trace) = TraceFil::asked(words) {
+        return Some(Request::TraceFil(trace));
+    }
+    Some(Request::LowerFil(LowerFil::asked(words)?))
 }
 
 impl Command for Request<'_> {
@@ -79,6 +84,7 @@ impl Command for Request<'_> {
             Request::NetFil(it) => it.design(),
             Request::SimFil(it) => it.design(),
             Request::TraceFil(it) => it.design(),
+            Request::LowerFil(it) => it.design(),
         }
     }
 
@@ -93,6 +99,7 @@ impl Command for Request<'_> {
             Request::NetFil(it) => it.stimulus(),
             Request::SimFil(it) => it.stimulus(),
             Request::TraceFil(it) => it.stimulus(),
+            Request::LowerFil(it) => it.stimulus(),
         }
     }
 
@@ -112,6 +119,7 @@ impl Command for Request<'_> {
             Request::NetFil(it) => it.perform(alloc, files, out),
             Request::SimFil(it) => it.perform(alloc, files, out),
             Request::TraceFil(it) => it.perform(alloc, files, out),
+            Request::LowerFil(it) => it.perform(alloc, files, out),
         }
     }
 }

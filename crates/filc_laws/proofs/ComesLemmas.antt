@@ -1,4 +1,4 @@
--- One outcome comes of each command, but for which loop is told and which netlist is made.
+-- One outcome comes of each command, but for which loop is told and which netlist or which Calyx design is made.
 use Rattle.std.proofs.Common.{◌≡◌, ℕ, ◌⊎◌, inl, inr, List, Bool, sym, ap, ap₂, subst, subst₂, ◌∙◌, arith}
 use Rattle.std.specs.Prelude.{slice_get}
 use Rattle.std.proofs.lemmas.Option.{same_Some}
@@ -17,8 +17,9 @@ use Rattle.filc_run.specs.Traced.{Traces}
 use Rattle.filc_stop.specs.Outcome.{Contents, Outcome, done_with, refused_with}
 use Rattle.filc_stop.specs.declared.language.Language.{Language}
 use Rattle.filc_stop.specs.declared.language.Language.TheVariants.{Netlists, Filament}
-use Rattle.filc_core.specs.Request.{OfNetFil, OfTraceFil, Asks}
+use Rattle.filc_core.specs.Request.{OfNetFil, OfTraceFil, OfLowerFil, Asks}
 use Rattle.filc_core.specs.commands.Check.{Check, Accepts}
+use Rattle.filc_core.specs.commands.LowerFil.{LowerFil, PrintsLowered}
 use Rattle.filc_core.specs.commands.NetFil.{NetFil, PrintsNet}
 use Rattle.filc_core.specs.commands.NetRun.{Driven, IsRefusedWithNet, GivesRunOf}
 use Rattle.filc_core.specs.commands.NetRun as net_run
@@ -223,7 +224,7 @@ module _ (words : List Text) (contents : Contents) (made made' : Text) (o o' : O
         let other : Traces a.top.design a.top.comp a.run made' o' = subst₂ (λ (t : Top) (r : TxRun). Traces t.design t.comp r made' o') same.0 same.1 b.traces in
         record {
           ended = ap (λ (x : Outcome). x.ended) a.traces.outcome ∙ sym (ap (λ (x : Outcome). x.ended) b.traces.outcome);
-          report = inr (inr (record {
+          report = inr (inr (inl (record {
             asked = c;
             asks = asks;
             top = a.top;
@@ -231,7 +232,7 @@ module _ (words : List Text) (contents : Contents) (made made' : Text) (o o' : O
             gives = a.gives;
             traces = traces_report a.top.comp a.run a.top.design made o a.traces;
             traces' = traces_report a.top.comp a.run a.top.design made' o' other;
-          }));
+          })));
           line = inl (ap (λ (x : Outcome). x.line) a.traces.outcome ∙ sym (ap (λ (x : Outcome). x.line) b.traces.outcome));
         }
 
@@ -247,5 +248,17 @@ module _ (words : List Text) (contents : Contents) (made made' : Text) (o o' : O
   net_fil_once c asks (inr a) (inr b) = record {
     ended = ap (λ (x : Outcome). x.ended) a.outcome ∙ sym (ap (λ (x : Outcome). x.ended) b.outcome);
     report = inr (inl (record { asked = c; asks = asks; from = a.made_from; from' = b.made_from; printed = ap (λ (x : Outcome). x.report) a.outcome; printed' = ap (λ (x : Outcome). x.report) b.outcome }));
+    line = inl (ap (λ (x : Outcome). x.line) a.outcome ∙ sym (ap (λ (x : Outcome). x.line) b.outcome));
+  }
+
+  -- ---- the Calyx design that a design is lowered to
+
+  pub lower_fil_once : (c : LowerFil) → Asks words (OfLowerFil c) → IsRefusedForSource contents Filament c.file o ⊎ PrintsLowered contents c.file made o → IsRefusedForSource contents Filament c.file o' ⊎ PrintsLowered contents c.file made' o' → One
+  lower_fil_once c asks (inl p) (inl q) = from_source Filament c.file p q
+  lower_fil_once c asks (inl p) (inr b) = absurd (refused_here Filament c.file o p (b.lowered_from.design, b.lowered_from.gives))
+  lower_fil_once c asks (inr a) (inl q) = absurd (refused_here Filament c.file o' q (a.lowered_from.design, a.lowered_from.gives))
+  lower_fil_once c asks (inr a) (inr b) = record {
+    ended = ap (λ (x : Outcome). x.ended) a.outcome ∙ sym (ap (λ (x : Outcome). x.ended) b.outcome);
+    report = inr (inr (inr (record { asked = c; asks = asks; from = a.lowered_from; from' = b.lowered_from; printed = ap (λ (x : Outcome). x.report) a.outcome; printed' = ap (λ (x : Outcome). x.report) b.outcome })));
     line = inl (ap (λ (x : Outcome). x.line) a.outcome ∙ sym (ap (λ (x : Outcome). x.line) b.outcome));
   }

@@ -14,10 +14,11 @@ use Rattle.filc_stop.specs.declared.ended.Ended.{Ended}
 use Rattle.filc_stop.specs.declared.language.Language.{Language}
 use Rattle.filc_stop.specs.declared.language.Language.TheVariants.{Netlists, Filament}
 use Rattle.filc_core.specs.Files.{IsDesignOf, IsStimulusOf}
-use Rattle.filc_core.specs.Request.{Request, OfCheck, OfRows, OfSimNet, OfTraceNet, OfFlow, OfTimeline, OfNetFil, OfSimFil, OfTraceFil, command_of, Asks}
+use Rattle.filc_core.specs.Request.{Request, OfCheck, OfRows, OfSimNet, OfTraceNet, OfFlow, OfTimeline, OfNetFil, OfSimFil, OfTraceFil, OfLowerFil, command_of, Asks}
 use Rattle.filc_core.specs.Verdict.{Verdict, NotAsked, Asked}
 use Rattle.filc_core.specs.commands.Check.{Check, Accepts}
 use Rattle.filc_core.specs.commands.Flow.{flow_of_top}
+use Rattle.filc_core.specs.commands.LowerFil.{LowerFil, IsLoweredFrom, PrintsLowered}
 use Rattle.filc_core.specs.commands.NetFil.{NetFil, IsMadeFrom, PrintsNet}
 use Rattle.filc_core.specs.commands.NetRun.{Driven, IsRefusedWithNet}
 use Rattle.filc_core.specs.commands.NetRun as net_run
@@ -118,6 +119,13 @@ module _ (contents other : Contents) where
   net_fil_too c made o same (inl p) = inl (source_too c.file same Filament o p)
   net_fil_too c made o same (inr a) = inr (record { made_from = made_too c.file made same a.made_from; outcome = a.outcome })
 
+  lowered_too : (file made : Text) → contents file ≡ other file → IsLoweredFrom contents file made → IsLoweredFrom other file made
+  lowered_too file made same m = record { design = m.design; gives = fil_too file same m.design m.gives; lowered = m.lowered }
+
+  lower_fil_too : (c : LowerFil) (made : Text) (o : Outcome) → contents c.file ≡ other c.file → IsRefusedForSource contents Filament c.file o ⊎ PrintsLowered contents c.file made o → IsRefusedForSource other Filament c.file o ⊎ PrintsLowered other c.file made o
+  lower_fil_too c made o same (inl p) = inl (source_too c.file same Filament o p)
+  lower_fil_too c made o same (inr a) = inr (record { lowered_from = lowered_too c.file made same a.lowered_from; outcome = a.outcome })
+
   -- what comes of a request, where its files tell the same
   comes_too : (r : Request) (made : Text) (o : Outcome) → ((file : Text) → IsDesignOf r file ⊎ IsStimulusOf r file → contents file ≡ other file) → (command_of r).comes contents made o → (command_of r).comes other made o
   comes_too (OfCheck c) made o same p = check_too c o (same c.file (inl (record { language = c.language; name = c.file }, refl, refl))) p
@@ -129,6 +137,7 @@ module _ (contents other : Contents) where
   comes_too (OfNetFil c) made o same p = net_fil_too c made o (same c.file (inl (record { language = Filament; name = c.file }, refl, refl))) p
   comes_too (OfSimFil c) made o same p = started_too c rows_of_top o (same c.file (inl (record { language = Filament; name = c.file }, refl, refl))) (same c.stimulus (inr refl)) p
   comes_too (OfTraceFil c) made o same p = trace_fil_too c made o (same c.file (inl (record { language = Filament; name = c.file }, refl, refl))) (same c.stimulus (inr refl)) p
+  comes_too (OfLowerFil c) made o same p = lower_fil_too c made o (same c.file (inl (record { language = Filament; name = c.file }, refl, refl))) p
 
 verdict_too : (words : List Text) (contents other : Contents) (made : Text) (o : Outcome) → ((r : Request) → Asks words r → (file : Text) → IsDesignOf r file ⊎ IsStimulusOf r file → contents file ≡ other file) → Verdict words contents made o → Verdict words other made o
 verdict_too words contents other made o same (NotAsked none e) = NotAsked none e

@@ -1,13 +1,14 @@
 -- The law of one verdict: for the same words and the same told contents of files there is one answer, one report and one line, but for what
--- is left to a program: which loop it tells (N6 and F14 show one of those from the least port), and which netlist `net` and `trace` make of a
--- design. This project's.
+-- is left to a program: which loop it tells (N6 and F14 show one of those from the least port), and which netlist `net` and `trace`, and
+-- which Calyx design `lower`, make of a design. This project's.
 use Rattle.std.specs.Prelude.{◌≡◌, ◌⊎◌, List}
 use Rattle.hw_names.specs.Name.{Text}
 use Rattle.stim_read.specs.TxRun.{TxRun}
 use Rattle.filc_stop.specs.Outcome.{Contents, Outcome, done_with}
 use Rattle.filc_run.specs.Traced.{Traces}
-use Rattle.filc_core.specs.Request.{OfNetFil, OfTraceFil, Asks}
+use Rattle.filc_core.specs.Request.{OfNetFil, OfTraceFil, OfLowerFil, Asks}
 use Rattle.filc_core.specs.Verdict.{Verdict}
+use Rattle.filc_core.specs.commands.LowerFil.{LowerFil, IsLoweredFrom}
 use Rattle.filc_core.specs.commands.NetFil.{NetFil, IsMadeFrom}
 use Rattle.filc_core.specs.commands.Transactions.{Started, Top, GivesTransactionsOf}
 use Rattle.filc_laws.specs.OneLine.{IsSameLine}
@@ -18,6 +19,15 @@ pub record AreMadeOfOne (words : List Text) (contents : Contents) (made made' re
   pub asks : Asks words (OfNetFil asked)
   pub from : IsMadeFrom contents asked.file made
   pub from' : IsMadeFrom contents asked.file made'
+  pub printed : report ≡ made
+  pub printed' : other ≡ made'
+
+-- the same of the text of a Calyx design
+pub record AreLoweredFromOne (words : List Text) (contents : Contents) (made made' report other : Text) : Type 0 where
+  pub asked : LowerFil
+  pub asks : Asks words (OfLowerFil asked)
+  pub from : IsLoweredFrom contents asked.file made
+  pub from' : IsLoweredFrom contents asked.file made'
   pub printed : report ≡ made
   pub printed' : other ≡ made'
 
@@ -32,10 +42,11 @@ pub record AreTracesOfOne (words : List Text) (contents : Contents) (made made' 
   pub traces : Traces top.design top.comp run made (done_with report)
   pub traces' : Traces top.design top.comp run made' (done_with other)
 
--- the same report, but for which netlist is made
+-- the same report, but for which netlist or which Calyx design is made
 abbrev pub IsSameReport : List Text → Contents → Text → Text → Text → Text → Type 0
 IsSameReport words contents made made' report other =
     (report ≡ other) ⊎ AreMadeOfOne words contents made made' report other ⊎ AreTracesOfOne words contents made made' report other
+    ⊎ AreLoweredFromOne words contents made made' report other
 
 -- two outcomes are one: the same answer, the same report and the same line
 pub record AreOne (words : List Text) (contents : Contents) (made made' : Text) (o other : Outcome) : Type 0 where

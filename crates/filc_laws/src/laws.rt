@@ -120,12 +120,12 @@ pub fn transactions_are_refused_once()
 {}
 
 /// Two verdicts of the same words and contents have one answer, one report and one line, but for which loop is told and
-/// which netlist is made.
+/// which netlist or which Calyx design is made.
 pub fn one_verdict()
     ensures { OneVerdict }
 {}
 
-/// Where the netlist that is made has the same text, the reports are the same to the byte.
+/// Where what is made has the same text, the reports are the same to the byte.
 pub fn one_report()
     ensures { OneReport }
 {}
@@ -136,7 +136,7 @@ pub fn only_what_is_told()
 {}
 
 /// Two programs that keep the contract of the top call answer alike, and leave the same in their sinks, but for which loop is
-/// told and which netlist is made.
+/// told and which netlist or which Calyx design is made.
 pub fn one_answer()
     ensures { OneAnswer }
 {}

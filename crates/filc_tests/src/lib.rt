@@ -16,6 +16,8 @@ mod guards;
 #[cfg(test)]
 mod limits;
 #[cfg(test)]
+mod lower;
+#[cfg(test)]
 mod lowered;
 #[cfg(test)]
 mod memories;
