@@ -1,0 +1,14 @@
+pub mod AtOnceLemmas
+pub mod ChoiceLemmas
+pub mod EnableLemmas
+pub mod FirstLemmas
+pub mod InTurnLemmas
+pub mod LastingLemmas
+pub mod LaterLemmas
+pub mod LoopLemmas
+pub mod OthersLemmas
+pub mod OverLemmas
+pub mod StartLemmas
+pub mod TestLemmas
+pub mod TokenLemmas
+pub mod Walking
