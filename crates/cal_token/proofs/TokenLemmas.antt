@@ -35,4 +35,4 @@ module _ (v : Tokens) (s : Sight) where
 pub tokens_walk_control : TokensWalkControl
 tokens_walk_control v s k p more =
     let law : Law v s p = law_of v s p in
-    (law.start k more, λ rest lasts leaves. law.on k rest more leaves, law.off k more)
+    (law.start k more, λ rest leaves. law.on k rest more leaves, law.off k more)

@@ -43,13 +43,14 @@ mutual
     Together : (k : ℕ) (ps rests : Plans) → are_over rests ≡ false → LeaveAtOnce v (k + 1) ps rests → Leaves v k (AtOnce ps) (AtOnce rests)
     OnBranch : (k : ℕ) (port : PortName) (by : Option Actor) (on off rest : Plan) → LeavesLater v (k + 1) on rest → IsLaterOff v (k + 1 + size on) off →
         Leaves v k (Chooses port by on off) rest
-    OffBranch : (k : ℕ) (port : PortName) (by : Option Actor) (on off rest : Plan) → IsLaterOff v (k + 1) on → LeavesLater v (k + 1 + size on) off rest →
-        Leaves v k (Chooses port by on off) rest
+    OffBranch : (k : ℕ) (port : PortName) (by : Option Actor) (on off rest : Plan) → IsLaterOff v (k + 1) on →
+        LeavesLater v (k + 1 + size on) off rest → Leaves v k (Chooses port by on off) rest
     -- in a turn of the loop
     InBody : (k : ℕ) (port : PortName) (by : Option Actor) (body rest : Plan) → v (Again k) ≡ false → LeavesLater v (k + 1) body rest →
         Leaves v k (Repeats port by body) (InTurn (MorePlans rest (MorePlans (Repeats port by body) NoPlans)))
     -- a turn has ended, or takes no row
-    AtTest : (k : ℕ) (port : PortName) (by : Option Actor) (body ended : Plan) → v (Again k) ≡ true → IsLaterOff v (k + 1) body → is_over ended ≡ true →
+    AtTest : (k : ℕ) (port : PortName) (by : Option Actor) (body ended : Plan) → v (Again k) ≡ true → IsLaterOff v (k + 1) body →
+        is_over ended ≡ true →
         Leaves v k (Repeats port by body) (InTurn (MorePlans ended (MorePlans (Repeats port by body) NoPlans)))
 
   -- a part that starts by its own token: it starts in the row, or is on
@@ -73,7 +74,8 @@ mutual
         LeaveOthers v k (MorePlans p ps) (before_others rest ps)
     -- it starts in the row, and what was before it has ended
     AfterEnded : (k : ℕ) (ps : Plans) (ended : Plan) → is_over ended ≡ true → FirstStarts v k ps → LeaveOthers v k ps (before_others ended ps)
-    Later : (k : ℕ) (p : Plan) (ps : Plans) (rest : Plan) → IsLaterOff v k p → LeaveOthers v (k + size p) ps rest → LeaveOthers v k (MorePlans p ps) rest
+    Later : (k : ℕ) (p : Plan) (ps : Plans) (rest : Plan) → IsLaterOff v k p → LeaveOthers v (k + size p) ps rest →
+        LeaveOthers v k (MorePlans p ps) rest
 
   -- the first that takes a row starts in the row by its token
   pub data FirstStarts (v : Tokens) : ℕ → Plans → Type 0 where

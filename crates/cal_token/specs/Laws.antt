@@ -30,5 +30,5 @@ abbrev pub TokensWalkControl : Type 0
 TokensWalkControl =
     (v : Tokens) (s : Sight) (k : ℕ) (p : Plan) → is_over p ≡ false →
     (IsOff v k p → Walks v s k p p true)
-    × ((rest : Plan) → is_over rest ≡ false → Leaves v k p rest → Walks v s k p rest false)
+    × ((rest : Plan) → Leaves v k p rest → Walks v s k p rest false)
     × (IsOff v k p → StaysOff v s k p)
