@@ -1,0 +1,57 @@
+//! Lines of a cell, piece by piece.
+ghost use Rattle.std.specs.Prelude.{◌≡◌, ◌++◌, OnOk};
+ghost use Rattle.ver_print.specs.Pieces.{piece_text, pieces_text};
+ghost use Rattle.ver_print.specs.Words.{inner_line, part};
+
+use crate::put::{put, put_number};
+use hw_bits::Memory;
+
+/// A piece of a line.
+#[derive(Clone, Copy)]
+pub(crate) enum Piece<'a> {
+    /// Words as they stand.
+    Words(&'a str),
+    /// A port of the cell, or a register of its own.
+    Part(&'a str),
+    Number(u128),
+}
+
+/// The escaped name of a port or a register of the cell.
+fn put_part(out: &mut Vec<u8>, cell: &[u8], name: &[u8]) -> Result<(), Memory>
+    ensures { OnOk result (out.new.items ≡ out.old.items ++ part cell.now name.now) }
+{
+    put(out, b"\\")?;
+    put(out, cell)?;
+    put(out, b".")?;
+    put(out, name)?;
+    put(out, b" ")
+}
+
+fn put_piece(out: &mut Vec<u8>, cell: &[u8], piece: Piece) -> Result<(), Memory>
+    ensures { OnOk result (out.new.items ≡ out.old.items ++ piece_text cell.now piece.entry) }
+{
+    match piece {
+        Piece::Words(words) => put(out, words.as_bytes()),
+        Piece::Part(name) => put_part(out, cell, name.as_bytes()),
+        Piece::Number(number) => put_number(out, number),
+    }
+}
+
+/// Pieces of a line, one after another.
+pub(crate) fn put_pieces(out: &mut Vec<u8>, cell: &[u8], pieces: &[Piece]) -> Result<(), Memory>
+    ensures { OnOk result (out.new.items ≡ out.old.items ++ pieces_text cell.now pieces.now) }
+{
+    for piece in pieces {
+        put_piece(out, cell, *piece)?;
+    }
+    Ok(())
+}
+
+/// A whole line of the cell.
+pub(crate) fn put_line(out: &mut Vec<u8>, cell: &[u8], pieces: &[Piece]) -> Result<(), Memory>
+    ensures { OnOk result (out.new.items ≡ out.old.items ++ inner_line (pieces_text cell.now pieces.now)) }
+{
+    put(out, b"  ")?;
+    put_pieces(out, cell, pieces)?;
+    put(out, b"\n")
+}

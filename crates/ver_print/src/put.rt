@@ -1,0 +1,66 @@
+//! Texts, numbers and names at the end of a text.
+ghost use Rattle.std.specs.Prelude.{◌≡◌, ◌++◌, decimal, OnOk};
+ghost use Rattle.hw_names.specs.Name.{text_of};
+ghost use Rattle.net_core.specs.Guard.{source_tree};
+ghost use Rattle.net_core.specs.Numbers.{IsNumberOf, SourceHasNumbers};
+ghost use Rattle.ver_print.specs.Values.{source_text};
+ghost use Rattle.ver_print.specs.Words.{escaped, literal, range};
+
+use hw_bits::Memory;
+use hw_names::{NameId, Names};
+use itoa::Buffer;
+use net_core::Src;
+
+pub(crate) fn put(out: &mut Vec<u8>, text: &[u8]) -> Result<(), Memory>
+    ensures { OnOk result (out.new.items ≡ out.old.items ++ text.now) }
+{
+    out.extend_from_slice(text)?;
+    Ok(())
+}
+
+pub(crate) fn put_number(out: &mut Vec<u8>, number: u128) -> Result<(), Memory>
+    ensures { OnOk result (out.new.items ≡ out.old.items ++ decimal number) }
+{
+    let mut buffer = Buffer::new();
+    put(out, buffer.format(number).as_bytes())
+}
+
+/// A name, escaped.
+pub(crate) fn put_escaped(out: &mut Vec<u8>, name: &[u8]) -> Result<(), Memory>
+    ensures { OnOk result (out.new.items ≡ out.old.items ++ escaped name.now) }
+{
+    put(out, b"\\")?;
+    put(out, name)?;
+    put(out, b" ")
+}
+
+/// The bits of a width.
+pub(crate) fn put_range(out: &mut Vec<u8>, width: u128) -> Result<(), Memory>
+    ensures { OnOk result (out.new.items ≡ out.old.items ++ range width) }
+{
+    put(out, b"[")?;
+    put_number(out, width.saturating_sub(1))?;
+    put(out, b":0]")
+}
+
+pub(crate) fn put_literal(out: &mut Vec<u8>, width: u128, value: u128) -> Result<(), Memory>
+    ensures { OnOk result (out.new.items ≡ out.old.items ++ literal width value) }
+{
+    put_number(out, width)?;
+    put(out, b"'d")?;
+    put_number(out, value)
+}
+
+pub(crate) fn put_source(
+    out: &mut Vec<u8>,
+    names: &Names,
+    source: Src<NameId>,
+) -> Result<(), Memory>
+    requires { SourceHasNumbers names.now source }
+    ensures { OnOk result (out.new.items ≡ out.old.items ++ source_text (source_tree (text_of names.now) source)) }
+{
+    match source {
+        Src::Port(name) => put_escaped(out, names.text(name)),
+        Src::Lit { width, value } => put_literal(out, width, value),
+    }
+}
