@@ -1,0 +1,11 @@
+pub mod Lists
+pub mod RunLemmas
+pub mod LeafLemmas
+pub mod RuleLemmas
+pub mod LoopLemmas
+pub mod FoldLemmas
+pub mod ListLemmas
+pub mod TopLemmas
+pub mod GatherLemmas
+pub mod SetLemmas
+pub mod TextLemmas

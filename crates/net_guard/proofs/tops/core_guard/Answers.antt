@@ -1,0 +1,34 @@
+use Rattle.std.proofs.Common.{refl, sym, subst, inl, inr}
+use Rattle.net_core.specs.declared.net.Guard.TheVariants as variants
+use Rattle.net_guard.proofs.TopLemmas.{list_guard}
+use Rattle.net_guard.specs.Folding.{CoreHasNumbers, IsGuardOf, core_tree}
+use Rattle.net_guard.specs.declared.tops.Core.{Core}
+use Rattle.net_guard.proofs.tops.core_guard.Goals as goal
+
+pub returns-in-Read : goal.returns-in-Read
+returns-in-Read c = λ names has.
+    let N : Core → Type 0 = CoreHasNumbers names in
+    let G : Core → Type 0 = λ core. IsGuardOf names (core_tree names core) (variants.Read c.in-Read.src) in
+    subst G (sym c.in-Read.is) (record { numbers = subst N c.in-Read.is has; tree = refl })
+
+pub returns-in-Test : goal.returns-in-Test
+returns-in-Test c = λ names has.
+    let N : Core → Type 0 = CoreHasNumbers names in
+    let G : Core → Type 0 = λ core. IsGuardOf names (core_tree names core) (variants.Test c.in-Test.op c.in-Test.left c.in-Test.right) in
+    subst G (sym c.in-Test.is) (record { numbers = subst N c.in-Test.is has; tree = refl })
+
+pub returns-in_ok-into_vec-in-List-All-default : goal.returns-in_ok-into_vec-in-List-All-default
+returns-in_ok-into_vec-in-List-All-default c = λ names has.
+    let N : Core → Type 0 = CoreHasNumbers names in
+    let arm = c.in-List-All-default in
+    let made = c.in_ok-into_vec-in-List-All-default in
+    let G : Core → Type 0 = λ core. IsGuardOf names (core_tree names core) (variants.All made.field-0) in
+    subst G (sym arm.is) (list_guard names arm.field-0 arm.guards made.field-0 (variants.All made.field-0) made.ensures (inl (arm.field-0-is, refl)) (subst N arm.is has))
+
+pub returns-in_ok-into_vec-in-List-Any-default : goal.returns-in_ok-into_vec-in-List-Any-default
+returns-in_ok-into_vec-in-List-Any-default c = λ names has.
+    let N : Core → Type 0 = CoreHasNumbers names in
+    let arm = c.in-List-Any-default in
+    let made = c.in_ok-into_vec-in-List-Any-default in
+    let G : Core → Type 0 = λ core. IsGuardOf names (core_tree names core) (variants.Any made.field-0) in
+    subst G (sym arm.is) (list_guard names arm.field-0 arm.guards made.field-0 (variants.Any made.field-0) made.ensures (inr (arm.field-0-is, refl)) (subst N arm.is has))

@@ -1,0 +1,5 @@
+pub mod Folded
+pub mod Simplified
+pub mod KeepsRuns
+pub mod KeepsText
+pub mod Folding
