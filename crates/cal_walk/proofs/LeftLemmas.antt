@@ -1,10 +1,8 @@
 -- What is left of a plan after a row takes the rows that the plan takes, and lets the same actors act.
-use Rattle.std.proofs.Common.{◌≡◌, ◌⊎◌, ℕ, zero, suc, ◌+◌, ◌<◌, ◌≤◌, max, Bool, true, false, not, ◌&&◌, ◌||◌, ◌==◌, Option, Some, None, refl, sym, ap, ◌∙◌, subst, inl, inr, arith}
-use Rattle.std.specs.Prelude.{if◌then◌else◌, bytes_eq}
+use Rattle.std.proofs.Common.{◌≡◌, ◌⊎◌, ℕ, ◌+◌, ◌<◌, ◌≤◌, max, Bool, true, false, ◌&&◌, refl, sym, ◌∙◌, subst, inl, inr, arith}
+use Rattle.std.specs.Prelude.{if◌then◌else◌}
 use Rattle.std.proofs.lemmas.Bool.{cases_Bool, cases_order}
-use Rattle.std.proofs.lemmas.Bool.Decides.{Decides-eqb}
-use Rattle.std.proofs.lemmas.Slice.Eq.{bytes_eq-Decides}
-use Rattle.cal_ast.specs.Actors.{Actor, GroupNamed, InvokeAt, same_actor}
+use Rattle.cal_ast.specs.Actors.{Actor}
 use Rattle.cal_ast.specs.Plan.{Plan, Enables, InTurn, AtOnce, Chooses, Repeats, Plans, NoPlans, MorePlans}
 use Rattle.cal_ast.specs.Spans.{View, IsFirst, IsTested, AtStart, AfterTurn, Spans, SpansInTurn, SpansAtOnce, ActsInTest, ActsEnabled, Acts, ActsInTurn, ActsAtOnce}
 use Rattle.cal_ast.specs.Tree.{PortName}

@@ -1,13 +1,13 @@
 -- The actors that a plan wants in the row in which it starts are those that act in it there.
-use Rattle.std.proofs.Common.{◌≡◌, ◌⊎◌, ℕ, ◌+◌, ◌<◌, ◌≤◌, Bool, true, false, not, ◌&&◌, ◌||◌, ◌==◌, Option, Some, None, refl, sym, ap, ◌∙◌, subst, inl, inr, arith}
-use Rattle.std.specs.Prelude.{if◌then◌else◌, bytes_eq}
+use Rattle.std.proofs.Common.{◌≡◌, ◌⊎◌, ℕ, ◌+◌, ◌<◌, ◌≤◌, Bool, true, false, not, ◌&&◌, ◌||◌, Option, Some, None, refl, sym, ap, subst, inl, inr, arith}
+use Rattle.std.specs.Prelude.{if◌then◌else◌}
 use Rattle.std.proofs.lemmas.Bool.{cases_Bool, or_cases, or_left, or_right, and_parts, and_from, not_from_false}
 use Rattle.std.proofs.lemmas.Bool.Decides.{Decides-eqb}
 use Rattle.std.proofs.lemmas.Slice.Eq.{bytes_eq-Decides}
 use Rattle.cal_ast.specs.Actors.{Actor, GroupNamed, InvokeAt, same_actor}
 use Rattle.cal_ast.specs.Plan.{Plan, Enables, InTurn, AtOnce, Chooses, Repeats, Plans, NoPlans, MorePlans}
-use Rattle.cal_ast.specs.Spans.{View, IsTested, AtStart, Spans, ActsInTest, ActsEnabled, Acts, ActsInTurn, ActsAtOnce}
-use Rattle.cal_walk.specs.Left.{is_over, are_over, is_by, enables, enables_in_turn, enables_at_once, tests, tests_in_turn, tests_at_once, wants}
+use Rattle.cal_ast.specs.Spans.{View, AtStart, Spans, ActsInTest, Acts, ActsInTurn, ActsAtOnce}
+use Rattle.cal_walk.specs.Left.{is_over, is_by, enables, enables_in_turn, enables_at_once, tests, tests_in_turn, tests_at_once, wants}
 use Rattle.cal_walk.proofs.LeftLemmas.{acts_within, lasts, over_end, over_spans, over_acts, spans_from, tested_from, tested_first}
 
 pub same_actor_of : (a b : Actor) → a ≡ b → same_actor a b ≡ true

@@ -1,5 +1,5 @@
 -- Control walked forward: what is left of a plan after each row, and which actors act in it. This project's.
-use Rattle.std.specs.Prelude.{ℕ, zero, suc, Bool, true, false, not, ◌&&◌, ◌||◌, if◌then◌else◌, Option, Some, None}
+use Rattle.std.specs.Prelude.{ℕ, Bool, true, false, not, ◌&&◌, ◌||◌, if◌then◌else◌, Option, Some, None}
 use Rattle.cal_ast.specs.Actors.{Actor, same_actor}
 use Rattle.cal_ast.specs.Plan.{Plan, Enables, InTurn, AtOnce, Chooses, Repeats, Plans, NoPlans, MorePlans}
 use Rattle.cal_ast.specs.Spans.{View}
