@@ -1,0 +1,9 @@
+pub mod ActorLemmas
+pub mod EndLemmas
+pub mod InductionLemmas
+pub mod PortListLemmas
+pub mod RoleLemmas
+pub mod RowLemmas
+pub mod RunLemmas
+pub mod SightLemmas
+pub mod ValueLemmas
