@@ -1,0 +1,5 @@
+use Rattle.cal_lower.proofs.MadeGuardLemmas.{literal_shown}
+use Rattle.cal_lower.proofs.guards.never.Goals as goal
+
+pub returns : goal.returns
+returns c = λ names. literal_shown names 0

@@ -1,0 +1,18 @@
+use Rattle.cal_lower.proofs.labels.common_texts.Goals as goal
+
+pub returns-clause-texts : goal.returns-clause-texts
+returns-clause-texts c = record {
+  wire = c.add_name-5.ensures.kept _ _ (c.add_name-4.ensures.kept _ _ (c.add_name-3.ensures.kept _ _ (c.add_name-2.ensures.kept _ _ c.in_ok-wire.ensures.text)));
+  register = c.add_name-5.ensures.kept _ _ (c.add_name-4.ensures.kept _ _ (c.add_name-3.ensures.kept _ _ c.in_ok-register.ensures.text));
+  input = c.add_name-5.ensures.kept _ _ (c.add_name-4.ensures.kept _ _ c.in_ok-input.ensures.text);
+  enable = c.add_name-5.ensures.kept _ _ c.in_ok-enable.ensures.text;
+  output = c.in_ok-output.ensures.text;
+}
+
+pub returns-clause-kept : goal.returns-clause-kept
+returns-clause-kept c =
+    λ i text found. c.add_name-5.ensures.kept i text (c.add_name-4.ensures.kept i text (c.add_name-3.ensures.kept i text (c.add_name-2.ensures.kept i text (c.add_name.ensures.kept i text found))))
+
+pub returns-in_err-output-clause-kept : goal.returns-in_err-output-clause-kept
+returns-in_err-output-clause-kept c =
+    λ i text found. c.add_name-5.ensures.kept i text (c.add_name-4.ensures.kept i text (c.add_name-3.ensures.kept i text (c.add_name-2.ensures.kept i text (c.add_name.ensures.kept i text found))))
