@@ -1,0 +1,681 @@
+//! C12: which ports of a component read which within a row, and its least loop.
+ghost use Rattle.std.specs.Prelude.{◌≡◌, ◌↔◌, ℕ, List, ◌+◌, ◌^◌, ◌<◌, [], ◌∷◌, ◌++◌, Option, Some, length, map, option_map, slice_get, All, Contains, IfOk, IfSome, IsTrue, OnOk};
+ghost use Rattle.std.specs.List.{flat_map};
+ghost use Rattle.hw_graph.specs.Graph.{AreInRange};
+ghost use Rattle.hw_graph.specs.Groups.{IsGathered};
+ghost use Rattle.hw_names.specs.Name.{AreDistinct, KeepsTexts, Text, text_of};
+ghost use Rattle.hw_prims.specs.Table.{IsMade, inputs_of, name_at, outputs_of, pin_names, pins_of};
+ghost use Rattle.net_core.specs.Numbers.{IsNumberOf};
+ghost use Rattle.cal_ast.specs.Invoking.{gives_input, go_of, invoke_done, starts_cell, takes_output};
+ghost use Rattle.cal_ast.specs.Items.{control_statements, statements_in, statements_of};
+ghost use Rattle.cal_ast.specs.Numbers.{ControlHasNumbers, DoneHasNumbers, GroupHasNumbers, InHasNumbers, OutHasNumbers, PortHasNumbers, SetHasNumbers, StatementHasNumbers};
+ghost use Rattle.cal_ast.specs.Ports.{inputs_in, outputs_in};
+ghost use Rattle.cal_ast.specs.Rules.{KeepsRules};
+ghost use Rattle.cal_ast.specs.Tree.{CellDef, Component, Design, Invoke, assignment_tree, control_tree, done_tree, group_tree, in_tree, out_tree, port_tree, statement_tree};
+ghost use Rattle.cal_ast.specs.Wires.{shown};
+ghost use Rattle.cal_check.specs.Around.{comp_at, design_at, names_at};
+ghost use Rattle.cal_check.specs.Nodes.{Node, input_key, key_of, name_of, node_ports};
+ghost use Rattle.cal_check.specs.Readings.{AddsGroups, ReadsDones, ReadsEach, ReadsGo, ReadsInCell, ReadsInCells, ReadsInPart, ReadsInPrimitive, ReadsNumbers, ReadsOutput, ReadsSet, ReadsSets, ReadsThrough, group_invoked, groups_invoked};
+ghost use Rattle.cal_check.specs.Walks.{statements_from};
+ghost use Rattle.cal_check.specs.WireGraphs.{Adds, Grows, HasHole, HasNumber, IsGraphOf, LeadsTo, NoPair};
+ghost use Rattle.cal_check.specs.Wiring.{DependsOn, ShowsParts, TellsLoop};
+ghost use Rattle.cal_check.specs.declared.wire_graph.Hole.{Hole};
+
+use crate::keys::{PortText, name_in};
+use crate::made::Made;
+use crate::place::Place;
+use crate::reads::ports_read;
+use crate::wire_graph::{Hole, WireGraph};
+use cal_ast::{Assign, CalPort, Control, ControlPart, DoneSet, Group, InBind, OutBind};
+use hw_bits::Memory;
+use hw_graph::{Groups, OrderEnd, Reach, gather, order_or_least_loop};
+use hw_names::{NameId, Names, Word};
+use hw_prims::Prim;
+use net_core::Src;
+use std::alloc::Global;
+
+/// On which inputs the outputs of a component depend within a row.
+#[derive(Drop)]
+pub struct Wires {
+    /// For each output the numbers of the inputs.
+    pub inputs: Vec<Vec<usize>>,
+}
+
+/// What is known of C12 for a component.
+#[derive(Drop)]
+pub struct Judged {
+    pub wires: Wires,
+    /// Full names of ports: the least loop, if there is a loop. Each port reads the next within a row, and the last reads
+    /// the first.
+    pub least_loop: Option<Vec<Word>>,
+}
+
+/// The texts of a port that a line names.
+fn port_text<'a>(place: &Place<'a>, port: CalPort) -> PortText<'a>
+    requires { PortHasNumbers (names_at place.now) port }
+    ensures { name_of result ≡ port_tree (names_at place.now) port }
+{
+    let pin = place.text(port.port);
+    match port.cell {
+        Some(cell) => PortText::of(place.text(cell), pin),
+        None => PortText::own(pin),
+    }
+}
+
+/// The text of this number.
+fn text_at(names: &Names, number: usize) -> &[u8]
+    requires { number < length names.now }
+    ensures { slice_get names.now number ≡ Some result.now }
+{
+    let _count = names.len();
+    names.text(NameId(number as u32))
+}
+
+/// The names of the component's ports: its inputs, and then its outputs.
+fn port_names<'a>(place: &Place<'a>) -> &'a Names
+    requires { KeepsRules (design_at place.now) }
+    ensures names { result.now ≡ pin_names (inputs_in (comp_at place.now) ++ outputs_in (comp_at place.now)) }
+    ensures distinct { AreDistinct (pin_names (inputs_in (comp_at place.now) ++ outputs_in (comp_at place.now))) }
+{
+    // The component stands in the design.
+    let _comp = place.comp();
+    place.signature().names.names()
+}
+
+/// Those of the component of this number.
+fn part_names<'a>(place: &Place<'a>, part: usize) -> &'a Names
+    requires kept { KeepsRules (design_at place.now) }
+    requires part { part < length (design_at place.now) }
+    ensures { (c : Component) → slice_get (design_at place.now) part ≡ Some c → result.now ≡ pin_names (inputs_in c ++ outputs_in c) }
+{
+    place.signature_of(part).names.names()
+}
+
+/// Adds that the port or hole of this number reads each of these ports.
+fn add_reads(
+    graph: &mut WireGraph,
+    place: &Place,
+    number: usize,
+    reads: &[CalPort],
+) -> Result<(), Memory>
+    requires number { number < length graph.old.keys }
+    requires reads { All (PortHasNumbers (names_at place.now)) reads.now }
+    ensures { (node : Node) → HasNumber graph.old node number
+        → OnOk result (Grows (ReadsEach node (map (port_tree (names_at place.now)) reads.now)) graph.old graph.new) }
+{
+    for read in reads {
+        let other = graph.port(port_text(place, *read))?;
+        graph.add(number, other)?;
+    }
+    Ok(())
+}
+
+/// Adds what an assignment says; its destination reads the hole of its group, if it has one.
+fn add_set(
+    graph: &mut WireGraph,
+    place: &Place,
+    hole: Option<Hole>,
+    set: &Assign,
+) -> Result<(), Memory>
+    requires set { SetHasNumbers (names_at place.now) set.now }
+    requires hole { IfSome hole (HasHole graph.old) }
+    ensures { OnOk result (Grows (ReadsSet (option_map (λ (h : Hole). h.group) hole) (assignment_tree (names_at place.now) set.now)) graph.old graph.new) }
+{
+    let number = graph.port(port_text(place, set.dst))?;
+    let reads = ports_read(graph.alloc, &set.guard, set.src)?;
+    add_reads(graph, place, number, &reads)?;
+    match hole {
+        Some(hole) => graph.add(number, hole.node),
+        None => Ok(()),
+    }
+}
+
+/// Adds what assignments say.
+fn add_sets(
+    graph: &mut WireGraph,
+    place: &Place,
+    hole: Option<Hole>,
+    sets: &[Assign],
+) -> Result<(), Memory>
+    requires sets { All (SetHasNumbers (names_at place.now)) sets.now }
+    requires hole { IfSome hole (HasHole graph.old) }
+    ensures { OnOk result (Grows (ReadsSets (option_map (λ (h : Hole). h.group) hole) (map (assignment_tree (names_at place.now)) sets.now)) graph.old graph.new) }
+{
+    for set in sets {
+        add_set(graph, place, hole, set)?;
+    }
+    Ok(())
+}
+
+/// A new hole, which reads the component's own `go` where that is an input.
+fn add_hole(graph: &mut WireGraph, place: &Place) -> Result<Hole, Memory>
+    ensures hole { IfOk result (HasHole graph.new) }
+    ensures group { IfOk result (λ hole. hole.group ≡ graph.old.holes) }
+    ensures adds { OnOk result (Adds (ReadsGo (design_at place.now) (comp_at place.now) graph.old.holes) graph.old graph.new) }
+    ensures holes { OnOk result (graph.new.holes ≡ graph.old.holes + 1) }
+{
+    let hole = graph.hole()?;
+    if !place.has_go() {
+        return Ok(hole);
+    }
+    let go = graph.port(PortText::own(b"go"))?;
+    graph.add(hole.node, go)?;
+    Ok(hole)
+}
+
+/// Adds that the hole reads what the done lines read.
+fn add_dones(
+    graph: &mut WireGraph,
+    place: &Place,
+    hole: Hole,
+    dones: &[DoneSet],
+) -> Result<(), Memory>
+    requires hole { HasHole graph.old hole }
+    requires dones { All (DoneHasNumbers (names_at place.now)) dones.now }
+    ensures { OnOk result (Grows (ReadsDones hole.group (map (done_tree (names_at place.now)) dones.now)) graph.old graph.new) }
+{
+    for done in dones {
+        let reads = ports_read(graph.alloc, &done.guard, done.src)?;
+        add_reads(graph, place, hole.node, &reads)?;
+    }
+    Ok(())
+}
+
+/// Adds what a group says.
+fn add_group(graph: &mut WireGraph, place: &Place, group: &Group) -> Result<(), Memory>
+    requires { GroupHasNumbers (names_at place.now) group.now }
+    ensures { OnOk result (AddsGroups (design_at place.now) (comp_at place.now) (group_tree (names_at place.now) group.now ∷ []) graph.old graph.new) }
+{
+    let hole = add_hole(graph, place)?;
+    add_sets(graph, place, Some(hole), &group.sets)?;
+    add_dones(graph, place, hole, &group.dones)
+}
+
+/// Adds what groups say.
+fn add_groups(graph: &mut WireGraph, place: &Place, groups: &[Group]) -> Result<(), Memory>
+    requires { All (GroupHasNumbers (names_at place.now)) groups.now }
+    ensures { OnOk result (AddsGroups (design_at place.now) (comp_at place.now) (map (group_tree (names_at place.now)) groups.now) graph.old graph.new) }
+{
+    for group in groups {
+        add_group(graph, place, group)?;
+    }
+    Ok(())
+}
+
+/// What an invoke gives an input of its cell, as an assignment.
+fn given(cell: NameId, bind: InBind) -> Assign
+    ensures tree { (names : List Text) → assignment_tree names result ≡ gives_input (text_of names cell) (in_tree names bind) }
+    ensures numbers { (names : List Text) → IsNumberOf names cell → InHasNumbers names bind → SetHasNumbers names result }
+{
+    let dst = CalPort {
+        cell: Some(cell),
+        port: bind.port,
+    };
+    Assign {
+        dst,
+        guard: None,
+        src: bind.src,
+    }
+}
+
+/// Where an invoke puts an output of its cell, as an assignment.
+fn taken(cell: NameId, bind: OutBind) -> Assign
+    ensures tree { (names : List Text) → assignment_tree names result ≡ takes_output (text_of names cell) (out_tree names bind) }
+    ensures numbers { (names : List Text) → IsNumberOf names cell → OutHasNumbers names bind → SetHasNumbers names result }
+{
+    let port = CalPort {
+        cell: Some(cell),
+        port: bind.port,
+    };
+    Assign {
+        dst: bind.dst,
+        guard: None,
+        src: Src::Port(port),
+    }
+}
+
+/// Adds that inputs of the invoked cell read what is given to them, and the hole.
+fn add_ins(
+    graph: &mut WireGraph,
+    place: &Place,
+    hole: Hole,
+    cell: NameId,
+    ins: &[InBind],
+) -> Result<(), Memory>
+    requires hole { HasHole graph.old hole }
+    requires cell { IsNumberOf (names_at place.now) cell }
+    requires ins { All (InHasNumbers (names_at place.now)) ins.now }
+    ensures { OnOk result (Grows (ReadsSets (Some hole.group) (map (gives_input (text_of (names_at place.now) cell)) (map (in_tree (names_at place.now)) ins.now))) graph.old graph.new) }
+{
+    for bind in ins {
+        add_set(graph, place, Some(hole), &given(cell, *bind))?;
+    }
+    Ok(())
+}
+
+/// Adds that the port that starts the invoked cell reads the hole.
+fn add_start(graph: &mut WireGraph, place: &Place, hole: Hole, cell: NameId) -> Result<(), Memory>
+    requires hole { HasHole graph.old hole }
+    requires cell { IsNumberOf (names_at place.now) cell }
+    ensures { OnOk result (Grows (ReadsSets (Some hole.group) (starts_cell (text_of (names_at place.now) cell) (go_of (design_at place.now) (comp_at place.now) (text_of (names_at place.now) cell)))) graph.old graph.new) }
+{
+    match place.go(cell) {
+        Some(go) => {
+            let number = graph.port(PortText::of(place.text(cell), go.as_bytes()))?;
+            graph.add(number, hole.node)
+        }
+        None => Ok(()),
+    }
+}
+
+/// Adds that where outputs of the invoked cell are put reads them, and the hole.
+fn add_outs(
+    graph: &mut WireGraph,
+    place: &Place,
+    hole: Hole,
+    cell: NameId,
+    outs: &[OutBind],
+) -> Result<(), Memory>
+    requires hole { HasHole graph.old hole }
+    requires cell { IsNumberOf (names_at place.now) cell }
+    requires outs { All (OutHasNumbers (names_at place.now)) outs.now }
+    ensures { OnOk result (Grows (ReadsSets (Some hole.group) (map (takes_output (text_of (names_at place.now) cell)) (map (out_tree (names_at place.now)) outs.now))) graph.old graph.new) }
+{
+    for bind in outs {
+        add_set(graph, place, Some(hole), &taken(cell, *bind))?;
+    }
+    Ok(())
+}
+
+/// Adds that the hole reads the `done` of the invoked cell.
+fn add_done(graph: &mut WireGraph, place: &Place, hole: Hole, cell: NameId) -> Result<(), Memory>
+    requires hole { HasHole graph.old hole }
+    requires cell { IsNumberOf (names_at place.now) cell }
+    ensures { OnOk result (Grows (ReadsDones hole.group (invoke_done [] (text_of (names_at place.now) cell) ∷ [])) graph.old graph.new) }
+{
+    let done = graph.port(PortText::of(place.text(cell), b"done"))?;
+    graph.add(hole.node, done)
+}
+
+/// Adds what the group says that an invoke stands for.
+fn add_invoke(
+    graph: &mut WireGraph,
+    place: &Place,
+    cell: NameId,
+    ins: &[InBind],
+    outs: &[OutBind],
+) -> Result<(), Memory>
+    requires cell { IsNumberOf (names_at place.now) cell }
+    requires ins { All (InHasNumbers (names_at place.now)) ins.now }
+    requires outs { All (OutHasNumbers (names_at place.now)) outs.now }
+    ensures { OnOk result (AddsGroups (design_at place.now) (comp_at place.now) (group_invoked (design_at place.now) (comp_at place.now)
+        (Invoke (text_of (names_at place.now) cell) (map (in_tree (names_at place.now)) ins.now) (map (out_tree (names_at place.now)) outs.now))) graph.old graph.new) }
+{
+    let hole = add_hole(graph, place)?;
+    add_ins(graph, place, hole, cell, ins)?;
+    add_start(graph, place, hole, cell)?;
+    add_outs(graph, place, hole, cell, outs)?;
+    add_done(graph, place, hole, cell)
+}
+
+/// Adds what the invokes of a statement say.
+#[cycle(add_statement)]
+fn add_statement(graph: &mut WireGraph, place: &Place, statement: &Control) -> Result<(), Memory>
+    requires { StatementHasNumbers (names_at place.now) statement.now }
+    ensures { OnOk result (AddsGroups (design_at place.now) (comp_at place.now) (groups_invoked (design_at place.now) (comp_at place.now) (statements_in (statement_tree (names_at place.now) statement.now))) graph.old graph.new) }
+{
+    match statement {
+        Control::Enable(_) => Ok(()),
+        Control::Invoke { cell, ins, outs } => add_invoke(graph, place, *cell, ins, outs),
+        Control::Seq(list) => add_statements(graph, place, list),
+        Control::Par(list) => add_statements(graph, place, list),
+        Control::If { yes, no, .. } => {
+            add_statement(graph, place, yes)?;
+            add_statement(graph, place, no)
+        }
+        Control::While { body, .. } => add_statement(graph, place, body),
+    }
+}
+
+/// Adds what the invokes of the statements of a list say.
+#[cycle(add_statement)]
+fn add_statements(graph: &mut WireGraph, place: &Place, list: &[Control]) -> Result<(), Memory>
+    requires { All (StatementHasNumbers (names_at place.now)) list.now }
+    ensures { OnOk result (AddsGroups (design_at place.now) (comp_at place.now) (groups_invoked (design_at place.now) (comp_at place.now) (statements_of (statements_from (map (statement_tree (names_at place.now)) list.now)))) graph.old graph.new) }
+{
+    for statement in list {
+        add_statement(graph, place, statement)?;
+    }
+    Ok(())
+}
+
+/// Adds what the invokes of a component's control say.
+fn add_control(graph: &mut WireGraph, place: &Place, control: &ControlPart) -> Result<(), Memory>
+    requires { ControlHasNumbers (names_at place.now) control.now }
+    ensures { OnOk result (AddsGroups (design_at place.now) (comp_at place.now) (groups_invoked (design_at place.now) (comp_at place.now) (control_statements (control_tree (names_at place.now) control.now))) graph.old graph.new) }
+{
+    match control {
+        ControlPart::Absent => Ok(()),
+        ControlPart::Empty => Ok(()),
+        ControlPart::Body(statement) => add_statement(graph, place, statement),
+    }
+}
+
+/// The name of a port of a primitive, by its place: inputs come first, then outputs.
+fn pin_name(prim: Prim, place: usize) -> &'static str
+    requires made { IsMade prim }
+    requires place { place < length (pins_of prim) }
+    ensures { result.now ≡ name_at (pins_of prim) place }
+{
+    match prim.port(place) {
+        Some(port) => port.name,
+        None => unreachable!(),
+    }
+}
+
+/// Adds that an output of a cell of a primitive reads an input, if it depends on it.
+fn add_through(
+    graph: &mut WireGraph,
+    cell: &[u8],
+    prim: Prim,
+    output: usize,
+    input: usize,
+) -> Result<(), Memory>
+    requires made { IsMade prim }
+    requires output { output < length (outputs_of prim) }
+    requires input { input < length (inputs_of prim) }
+    ensures { OnOk result (Grows (ReadsThrough cell.now prim (name_at (outputs_of prim) output) (name_at (inputs_of prim) input)) graph.old graph.new) }
+{
+    if !prim.through(input, output) {
+        return Ok(());
+    }
+    let place = prim.inputs() + output;
+    let pin = pin_name(prim, place);
+    let number = graph.port(PortText::of(cell, pin.as_bytes()))?;
+    let read = pin_name(prim, input);
+    let other = graph.port(PortText::of(cell, read.as_bytes()))?;
+    graph.add(number, other)
+}
+
+/// Adds on which inputs an output of a cell of a primitive depends.
+fn add_primitive_output(
+    graph: &mut WireGraph,
+    cell: &[u8],
+    prim: Prim,
+    output: usize,
+) -> Result<(), Memory>
+    requires made { IsMade prim }
+    requires output { output < length (outputs_of prim) }
+    ensures { OnOk result (Grows (ReadsOutput cell.now prim (name_at (outputs_of prim) output)) graph.old graph.new) }
+{
+    for input in 0..prim.inputs() {
+        add_through(graph, cell, prim, output, input)?;
+    }
+    Ok(())
+}
+
+/// Adds on which inputs the outputs of a cell of a primitive depend.
+fn add_primitive(graph: &mut WireGraph, cell: &[u8], prim: Prim) -> Result<(), Memory>
+    requires { IsMade prim }
+    ensures { OnOk result (Grows (ReadsInPrimitive cell.now prim) graph.old graph.new) }
+{
+    for output in 0..prim.outputs() {
+        add_primitive_output(graph, cell, prim, output)?;
+    }
+    Ok(())
+}
+
+/// Adds that a port of a cell reads others of it, by their numbers among `ports`.
+fn add_part_output(
+    graph: &mut WireGraph,
+    cell: &[u8],
+    ports: &Names,
+    output: usize,
+    inputs: &[usize],
+) -> Result<(), Memory>
+    requires output { output < length ports.now }
+    requires inputs { All (λ input. input < length ports.now) inputs.now }
+    ensures { OnOk result (Grows (ReadsNumbers cell.now ports.now output inputs.now) graph.old graph.new) }
+{
+    let number = graph.port(PortText::of(cell, text_at(ports, output)))?;
+    for input in inputs {
+        let other = graph.port(PortText::of(cell, text_at(ports, *input)))?;
+        graph.add(number, other)?;
+    }
+    Ok(())
+}
+
+/// Adds on which inputs the outputs of a cell depend that is made of the component of this number.
+fn add_part(
+    graph: &mut WireGraph,
+    place: &Place,
+    cell: &[u8],
+    part: usize,
+    wires: &Wires,
+) -> Result<(), Memory>
+    requires kept { KeepsRules (design_at place.now) }
+    requires part { part < length (design_at place.now) }
+    requires wires { (c : Component) → slice_get (design_at place.now) part ≡ Some c → DependsOn (design_at place.now) c wires.now }
+    ensures { (c : Component) → slice_get (design_at place.now) part ≡ Some c
+        → OnOk result (Grows (ReadsInPart (design_at place.now) cell.now c) graph.old graph.new) }
+{
+    let inputs = place.signature_of(part).inputs;
+    let ports = part_names(place, part);
+    let _count = ports.len();
+    for (output, reached) in wires.inputs.iter().enumerate() {
+        let number = inputs + output;
+        add_part_output(graph, cell, ports, number, reached)?;
+    }
+    Ok(())
+}
+
+/// The wires of the component of this number.
+fn wires_at(wires: &[Wires], number: usize) -> &Wires
+    requires { number < length wires.now }
+    ensures { slice_get wires.now number ≡ Some result.now }
+{
+    &wires[number]
+}
+
+/// Adds on which inputs the outputs of a cell of the component depend.
+fn add_cell(
+    graph: &mut WireGraph,
+    place: &Place,
+    wires: &[Wires],
+    number: usize,
+) -> Result<(), Memory>
+    requires kept { KeepsRules (design_at place.now) }
+    requires parts { ShowsParts (design_at place.now) place.now.number wires.now }
+    requires number { number < length (comp_at place.now).cells }
+    ensures { (cell : CellDef) → slice_get (comp_at place.now).cells number ≡ Some cell
+        → OnOk result (Grows (ReadsInCell (design_at place.now) (comp_at place.now) cell.name) graph.old graph.new) }
+{
+    let name = place.text(place.comp().cells[number].name);
+    match place.made(number) {
+        Some(Made::Primitive(prim)) => add_primitive(graph, name, prim),
+        Some(Made::Component(part)) => add_part(graph, place, name, part, wires_at(wires, part)),
+        None => Ok(()),
+    }
+}
+
+/// Adds on which inputs the outputs of the component's cells depend, where `wires` are those of all components before it
+/// in the order of parts, by their numbers.
+fn add_cells(graph: &mut WireGraph, place: &Place, wires: &[Wires]) -> Result<(), Memory>
+    requires kept { KeepsRules (design_at place.now) }
+    requires parts { ShowsParts (design_at place.now) place.now.number wires.now }
+    ensures { OnOk result (Grows (ReadsInCells (design_at place.now) (comp_at place.now)) graph.old graph.new) }
+{
+    for number in 0..place.comp().cells.len() {
+        add_cell(graph, place, wires, number)?;
+    }
+    Ok(())
+}
+
+/// Numbers the component's own inputs, in their order.
+fn add_inputs(graph: &mut WireGraph, place: &Place) -> Result<(), Memory>
+    requires kept { KeepsRules (design_at place.now) }
+    requires none { graph.old.keys ≡ [] }
+    ensures inputs { OnOk result (graph.new.keys ≡ map input_key (inputs_in (comp_at place.now))) }
+    ensures grows { OnOk result (Grows NoPair graph.old graph.new) }
+{
+    let ports = port_names(place);
+    for input in 0..place.signature().inputs {
+        let _number = graph.port(PortText::own(text_at(ports, input)))?;
+    }
+    Ok(())
+}
+
+/// Which port of the component reads which within a row. Its own inputs are the first ports, by their numbers.
+fn wire_graph(alloc: Global, place: &Place, wires: &[Wires]) -> Result<WireGraph, Memory>
+    requires kept { KeepsRules (design_at place.now) }
+    requires parts { ShowsParts (design_at place.now) place.now.number wires.now }
+    ensures reads { IfOk result (IsGraphOf (design_at place.now) (comp_at place.now)) }
+    ensures inputs { IfOk result (λ graph. KeepsTexts (map input_key (inputs_in (comp_at place.now))) graph.keys) }
+{
+    let comp = place.comp();
+    let mut graph = WireGraph::new(alloc);
+    add_inputs(&mut graph, place)?;
+    add_sets(&mut graph, place, None, &comp.sets)?;
+    add_groups(&mut graph, place, &comp.groups)?;
+    add_control(&mut graph, place, &comp.control)?;
+    add_cells(&mut graph, place, wires)?;
+    Ok(graph)
+}
+
+/// Those of the ports whose number is below `count`.
+fn below(alloc: Global, ports: &[usize], count: usize) -> Result<Vec<usize>, Memory>
+    ensures { IfOk result (λ few. (i : ℕ) → Contains few.items i ↔ ((i < count) × Contains ports.now i)) }
+{
+    let mut few = Vec::new(alloc);
+    for port in ports {
+        if *port < count {
+            few.push(*port)?;
+        }
+    }
+    Ok(few)
+}
+
+/// The inputs that an output of the component reaches.
+fn inputs_of(
+    graph: &WireGraph,
+    reads: &Groups,
+    reach: &mut Reach,
+    output: &[u8],
+    inputs: usize,
+) -> Result<Vec<usize>, Memory>
+    requires in_range { AreInRange reads.now }
+    requires size { reach.old ≡ length reads.now }
+    requires keys { length reads.now ≡ length graph.now.keys }
+    requires distinct { AreDistinct graph.now.keys }
+    ensures reached { IfOk result (λ numbers. (i : ℕ) → Contains numbers.items i ↔ ((i < inputs) × LeadsTo graph.now reads.now output.now i)) }
+    ensures size { reach.new ≡ reach.old }
+{
+    match graph.find(PortText::own(output))? {
+        Some(start) => {
+            let reached = reach.from(graph.alloc, reads, start.0 as usize)?;
+            below(graph.alloc, &reached, inputs)
+        }
+        None => Ok(Vec::new(graph.alloc)),
+    }
+}
+
+/// For each output of the component the inputs that it reaches.
+fn wires_of(place: &Place, graph: &WireGraph, reads: &Groups) -> Result<Wires, Memory>
+    requires kept { KeepsRules (design_at place.now) }
+    requires graph { IsGraphOf (design_at place.now) (comp_at place.now) graph.now }
+    requires inputs { KeepsTexts (map input_key (inputs_in (comp_at place.now))) graph.now.keys }
+    requires distinct { AreDistinct graph.now.keys }
+    requires reads { IsGathered graph.now.entries.items (length graph.now.keys) reads.now }
+    ensures { IfOk result (DependsOn (design_at place.now) (comp_at place.now)) }
+{
+    let ports = port_names(place);
+    let count = place.signature().inputs;
+    let mut reach = Reach::new(graph.alloc, reads)?;
+    let mut inputs = Vec::new(graph.alloc);
+    for output in count..ports.len() {
+        let pin = text_at(ports, output);
+        inputs.push(inputs_of(graph, reads, &mut reach, pin, count)?)?;
+    }
+    Ok(Wires { inputs })
+}
+
+/// What the outputs of the component depend on, where it is a part; nothing is looked for where it is none.
+fn part_wires(
+    place: &Place,
+    graph: &WireGraph,
+    reads: &Groups,
+    is_part: bool,
+) -> Result<Wires, Memory>
+    requires kept { KeepsRules (design_at place.now) }
+    requires graph { IsGraphOf (design_at place.now) (comp_at place.now) graph.now }
+    requires inputs { KeepsTexts (map input_key (inputs_in (comp_at place.now))) graph.now.keys }
+    requires distinct { AreDistinct graph.now.keys }
+    requires reads { IsGathered graph.now.entries.items (length graph.now.keys) reads.now }
+    ensures { IsTrue is_part → IfOk result (DependsOn (design_at place.now) (comp_at place.now)) }
+{
+    if is_part {
+        return wires_of(place, graph, reads);
+    }
+    let inputs = Vec::new(graph.alloc);
+    Ok(Wires { inputs })
+}
+
+/// Puts the full name last that the key tells, if it is a port's.
+fn add_full_name(alloc: Global, names: &mut Vec<Word>, key: &[u8]) -> Result<(), Memory>
+    ensures { (node : Node) → key.now ≡ key_of node → OnOk result (names.new.items ≡ names.old.items ++ map shown (node_ports node)) }
+{
+    match name_in(alloc, key)? {
+        Some(name) => {
+            names.push(name)?;
+            Ok(())
+        }
+        None => Ok(()),
+    }
+}
+
+/// The full names of those of the numbers that are ports.
+fn full_names(alloc: Global, keys: &Names, numbers: &[usize]) -> Result<Vec<Word>, Memory>
+    requires { All (λ number. number < length keys.now) numbers.now }
+    ensures { (node : ℕ → Node) → All (λ number. slice_get keys.now number ≡ Some (key_of (node number))) numbers.now
+        → IfOk result (λ names. names.items ≡ flat_map (λ number. map shown (node_ports (node number))) numbers.now) }
+{
+    let mut names = Vec::new(alloc);
+    for number in numbers {
+        add_full_name(alloc, &mut names, text_at(keys, *number))?;
+    }
+    Ok(names)
+}
+
+/// The least loop, if there is a loop.
+fn least_loop(graph: &WireGraph, reads: &Groups) -> Result<Option<Vec<Word>>, Memory>
+    requires distinct { AreDistinct graph.now.keys }
+    requires room { length graph.now.keys < 2 ^ 32 }
+    requires reads { IsGathered graph.now.entries.items (length graph.now.keys) reads.now }
+    ensures { (design : Design) (c : Component) → IsGraphOf design c graph.now → IfOk result (TellsLoop design c) }
+{
+    match order_or_least_loop(graph.alloc, reads, &graph.keys) {
+        Ok(_order) => Ok(None),
+        Err(OrderEnd::Loop { ports }) => Ok(Some(full_names(graph.alloc, &graph.keys, &ports)?)),
+        Err(OrderEnd::Memory) => Err(Memory),
+    }
+}
+
+/// Judges a component of a design that keeps C1 to C11 by C12, where `wires` are those of its parts, by the numbers of
+/// the components. What its outputs depend on is looked for only where it is a part itself.
+pub fn judge_wires(
+    alloc: Global,
+    place: &Place,
+    wires: &[Wires],
+    is_part: bool,
+) -> Result<Judged, Memory>
+    requires kept { KeepsRules (design_at place.now) }
+    requires parts { ShowsParts (design_at place.now) place.now.number wires.now }
+    ensures wires { IsTrue is_part → IfOk result (λ judged. DependsOn (design_at place.now) (comp_at place.now) judged.wires) }
+    ensures cycle { IfOk result (λ judged. TellsLoop (design_at place.now) (comp_at place.now) judged.least_loop) }
+{
+    let graph = wire_graph(alloc, place, wires)?;
+    let reads = gather(alloc, graph.entries.as_slice(), graph.keys.len())?;
+    let least_loop = least_loop(&graph, &reads)?;
+    let wires = part_wires(place, &graph, &reads, is_part)?;
+    Ok(Judged { wires, least_loop })
+}
