@@ -1,0 +1,17 @@
+pub mod PlainLemmas
+pub mod WrittenLists
+pub mod WrittenNames
+pub mod WrittenGuards
+pub mod WrittenPieces
+pub mod WrittenInvokes
+pub mod WrittenWires
+pub mod WireLemmas
+pub mod ShapeLemmas
+pub mod MadeLemmas
+pub mod CellLemmas
+pub mod MemoryLemmas
+pub mod RefineLemmas
+pub mod TextSegments
+pub mod TextGuards
+pub mod TextLemmas
+pub mod SimplifyLemmas

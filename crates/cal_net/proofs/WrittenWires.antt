@@ -1,0 +1,205 @@
+-- Where a design can be written, so can its wires.
+use Rattle.std.proofs.Common.{◌≡◌, ℕ, ◌+◌, Bool, true, false, List, [], ◌∷◌, ◌++◌, length, flat_map, map, codes, slice_get, Option, Some, None, bytes_eq, if◌then◌else◌, lit<, refl, sym, ap, ◌∙◌, subst}
+use Rattle.std.specs.Prelude.{◌≢◌}
+use Rattle.std.specs.List.{AllByRecursion}
+use Rattle.std.proofs.lemmas.Bool.{false≢true}
+use Rattle.hw_names.specs.Name.{Text}
+use Rattle.hw_prims.specs.Table.{Pin, pin}
+use Rattle.net_core.specs.Guard.{GuardTree, Negates}
+use Rattle.cal_ast.specs.Actors.{Actor, GroupNamed}
+use Rattle.cal_ast.specs.Holes.{ActivityRule, guarded_set, is_rule_of, rule_guard, rules_of, when_of, with_guard}
+use Rattle.cal_ast.specs.Items.{items_before_control}
+use Rattle.cal_ast.specs.Plan.{Plan, plan_of}
+use Rattle.cal_ast.specs.Ports.{has_pin, inputs_in, is_bare, outputs_in, with_pin}
+use Rattle.cal_ast.specs.Tree.{Absent, Assignment, Component, Design, DoneLine, GroupDef, PortName}
+use Rattle.cal_group.specs.Expanded.{expanded, expanded_design}
+use Rattle.cal_group.specs.Removed.{removed, removed_design, ruled_sets}
+use Rattle.cal_lower.specs.Lowered.{acts_guard, control_ends, control_pieces, done_set, done_wire, group_pieces, instance_pieces, lowered, plan_pieces, rule_of, rules_from, start_guard, with_registers}
+use Rattle.cal_lower.specs.Parts.{enabling, part_ends, part_pieces, testing}
+use Rattle.cal_lower.specs.Pieces.{Kind, Piece, Register, Wire, acts_name, any_of, both, busy_name, either, enables_piece, is_done, is_set, never, over_name, piece_cell, piece_sets, start_name}
+use Rattle.cal_parse.specs.Written.{AssignmentIsWritten, CellIsWritten, ComponentIsWritten, DesignIsWritten, DoneIsWritten, GroupIsWritten, GuardIsWritten, InputIsWritten, IsCalName, PinIsWritten, WhenIsWritten}
+use Rattle.cal_walk.specs.Left.{is_over}
+use Rattle.cal_net.specs.Laws.{WiresAreWritten}
+use Rattle.cal_net.proofs.WrittenGuards.{PlanIsWritten, any_written, both_written, done_written, either_written, enabling_written, ends_written, guard_chosen, never_written, section_written, set_written, testing_written}
+use Rattle.cal_net.proofs.WrittenInvokes.{expanded_written}
+use Rattle.cal_net.proofs.WrittenLists.{all_append, all_chosen, all_flat_map, all_kept, all_map, map_some}
+use Rattle.cal_net.proofs.WrittenNames.{acts_named, busy_named, done_named, done_pin_named, enable_named, go_named, in_named, made_named, name_bytes, out_named, over_named, start_named}
+use Rattle.cal_net.proofs.WrittenPieces.{ArePieces, PieceIsWritten, one_written, part_written, piece_written}
+
+abbrev Guard : Type 0
+Guard = GuardTree PortName
+
+start_is : GuardIsWritten (is_set start_name)
+start_is = set_written start_name start_named
+
+-- ---- pieces of a component
+
+acts_written : (plan : Plan) (g : GroupDef) → IsCalName g.name → GuardIsWritten (acts_guard plan g)
+acts_written plan g named =
+    let actor : Actor = GroupNamed g.name in
+    let tests = testing 0 plan (is_set start_name) actor in
+    let enables = enabling 0 plan (is_set start_name) actor in
+    guard_chosen g.comb (any_of tests) (both (any_of enables) (Negates (is_done actor))) (any_written tests (testing_written actor 0 plan (is_set start_name) start_is))
+    (both_written (any_of enables) (Negates (is_done actor)) (any_written enables (enabling_written actor 0 plan (is_set start_name) start_is)) (done_written actor (name_bytes g.name named)))
+
+done_wire_written : (d : DoneLine) → DoneIsWritten d → PieceIsWritten (done_wire d)
+done_wire_written d is = (done_named d.group (name_bytes d.group is.0), is.1)
+
+group_pieces_written : (plan : Plan) (g : GroupDef) → GroupIsWritten g → ArePieces (group_pieces plan g)
+group_pieces_written plan g is = (
+  piece_written Wire (acts_name g.name) (acts_guard plan g) (acts_named g.name (name_bytes g.name is.0)) (acts_written plan g is.0),
+  all_map DoneIsWritten PieceIsWritten done_wire done_wire_written g.dones is.1.1,
+)
+
+control_ends_written : (plan : Plan) → GuardIsWritten (control_ends plan)
+control_ends_written plan = guard_chosen (is_over plan) (is_set start_name) (part_ends 0) start_is (ends_written 0)
+
+start_guard_written : GuardIsWritten start_guard
+start_guard_written = (tt, ((tt, go_named), (set_written busy_name busy_named, (set_written over_name over_named, tt))))
+
+instance_written : (plan : Plan) → ArePieces (instance_pieces plan)
+instance_written plan =
+    let runs = either (is_set start_name) (is_set busy_name) in
+    let ends = control_ends plan in (
+      piece_written Wire start_name start_guard start_named start_guard_written,
+      (
+        piece_written Register busy_name (both runs (Negates ends)) busy_named
+            (both_written runs (Negates ends) (either_written (is_set start_name) (is_set busy_name) start_is (set_written busy_name busy_named)) (control_ends_written plan)),
+        (piece_written Register over_name ends over_named (control_ends_written plan), tt),
+      ),
+    )
+
+plan_pieces_written : (plan : Plan) → PlanIsWritten plan → ArePieces (plan_pieces plan)
+plan_pieces_written plan is = all_chosen PieceIsWritten (is_over plan) [] (part_pieces 0 plan (is_set start_name)) tt (part_written 0 plan (is_set start_name) is start_is)
+
+pieces_written : (c : Component) → ComponentIsWritten c → ArePieces (control_pieces c)
+pieces_written c is =
+    let plan = plan_of c in
+    let groups = flat_map (group_pieces plan) c.groups in
+    all_append PieceIsWritten (instance_pieces plan ++ groups) (plan_pieces plan)
+    (all_append PieceIsWritten (instance_pieces plan) groups (instance_written plan) (all_flat_map GroupIsWritten PieceIsWritten (group_pieces plan) (group_pieces_written plan) c.groups is.groups))
+    (plan_pieces_written plan (section_written (length (items_before_control c)) c.control is.control))
+
+cell_written : (p : Piece) → PieceIsWritten p → CellIsWritten (piece_cell p)
+cell_written p is = (is.0, (made_named p.kind, (lit< tt, tt)))
+
+enables_written : (kind : Kind) (name : Text) → IsCalName name → AllByRecursion AssignmentIsWritten (enables_piece kind name)
+enables_written Wire name named = tt
+enables_written Register name named = (((named, enable_named), (tt, one_written)), tt)
+
+piece_sets_written : (p : Piece) → PieceIsWritten p → AllByRecursion AssignmentIsWritten (piece_sets p)
+piece_sets_written p is = (((is.0, in_named), is.1), enables_written p.kind p.name is.0)
+
+-- ---- the lowered component
+
+go_apart : (other : Text) → bytes_eq (codes "go") other ≡ false → codes "go" ≢ other
+go_apart other apart same = false≢true (sym (ap (bytes_eq (codes "go")) same ∙ apart))
+
+go_input : InputIsWritten (pin (codes "go") 1)
+go_input = ((go_named, lit< tt), (go_apart (codes "clk") refl, go_apart (codes "reset") refl))
+
+with_pin_written : (P : Pin → Type 0) (name : Text) (pins : List Pin) → P (pin name 1) → AllByRecursion P pins → AllByRecursion P (with_pin name pins)
+with_pin_written P name pins is are = all_chosen P (has_pin pins name) pins (pins ++ pin name 1 ∷ []) are (all_append P pins (pin name 1 ∷ []) are (is, tt))
+
+inputs_written : (c : Component) → ComponentIsWritten c → AllByRecursion InputIsWritten (inputs_in c)
+inputs_written c is = all_chosen InputIsWritten (is_bare c) c.ins (with_pin (codes "go") c.ins) is.ins (with_pin_written InputIsWritten (codes "go") c.ins go_input is.ins)
+
+outputs_written : (c : Component) → ComponentIsWritten c → AllByRecursion PinIsWritten (outputs_in c)
+outputs_written c is =
+    all_chosen PinIsWritten (is_bare c) c.outs (with_pin (codes "done") c.outs) is.outs (with_pin_written PinIsWritten (codes "done") c.outs (done_pin_named, lit< tt) is.outs)
+
+done_set_written : AssignmentIsWritten done_set
+done_set_written = ((tt, done_pin_named), (tt, (over_named, out_named)))
+
+registers_written : (c : Component) → ComponentIsWritten c → ComponentIsWritten (with_registers c)
+registers_written c is =
+    let pieces = control_pieces c in
+    let are = pieces_written c is in
+    record {
+      name = is.name;
+      ins = inputs_written c is;
+      outs = outputs_written c is;
+      cells = all_append CellIsWritten c.cells (map piece_cell pieces) is.cells (all_map PieceIsWritten CellIsWritten piece_cell cell_written pieces are);
+      groups = is.groups;
+      sets = all_append AssignmentIsWritten (c.sets ++ flat_map piece_sets pieces) (done_set ∷ [])
+          (all_append AssignmentIsWritten c.sets (flat_map piece_sets pieces) is.sets (all_flat_map PieceIsWritten AssignmentIsWritten piece_sets piece_sets_written pieces are))
+          (done_set_written, tt);
+      control = tt;
+    }
+
+bare_written : (c : Component) → ComponentIsWritten c → ComponentIsWritten (record c { control = Absent })
+bare_written c is = record { name = is.name; ins = is.ins; outs = is.outs; cells = is.cells; groups = is.groups; sets = is.sets; control = tt }
+
+lowered_written : (c : Component) → ComponentIsWritten c → ComponentIsWritten (lowered c)
+lowered_written c is = by (is_bare c)
+  where
+    by : (bare : Bool) → ComponentIsWritten (if bare then record c { control = Absent } else with_registers c)
+    by true = bare_written c is
+    by false = registers_written c is
+
+-- ---- the rules
+
+abbrev RuleIsWritten : ActivityRule → Type 0
+RuleIsWritten rule = GuardIsWritten rule.when
+
+rule_written : (n : ℕ) (c : Component) (g : GroupDef) → GroupIsWritten g → RuleIsWritten (rule_of n c g)
+rule_written n c g is = guard_chosen (is_bare c) never (is_set (acts_name g.name)) never_written (set_written (acts_name g.name) (acts_named g.name (name_bytes g.name is.0)))
+
+rules_written : (n : ℕ) (design : Design) → AllByRecursion ComponentIsWritten design → AllByRecursion RuleIsWritten (rules_from n design)
+rules_written n [] are = tt
+rules_written n (c ∷ cs) are =
+    all_append RuleIsWritten (map (rule_of n c) c.groups) (rules_from (n + 1) cs)
+    (all_map GroupIsWritten RuleIsWritten (rule_of n c) (rule_written n c) c.groups are.0.groups) (rules_written (n + 1) cs are.1)
+
+first_written : (rules : List ActivityRule) → AllByRecursion RuleIsWritten rules → WhenIsWritten (rule_guard rules)
+first_written [] are = tt
+first_written (rule ∷ rules) are = are.0
+
+-- ---- the component without groups
+
+guard_added : (when guard : Option Guard) → WhenIsWritten when → WhenIsWritten guard → WhenIsWritten (with_guard when guard)
+guard_added None guard is_when is = is
+guard_added (Some when) None is_when is = is_when
+guard_added (Some when) (Some guard) is_when is = (tt, (is_when, (is, tt)))
+
+set_guarded : (when : Option Guard) → WhenIsWritten when → (a : Assignment) → AssignmentIsWritten a → AssignmentIsWritten (guarded_set when a)
+set_guarded when is_when a is = (is.0, (guard_added when a.guard is_when is.1.0, is.1.1))
+
+module _ (design : Design) (rules : List ActivityRule) (are : AllByRecursion RuleIsWritten rules) where
+  ruled_written : (c : Component) (g : GroupDef) → GroupIsWritten g → AllByRecursion AssignmentIsWritten (ruled_sets design rules c g)
+  ruled_written c g is =
+      let when = when_of design rules c g.name in
+      let test : ActivityRule → Bool = λ rule. is_rule_of (slice_get design rule.comp) c g.name rule in
+      let is_when : WhenIsWritten when = first_written (rules_of design rules c g.name) (all_kept RuleIsWritten test rules are) in
+      all_map AssignmentIsWritten AssignmentIsWritten (guarded_set when) (set_guarded when is_when) g.sets is.1.0
+
+  removed_written : (c : Component) → ComponentIsWritten c → ComponentIsWritten (removed design rules c)
+  removed_written c is = record {
+    name = is.name;
+    ins = is.ins;
+    outs = is.outs;
+    cells = is.cells;
+    groups = tt;
+    sets = all_append AssignmentIsWritten c.sets (flat_map (ruled_sets design rules c) c.groups) is.sets
+        (all_flat_map GroupIsWritten AssignmentIsWritten (ruled_sets design rules c) (ruled_written c) c.groups is.groups);
+    control = is.control;
+  }
+
+-- ---- the design
+
+design_expanded : (design : Design) → DesignIsWritten design → DesignIsWritten (expanded_design design)
+design_expanded design is = (map_some (expanded design) design is.0, all_map ComponentIsWritten ComponentIsWritten (expanded design) (expanded_written design) design is.1)
+
+design_lowered : (design : Design) → DesignIsWritten design → DesignIsWritten (map lowered design)
+design_lowered design is = (map_some lowered design is.0, all_map ComponentIsWritten ComponentIsWritten lowered lowered_written design is.1)
+
+design_removed : (design : Design) (rules : List ActivityRule) → AllByRecursion RuleIsWritten rules → DesignIsWritten design → DesignIsWritten (removed_design design rules)
+design_removed design rules are is =
+    (map_some (removed design rules) design is.0, all_map ComponentIsWritten ComponentIsWritten (removed design rules) (removed_written design rules are) design is.1)
+
+pub wires_are_written : WiresAreWritten
+wires_are_written source wires rules written of =
+    let plain = design_expanded source written in
+    let holes = subst DesignIsWritten (sym of.lowering.design) (design_lowered (expanded_design source) plain) in
+    let acting = subst (λ (rs : List ActivityRule). AllByRecursion RuleIsWritten rs) (sym of.lowering.acting) (rules_written 0 (expanded_design source) plain.1) in
+    subst DesignIsWritten (sym of.removal) (design_removed of.holes of.rules acting holes)

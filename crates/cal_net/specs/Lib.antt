@@ -1,0 +1,4 @@
+pub mod Face
+pub mod Lowers
+pub mod Refining
+pub mod Laws
