@@ -8,3 +8,4 @@ pub mod RegisterNames
 pub mod WrittenLemmas
 pub mod PortLemmas
 pub mod TextLemmas
+pub mod SimplifyLemmas

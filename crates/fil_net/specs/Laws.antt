@@ -1,6 +1,7 @@
--- That a Filament design which is lowered and then flattened is a netlist that keeps what the design promises, and has a text. This project's.
-use Rattle.net_core.specs.Netlist.{netlist_of}
+-- That a Filament design which is lowered, flattened and simplified is a netlist that keeps what the design promises, and has a text. This project's.
+use Rattle.net_core.specs.Netlist.{Netlist, netlist_of}
 use Rattle.net_core.specs.declared.net.Net.{Net}
+use Rattle.net_guard.specs.Simplified.{IsSimplified}
 use Rattle.net_text.specs.Names.{HasText}
 use Rattle.cal_ast.specs.Tree as calyx
 use Rattle.fil_ast.specs.Plain.{HasPlainTree}
@@ -25,3 +26,7 @@ abbrev pub FlattenedLoweringsHaveText : Type 0
 FlattenedLoweringsHaveText =
     (comps : Design) (design : calyx.Design) (net : Net) → FilRules comps → DesignIsWritten comps → IsLoweringOf comps design → IsFlatTop design net →
     HasText (netlist_of net)
+
+-- a netlist with its guards folded keeps what the design promises
+abbrev pub SimplifiedNetsRefine : Type 0
+SimplifiedNetsRefine = (comps : Design) (old new : Netlist) → IsSimplified old new → Refines comps old → Refines comps new

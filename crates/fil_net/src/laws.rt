@@ -1,8 +1,9 @@
-//! That what is lowered and flattened keeps what the design promises.
+//! That what is lowered, flattened and simplified keeps what the design promises.
 ghost use Rattle.fil_net.specs.Laws.{
   WrittenDesignsArePlain,
   FlattenedLoweringsRefine,
   FlattenedLoweringsHaveText,
+  SimplifiedNetsRefine,
 };
 
 /// Names that a text can have are plain.
@@ -18,4 +19,9 @@ pub fn flattened_lowerings_refine()
 /// And has a text, from which it can be read back.
 pub fn flattened_lowerings_have_text()
     ensures { FlattenedLoweringsHaveText }
+{}
+
+/// A netlist with its guards folded keeps what the design promises.
+pub fn simplified_nets_refine()
+    ensures { SimplifiedNetsRefine }
 {}

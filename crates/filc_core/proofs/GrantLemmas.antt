@@ -5,13 +5,14 @@ use Rattle.net_core.specs.Netlist.{Netlist}
 use Rattle.net_text.specs.Layout.{net_text}
 use Rattle.stim_read.specs.TxRun.{Transaction}
 use Rattle.filc_report.specs.Runs.{PrintedRun, RunComes, plain_run, stimulus_run}
+use Rattle.filc_calyx.specs.Means as calyx
 use Rattle.filc_stop.specs.Outcome.{Contents, Outcome}
 use Rattle.filc_stop.specs.declared.ended.Ended.{Ended}
 use Rattle.filc_stop.specs.declared.ended.Ended.TheVariants.{Done, Conflict}
-use Rattle.filc_stop.specs.declared.language.Language.TheVariants.{Netlists, Filament}
+use Rattle.filc_stop.specs.declared.language.Language.TheVariants.{Netlists, Filament, Calyx}
 use Rattle.filc_core.proofs.CheckLemmas.{check_reads, check_comes}
-use Rattle.filc_core.proofs.LowerFilLemmas.{lower_fil_reads, lower_fil_comes}
-use Rattle.filc_core.proofs.NetFilLemmas.{net_fil_reads, net_fil_comes}
+use Rattle.filc_core.proofs.CalRunLemmas.{driven_of, sim_cal_comes, sim_cal_reading, trace_cal_comes, trace_cal_reading}
+use Rattle.filc_core.proofs.MakingLemmas.{making_reads, making_comes}
 use Rattle.filc_core.proofs.NetRunLemmas.{net_run_reads, net_run_comes}
 use Rattle.filc_core.proofs.PerformLemmas.{one_told, both_told}
 use Rattle.filc_core.proofs.RowsLemmas.{rows_reads, rows_comes}
@@ -19,9 +20,10 @@ use Rattle.filc_core.proofs.SourceLemmas.{is_told}
 use Rattle.filc_core.proofs.StartedLemmas.{started_reads, started_comes}
 use Rattle.filc_core.proofs.TraceFilLemmas.{trace_fil_reading, trace_fil_done}
 use Rattle.filc_core.specs.Files.{IsToldFor}
-use Rattle.filc_core.specs.Request.{Request, OfCheck, OfRows, OfSimNet, OfTraceNet, OfFlow, OfTimeline, OfNetFil, OfSimFil, OfTraceFil, OfLowerFil, command_of}
+use Rattle.filc_core.specs.Request.{Request, OfCheck, OfRows, OfSimNet, OfTraceNet, OfFlow, OfTimeline, OfSimFil, OfTraceFil, OfSimCal, OfTraceCal, OfMaking, command_of}
+use Rattle.filc_core.specs.commands.CalRun as cal_run
+use Rattle.filc_core.specs.commands.Driven.{Driven}
 use Rattle.filc_core.specs.commands.NetRun as net_run
-use Rattle.filc_core.specs.commands.NetRun.{Driven}
 use Rattle.filc_core.specs.commands.Flow.{flow_of_top}
 use Rattle.filc_core.specs.commands.SimFil.{rows_of_top}
 use Rattle.filc_core.specs.commands.Timeline.{holds_in_top}
@@ -44,8 +46,18 @@ started_ends : (word : Text) (told : Top → List Transaction → Text) (c : Sta
 started_ends word told c contents granted made o comes =
     inl (ap (λ (x : Outcome). x.ended) (started_comes word told c contents granted.top granted.run granted.gives made o comes))
 
+means_ends : (d : calyx.Driven) (o : Outcome) → calyx.Means d o → IsGrantedEnd o.ended
+means_ends d o (inl clash) = inr (ap (λ (x : Outcome). x.ended) clash.outcome)
+means_ends d o (inr whole) = inl (ap (λ (x : Outcome). x.ended) whole.outcome)
+
+traces_end : (d : calyx.Driven) (made : Text) (o : Outcome) → calyx.Traces d made o → IsGrantedEnd o.ended
+traces_end d made o traces = run_ends (stimulus_run traces.net d.run (made ++ 10 ∷ []) true) o traces.comes
+
 run_is_told : (c : Driven) (contents : Contents) → net_run.IsGranted c contents → IsSome (contents c.stimulus)
 run_is_told c contents granted = is_told (contents c.stimulus) granted.gives.gives_run.bytes granted.gives.gives_run.told
+
+cal_run_is_told : (c : Driven) (contents : Contents) → cal_run.IsGranted c contents → IsSome (contents c.stimulus)
+cal_run_is_told c contents granted = is_told (contents c.stimulus) granted.gives.gives_run.bytes granted.gives.gives_run.told
 
 list_is_told : (c : Started) (contents : Contents) → started.IsGranted c contents → IsSome (contents c.stimulus)
 list_is_told c contents granted = is_told (contents c.stimulus) granted.gives.gives_transactions.bytes granted.gives.gives_transactions.told
@@ -58,10 +70,11 @@ granted_ends (OfSimNet c) contents made o granted comes = net_run_ends (codes "s
 granted_ends (OfTraceNet c) contents made o granted comes = net_run_ends (codes "trace") (λ net. net_text net ++ 10 ∷ []) true c contents granted made o comes
 granted_ends (OfFlow c) contents made o granted comes = started_ends (codes "flow") flow_of_top c contents granted made o comes
 granted_ends (OfTimeline c) contents made o granted comes = started_ends (codes "timeline") holds_in_top c contents granted made o comes
-granted_ends (OfNetFil c) contents made o granted comes = inl (ap (λ (x : Outcome). x.ended) (net_fil_comes c contents made o granted comes))
 granted_ends (OfSimFil c) contents made o granted comes = started_ends (codes "sim") rows_of_top c contents granted made o comes
 granted_ends (OfTraceFil c) contents made o granted comes = inl (trace_fil_done c contents granted.top granted.run granted.gives made o comes)
-granted_ends (OfLowerFil c) contents made o granted comes = inl (ap (λ (x : Outcome). x.ended) (lower_fil_comes c contents made o granted comes))
+granted_ends (OfSimCal c) contents made o granted comes = means_ends (driven_of granted.top granted.run) o (sim_cal_comes c contents granted.top granted.run granted.gives made o comes)
+granted_ends (OfTraceCal c) contents made o granted comes = traces_end (driven_of granted.top granted.run) made o (trace_cal_comes c contents granted.top granted.run granted.gives made o comes)
+granted_ends (OfMaking c) contents made o granted comes = inl (ap (λ (x : Outcome). x.ended) (making_comes c contents made o granted comes))
 
 -- and its files are told
 pub granted_told : (r : Request) (contents : Contents) → (command_of r).granted contents → IsToldFor contents r
@@ -75,9 +88,12 @@ granted_told (OfFlow c) contents granted =
     both_told (OfFlow c) Filament c.file (started_reads (codes "flow") flow_of_top c) c.stimulus refl contents (granted.top.design, granted.gives.gives_top.gives) (list_is_told c contents granted)
 granted_told (OfTimeline c) contents granted =
     both_told (OfTimeline c) Filament c.file (started_reads (codes "timeline") holds_in_top c) c.stimulus refl contents (granted.top.design, granted.gives.gives_top.gives) (list_is_told c contents granted)
-granted_told (OfNetFil c) contents granted = one_told (OfNetFil c) Filament c.file (net_fil_reads c) contents refl granted
 granted_told (OfSimFil c) contents granted =
     both_told (OfSimFil c) Filament c.file (started_reads (codes "sim") rows_of_top c) c.stimulus refl contents (granted.top.design, granted.gives.gives_top.gives) (list_is_told c contents granted)
 granted_told (OfTraceFil c) contents granted =
     both_told (OfTraceFil c) Filament c.file (trace_fil_reading c).reads c.stimulus refl contents (granted.top.design, granted.gives.gives_top.gives) (list_is_told c contents granted)
-granted_told (OfLowerFil c) contents granted = one_told (OfLowerFil c) Filament c.file (lower_fil_reads c) contents refl granted
+granted_told (OfSimCal c) contents granted =
+    both_told (OfSimCal c) Calyx c.file (sim_cal_reading c).reads c.stimulus refl contents (granted.top.design, granted.gives.gives_top.gives) (cal_run_is_told c contents granted)
+granted_told (OfTraceCal c) contents granted =
+    both_told (OfTraceCal c) Calyx c.file (trace_cal_reading c).reads c.stimulus refl contents (granted.top.design, granted.gives.gives_top.gives) (cal_run_is_told c contents granted)
+granted_told (OfMaking c) contents granted = one_told (OfMaking c) c.language c.file (making_reads c) contents refl granted

@@ -5,9 +5,9 @@ pub mod PerformLemmas
 pub mod CheckLemmas
 pub mod RowsLemmas
 pub mod NetRunLemmas
+pub mod CalRunLemmas
 pub mod StartedLemmas
-pub mod NetFilLemmas
-pub mod LowerFilLemmas
+pub mod MakingLemmas
 pub mod TraceFilLemmas
 pub mod AskLemmas
 pub mod GrantLemmas

@@ -25,7 +25,8 @@ use Rattle.filc_core.specs.Command.{Command}
 use Rattle.filc_core.specs.Files.{IsToldFor}
 use Rattle.filc_core.specs.Performing.{Performs}
 use Rattle.filc_core.specs.Request.{Request, command_of}
-use Rattle.filc_core.specs.commands.NetRun.{Driven, GivesRunOf, net_run}
+use Rattle.filc_core.specs.commands.Driven.{Driven}
+use Rattle.filc_core.specs.commands.NetRun.{GivesRunOf, net_run}
 
 module _ (word : Text) (head : Netlist → Text) (all : Bool) (c : Driven) where
   pub net_run_reads : ReadsDesign (net_run word head all c) Netlists c.file

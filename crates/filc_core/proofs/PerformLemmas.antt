@@ -213,6 +213,21 @@ module _ {F : Type 0} (r : Request) (language : Language) (file : Text) (is : Re
         never_falls = omega arith;
       })
 
+  -- it was read, and then there was no memory: what the command performs
+  memory_ends : (result : Result (Unit {0}) Stop) (out : Option Text) (count : ℕ) → IsErrAnd result (λ e. e ≡ stop.Memory) → (command_of r).stops stop.Memory → Performs r names contents faults old mid result out out count count
+  memory_ends result out count passed stops =
+      subst (λ (res : Result (Unit {0}) Stop). Performs r names contents faults old mid res out out count count) (sym (same_error result stop.Memory passed)) (record {
+        files = keeps_one names contents faults (MayBeRead (contents old) r) file old mid (inl (of_design r language file is)) kept;
+        leaves = λ told. inl (keeps_all out);
+        stops = stops;
+        known = λ other of. tt;
+        known_stimulus = λ other takes has. absurd has;
+        read_fault = λ fault. absurd (let e = error_of stop.Memory stop.ReadFault fault in cc e);
+        stimulus_read_fault = λ fault. absurd (let e = error_of stop.Memory stop.StimulusReadFault fault in cc e);
+        write_fault = λ fault. absurd (let e = error_of stop.Memory stop.WriteFault fault in cc e);
+        never_falls = omega arith;
+      })
+
   -- it was read, and a report follows
   has_read : (command_of r).stimulus ≡ None → Contains (names old) file → HasRead r names contents faults old mid
   has_read takes_none known = record {
@@ -362,6 +377,13 @@ pub source_stops : {F T : Type 0} {language : Language} {file : Text} {names : F
     → Performs r names contents faults old new result out out count count
 source_stops {language = language} {file = file} {names = names} {contents = contents} {faults = faults} {old = old} {new = new} {result = result} {out = out} {count = count} r reads kept why passed unread known fault of =
     source_ends r language file reads names contents faults old new kept result why out count passed unread known (λ e. fault (ap Err e)) of
+
+-- the design's file was read, and then there was no memory
+pub memory_stops : {F : Type 0} {language : Language} {file : Text} {names : F → List Text} {contents : F → Contents} {faults : F → Text → ℕ} {old new : F} {result : Result (Unit {0}) Stop} {out : Option Text} {count : ℕ}
+    → (r : Request) → ReadsDesign (command_of r) language file → KeepsFiles names contents faults file old new → IsErrAnd result (λ e. e ≡ stop.Memory) → (command_of r).stops stop.Memory
+    → Performs r names contents faults old new result out out count count
+memory_stops {language = language} {file = file} {names = names} {contents = contents} {faults = faults} {old = old} {new = new} {result = result} {out = out} {count = count} r reads kept passed stops =
+    memory_ends r language file reads names contents faults old new kept result out count passed stops
 
 -- the stimulus gives nothing
 pub stimulus_stops : {F T : Type 0} {language : Language} {file stimulus : Text} {names : F → List Text} {contents : F → Contents} {faults : F → Text → ℕ} {old mid new : F} {result : Result (Unit {0}) Stop} {out : Option Text} {count : ℕ}

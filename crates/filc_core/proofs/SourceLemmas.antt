@@ -3,6 +3,8 @@ use Rattle.std.proofs.Common.{◌≡◌, ◌<◌, length, Option, Some, IsSome, 
 use Rattle.std.proofs.lemmas.Option.{same_Some}
 use Rattle.hw_names.specs.Name.{Text}
 use Rattle.fil_ast.specs.Tree.{Component, Design}
+use Rattle.cal_ast.specs.Tree as calyx
+use Rattle.cal_parse.proofs.Designs as calyx_texts
 use Rattle.fil_parse.proofs.Designs.{one_tree}
 use Rattle.net_core.proofs.RuleLemmas.{broken_is_not_valid}
 use Rattle.net_core.specs.Graph.{IsLoop}
@@ -13,19 +15,21 @@ use Rattle.net_core.specs.Words.{words_of}
 use Rattle.net_text.proofs.OneNetlist.{one_netlist}
 use Rattle.stim_read.specs.CycleRun.{Run}
 use Rattle.stim_read.specs.TxRun.{TxRun}
+use Rattle.filc_load.proofs.CalLemmas.{given_cal_not_refused}
 use Rattle.filc_load.proofs.FilLemmas.{given_fil_not_refused}
 use Rattle.filc_load.proofs.StimulusLemmas.{one_stimulus_run, one_stimulus_list, given_end, given_tx_end, not_refused_by}
 use Rattle.filc_load.specs.NetFile
 use Rattle.filc_load.specs.NetFile.{GivesNet}
 use Rattle.filc_load.specs.Settable.{settable_inputs, settable_memories}
-use Rattle.filc_load.specs.Source.{Tells, IsRefusedIn, FileGivesNet, FileGivesFil, IsAccepted, IsRefusedForSource}
+use Rattle.filc_load.specs.CalFile.{GivesCal}
+use Rattle.filc_load.specs.Source.{Tells, IsRefusedIn, FileGivesCal, FileGivesNet, FileGivesFil, IsAccepted, IsRefusedForSource}
 use Rattle.filc_load.specs.FilFile.{GivesFil}
 use Rattle.filc_load.specs.StimulusFile.{GivesRun, GivesTransactions, IsRefusedBy, IsRefusedForStimulus, FileGivesRun, FileGivesTransactions, component_events, run_causes, transaction_causes}
 use Rattle.filc_stop.specs.Language.{most_bytes}
 use Rattle.filc_stop.specs.Outcome.{Contents, Outcome}
 use Rattle.filc_stop.specs.declared.ended.Ended.{Ended}
 use Rattle.filc_stop.specs.declared.language.Language.{Language}
-use Rattle.filc_stop.specs.declared.language.Language.TheVariants.{Netlists, Filament}
+use Rattle.filc_stop.specs.declared.language.Language.TheVariants.{Netlists, Filament, Calyx}
 use Rattle.filc_stop.specs.declared.limits.TheConstants.{MOST_WEIGHT, MOST_WORDS}
 
 -- a text that gives a netlist isn't refused
@@ -65,6 +69,12 @@ module _ (contents : Contents) (file : Text) where
       one_tree gives.bytes d e gives.gives.accepted.text_of.spells
       (subst (λ (text : Text). GivesFil text e) (told_once contents file gives'.bytes gives.bytes gives'.tells.told gives.tells.told) gives'.gives).accepted.text_of.spells
 
+  -- it gives one Calyx design
+  pub one_cal : (d e : calyx.Design) → FileGivesCal contents file d → FileGivesCal contents file e → d ≡ e
+  one_cal d e gives gives' =
+      calyx_texts.one_tree gives.bytes d e gives.gives.accepted.text_of.spells
+      (subst (λ (text : Text). GivesCal text e) (told_once contents file gives'.bytes gives.bytes gives'.tells.told gives.tells.told) gives'.gives).accepted.text_of.spells
+
   -- a text that is told, and is within the limit and isn't refused, is not refused as the file's
   never_refused : (language : Language) (bytes : Text) (o : Outcome) → Tells contents language file bytes → ((ended : Ended) (line : Text) → IsRefusedIn language bytes ended line → ⊥) → IsRefusedForSource contents language file o → ⊥
   never_refused language bytes o tells not refused =
@@ -81,11 +91,14 @@ module _ (contents : Contents) (file : Text) where
       never_refused Netlists gives.bytes o gives.tells (λ ended line. given_not_refused gives.bytes n ended line gives.gives) refused
   accepted_not_refused Filament o (design, gives) refused =
       never_refused Filament gives.bytes o gives.tells (λ ended line. given_fil_not_refused gives.bytes design ended line gives.gives) refused
+  accepted_not_refused Calyx o (design, gives) refused =
+      never_refused Calyx gives.bytes o gives.tells (λ ended line. given_cal_not_refused gives.bytes design ended line gives.gives) refused
 
   -- its content is told
   pub accepted_is_told : (language : Language) → IsAccepted contents language file → IsSome (contents file)
   accepted_is_told Netlists (n, gives) = is_told (contents file) gives.bytes gives.tells.told
   accepted_is_told Filament (design, gives) = is_told (contents file) gives.bytes gives.tells.told
+  accepted_is_told Calyx (design, gives) = is_told (contents file) gives.bytes gives.tells.told
 
 -- ---- the file of a stimulus
 

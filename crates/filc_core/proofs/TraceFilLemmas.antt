@@ -8,7 +8,6 @@ use Rattle.filc_stop.specs.Outcome.{Contents, Outcome}
 use Rattle.filc_stop.specs.declared.ended.Ended.TheVariants.{Done}
 use Rattle.filc_stop.specs.declared.language.Language.TheVariants.{Filament}
 use Rattle.filc_stop.specs.declared.stop.Stop.{Stop}
-use Rattle.filc_core.proofs.NetFilLemmas.{made_of_file}
 use Rattle.filc_core.proofs.PerformLemmas.{leaves_of}
 use Rattle.filc_core.proofs.SourceLemmas.{accepted_not_refused}
 use Rattle.filc_core.proofs.StartedLemmas.{ReadsTransactions, top_not_refused, given_top, given_run}
@@ -40,5 +39,5 @@ module _ (c : Started) (contents : Contents) (top : Top) (run : TxRun) (gives : 
   pub trace_fil_leaves : (result : Result (Unit {0}) Stop) (out out' : Option Text) → Leaves (IsMadeOf top.design) (Traces top.design top.comp run) result out out' → Leaves ((trace_fil c).makes contents) ((trace_fil c).comes contents) result out out'
   trace_fil_leaves =
       leaves_of (IsMadeOf top.design) ((trace_fil c).makes contents) (Traces top.design top.comp run) ((trace_fil c).comes contents)
-      (λ made is. made_of_file contents c.file top.design made gives.gives_top.gives is)
+      (λ made is. record { design = top.design; gives = gives.gives_top.gives; is_made = is })
       (λ made o traces. inr (inr (record { top = top; run = run; gives = gives; traces = traces }))) trace_fil_comes

@@ -76,6 +76,20 @@ second_word words d command file are =
     let count : length words ≡ 2 = sym (length-map words (λ (w : Bor Text). w.now)) ∙ ap length are in
     sym (get_or-map (λ (w : Bor Text). w.now) words 1 d [] (omega (arith, count))) ∙ ap (λ (ws : List Text). get_or ws 1 []) are
 
+-- the first of them
+pub first_word : (words : List (Bor Text)) (d : Bor Text) (command file : Text) → map (λ (w : Bor Text). w.now) words ≡ command ∷ file ∷ [] → (get_or words 0 d).now ≡ command
+first_word words d command file are =
+    let count : length words ≡ 2 = sym (length-map words (λ (w : Bor Text). w.now)) ∙ ap length are in
+    sym (get_or-map (λ (w : Bor Text). w.now) words 0 d [] (omega (arith, count))) ∙ ap (λ (ws : List Text). get_or ws 0 []) are
+
+-- two words, of which the first is this
+pub two_words : (words : List (Bor Text)) (command : Text) → 2 ≤ length words → length words < 3 → (get_or words 0 no_word).now ≡ command
+    → map (λ (w : Bor Text). w.now) words ≡ command ∷ (get_or words 1 no_word).now ∷ []
+two_words [] command many few same = absurd (omega (arith, many))
+two_words (a ∷ []) command many few same = absurd (omega (arith, many))
+two_words (a ∷ b ∷ []) command many few same = ap (λ (w : Text). w ∷ b.now ∷ []) same
+two_words (a ∷ b ∷ e ∷ words) command many few same = absurd (omega (arith, few))
+
 -- a test that fails is of what doesn't hold
 pub failed_test : (claim : Type 0) (b : Bool) → (claim → IsTrue b) → b ≡ false → claim → ⊥
 failed_test claim b tests is holds = let e : true ≡ false = sym (tests holds) ∙ is in cc e

@@ -5,13 +5,14 @@ use Rattle.hw_names.specs.Name.{Text}
 use Rattle.filc_core.specs.Command.{Command, DesignFile}
 use Rattle.filc_core.specs.commands.Check.{Check, check}
 use Rattle.filc_core.specs.commands.Flow.{flow}
-use Rattle.filc_core.specs.commands.LowerFil.{LowerFil, lower_fil}
-use Rattle.filc_core.specs.commands.NetFil.{NetFil, net_fil}
-use Rattle.filc_core.specs.commands.NetRun.{Driven}
+use Rattle.filc_core.specs.commands.Driven.{Driven}
+use Rattle.filc_core.specs.commands.Making.{Making, making}
 use Rattle.filc_core.specs.commands.Rows.{Rows, rows}
+use Rattle.filc_core.specs.commands.SimCal.{sim_cal}
 use Rattle.filc_core.specs.commands.SimFil.{sim_fil}
 use Rattle.filc_core.specs.commands.SimNet.{sim_net}
 use Rattle.filc_core.specs.commands.Timeline.{timeline}
+use Rattle.filc_core.specs.commands.TraceCal.{trace_cal}
 use Rattle.filc_core.specs.commands.TraceFil.{trace_fil}
 use Rattle.filc_core.specs.commands.TraceNet.{trace_net}
 use Rattle.filc_core.specs.commands.Transactions.{Started}
@@ -24,10 +25,11 @@ pub data Request : Type 0 where
   OfTraceNet : Driven → Request
   OfFlow : Started → Request
   OfTimeline : Started → Request
-  OfNetFil : NetFil → Request
   OfSimFil : Started → Request
   OfTraceFil : Started → Request
-  OfLowerFil : LowerFil → Request
+  OfSimCal : Driven → Request
+  OfTraceCal : Driven → Request
+  OfMaking : Making → Request
 
 abbrev pub command_of : Request → Command
 command_of (OfCheck c) = check c
@@ -36,10 +38,11 @@ command_of (OfSimNet c) = sim_net c
 command_of (OfTraceNet c) = trace_net c
 command_of (OfFlow c) = flow c
 command_of (OfTimeline c) = timeline c
-command_of (OfNetFil c) = net_fil c
 command_of (OfSimFil c) = sim_fil c
 command_of (OfTraceFil c) = trace_fil c
-command_of (OfLowerFil c) = lower_fil c
+command_of (OfSimCal c) = sim_cal c
+command_of (OfTraceCal c) = trace_cal c
+command_of (OfMaking c) = making c
 
 -- the words ask for this, exactly
 abbrev pub Asks : List Text → Request → Type 0

@@ -1,4 +1,5 @@
--- The commands, one file for each; NetRun and Transactions have what two of them share.
+-- The commands, one file for each; Driven, NetRun, CalRun and Transactions have what several of them share.
+pub mod Driven
 pub mod Check
 pub mod Rows
 pub mod NetRun
@@ -7,7 +8,9 @@ pub mod TraceNet
 pub mod Transactions
 pub mod Flow
 pub mod Timeline
-pub mod NetFil
+pub mod Making
 pub mod SimFil
 pub mod TraceFil
-pub mod LowerFil
+pub mod CalRun
+pub mod SimCal
+pub mod TraceCal

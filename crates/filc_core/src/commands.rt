@@ -4,14 +4,15 @@ ghost use Rattle.filc_core.specs.Performing.{Performs};
 ghost use Rattle.filc_core.specs.Request.{Request, design_name, stimulus_name};
 
 pub(crate) mod check;
+mod driven;
 pub(crate) mod flow;
-pub(crate) mod lower_fil;
-pub(crate) mod net_fil;
-mod net_run;
+pub(crate) mod making;
 pub(crate) mod rows;
+pub(crate) mod sim_cal;
 pub(crate) mod sim_fil;
 pub(crate) mod sim_net;
 pub(crate) mod timeline;
+pub(crate) mod trace_cal;
 pub(crate) mod trace_fil;
 pub(crate) mod trace_net;
 mod transactions;

@@ -6,12 +6,13 @@ ghost use Rattle.filc_core.specs.Told.{request_told};
 use crate::commands::Command;
 use crate::commands::check::Check;
 use crate::commands::flow::Flow;
-use crate::commands::lower_fil::LowerFil;
-use crate::commands::net_fil::NetFil;
+use crate::commands::making::Making;
 use crate::commands::rows::Rows;
+use crate::commands::sim_cal::SimCal;
 use crate::commands::sim_fil::SimFil;
 use crate::commands::sim_net::SimNet;
 use crate::commands::timeline::Timeline;
+use crate::commands::trace_cal::TraceCal;
 use crate::commands::trace_fil::TraceFil;
 use crate::commands::trace_net::TraceNet;
 use filc_stop::Stop;
@@ -27,10 +28,11 @@ pub(crate) enum Request<'a> {
     TraceNet(TraceNet<'a>),
     Flow(Flow<'a>),
     Timeline(Timeline<'a>),
-    NetFil(NetFil<'a>),
     SimFil(SimFil<'a>),
     TraceFil(TraceFil<'a>),
-    LowerFil(LowerFil<'a>),
+    SimCal(SimCal<'a>),
+    TraceCal(TraceCal<'a>),
+    Making(Making<'a>),
 }
 
 /// What the words after the program's name ask for; `None` where they aren't well formed.
@@ -56,16 +58,19 @@ pub(crate) fn asked<'a>(words: &[&'a str]) -> Option<Request<'a>>
     if let Some(timeline) = Timeline::asked(words) {
         return Some(Request::Timeline(timeline));
     }
-    if let Some(net) = NetFil::asked(words) {
-        return Some(Request::NetFil(net));
-    }
     if let Some(sim) = SimFil::asked(words) {
         return Some(Request::SimFil(sim));
     }
     if let Some(trace) = TraceFil::asked(words) {
         return Some(Request::TraceFil(trace));
     }
-    Some(Request::LowerFil(LowerFil::asked(words)?))
+    if let Some(sim) = SimCal::asked(words) {
+        return Some(Request::SimCal(sim));
+    }
+    if let Some(trace) = TraceCal::asked(words) {
+        return Some(Request::TraceCal(trace));
+    }
+    Some(Request::Making(Making::asked(words)?))
 }
 
 impl Command for Request<'_> {
@@ -81,10 +86,11 @@ impl Command for Request<'_> {
             Request::TraceNet(it) => it.design(),
             Request::Flow(it) => it.design(),
             Request::Timeline(it) => it.design(),
-            Request::NetFil(it) => it.design(),
             Request::SimFil(it) => it.design(),
             Request::TraceFil(it) => it.design(),
-            Request::LowerFil(it) => it.design(),
+            Request::SimCal(it) => it.design(),
+            Request::TraceCal(it) => it.design(),
+            Request::Making(it) => it.design(),
         }
     }
 
@@ -96,10 +102,11 @@ impl Command for Request<'_> {
             Request::TraceNet(it) => it.stimulus(),
             Request::Flow(it) => it.stimulus(),
             Request::Timeline(it) => it.stimulus(),
-            Request::NetFil(it) => it.stimulus(),
             Request::SimFil(it) => it.stimulus(),
             Request::TraceFil(it) => it.stimulus(),
-            Request::LowerFil(it) => it.stimulus(),
+            Request::SimCal(it) => it.stimulus(),
+            Request::TraceCal(it) => it.stimulus(),
+            Request::Making(it) => it.stimulus(),
         }
     }
 
@@ -116,10 +123,11 @@ impl Command for Request<'_> {
             Request::TraceNet(it) => it.perform(alloc, files, out),
             Request::Flow(it) => it.perform(alloc, files, out),
             Request::Timeline(it) => it.perform(alloc, files, out),
-            Request::NetFil(it) => it.perform(alloc, files, out),
             Request::SimFil(it) => it.perform(alloc, files, out),
             Request::TraceFil(it) => it.perform(alloc, files, out),
-            Request::LowerFil(it) => it.perform(alloc, files, out),
+            Request::SimCal(it) => it.perform(alloc, files, out),
+            Request::TraceCal(it) => it.perform(alloc, files, out),
+            Request::Making(it) => it.perform(alloc, files, out),
         }
     }
 }

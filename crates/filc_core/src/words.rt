@@ -26,6 +26,8 @@ pub(crate) fn language_of(word: &str) -> Option<Language>
         Some(Language::Netlists)
     } else if is_file_in(Language::Filament, word) {
         Some(Language::Filament)
+    } else if is_file_in(Language::Calyx, word) {
+        Some(Language::Calyx)
     } else {
         None
     }

@@ -20,18 +20,8 @@ same_out words contents made made' report report' out out' out'' e e' (inr (inl 
   printed = e ∙ ap (λ (r : Text). out ++ r) of.printed;
   printed' = e' ∙ ap (λ (r : Text). out ++ r) of.printed';
 }))
-same_out words contents made made' report report' out out' out'' e e' (inr (inr (inl traces))) =
-    inr (inr (inl (record { made = made; made' = made'; report = report; report' = report'; traces = traces; printed = e; printed' = e' })))
-same_out words contents made made' report report' out out' out'' e e' (inr (inr (inr of))) = inr (inr (inr (record {
-  asked = of.asked;
-  asks = of.asks;
-  made = made;
-  made' = made';
-  from = of.from;
-  from' = of.from';
-  printed = e ∙ ap (λ (r : Text). out ++ r) of.printed;
-  printed' = e' ∙ ap (λ (r : Text). out ++ r) of.printed';
-})))
+same_out words contents made made' report report' out out' out'' e e' (inr (inr traces)) =
+    inr (inr (record { made = made; made' = made'; report = report; report' = report'; traces = traces; printed = e; printed' = e' }))
 
 same_err : (line line' err err' err'' : Text) → err' ≡ err ++ as_line line → err'' ≡ err ++ as_line line' → IsSameLine line line' → IsSameErr err err' err''
 same_err line line' err err' err'' e e' (inl same) = inl (e ∙ ap (λ (l : Text). err ++ as_line l) same ∙ sym e')

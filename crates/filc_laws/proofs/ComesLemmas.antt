@@ -5,6 +5,8 @@ use Rattle.std.proofs.lemmas.Option.{same_Some}
 use Rattle.hw_names.specs.Name.{Text}
 use Rattle.fil_ast.specs.Top.{IsTop}
 use Rattle.fil_ast.specs.Tree.{Component, Design}
+use Rattle.cal_net.specs.Face.{face}
+use Rattle.filc_calyx.specs.Means as calyx
 use Rattle.net_core.specs.Netlist.{Netlist}
 use Rattle.stim_read.specs.CycleRun.{Run}
 use Rattle.stim_read.specs.TxRun.{Transaction, TxRun}
@@ -15,19 +17,24 @@ use Rattle.filc_load.specs.StimulusFile.{GivesRun, GivesTransactions, FileGivesR
 use Rattle.filc_report.specs.Runs.{RunComes, plain_run, stimulus_run}
 use Rattle.filc_run.specs.Traced.{Traces}
 use Rattle.filc_stop.specs.Outcome.{Contents, Outcome, done_with, refused_with}
+use Rattle.filc_stop.specs.declared.ended.Ended.{Ended}
 use Rattle.filc_stop.specs.declared.language.Language.{Language}
-use Rattle.filc_stop.specs.declared.language.Language.TheVariants.{Netlists, Filament}
-use Rattle.filc_core.specs.Request.{OfNetFil, OfTraceFil, OfLowerFil, Asks}
+use Rattle.filc_stop.specs.declared.language.Language.TheVariants.{Netlists, Filament, Calyx}
+use Rattle.filc_core.proofs.CalRunLemmas as cal_runs
+use Rattle.filc_core.proofs.MakingLemmas.{made_of_accepted}
+use Rattle.filc_core.specs.Request.{OfMaking, OfTraceCal, OfTraceFil, Asks}
 use Rattle.filc_core.specs.commands.Check.{Check, Accepts}
-use Rattle.filc_core.specs.commands.LowerFil.{LowerFil, PrintsLowered}
-use Rattle.filc_core.specs.commands.NetFil.{NetFil, PrintsNet}
-use Rattle.filc_core.specs.commands.NetRun.{Driven, IsRefusedWithNet, GivesRunOf}
+use Rattle.filc_core.specs.commands.CalRun as cal_run
+use Rattle.filc_core.specs.commands.Driven.{Driven}
+use Rattle.filc_core.specs.commands.Making.{IsMadeIn, Making, PrintsMade}
+use Rattle.filc_core.specs.commands.NetRun.{IsRefusedWithNet}
 use Rattle.filc_core.specs.commands.NetRun as net_run
 use Rattle.filc_core.specs.commands.Rows.{Rows, AsksTooMany}
 use Rattle.filc_core.specs.commands.Rows as rows
 use Rattle.filc_core.specs.commands.TraceFil.{PrintsTrace}
 use Rattle.filc_core.specs.commands.Transactions.{Started, Top, GivesTop, IsGranted, IsRefusedWithTop, Prints}
 use Rattle.filc_laws.proofs.CauseLemmas.{run_is_given_once, run_cause_is_one, given_run_has_no_cause, transactions_are_given_once, transaction_cause_is_one, given_transactions_have_no_cause}
+use Rattle.filc_laws.proofs.CalRunLemmas.{end_alike, means_once}
 use Rattle.filc_laws.proofs.FilSourceLemmas.{top_once}
 use Rattle.filc_laws.proofs.LineLemmas.{along_lines}
 use Rattle.filc_laws.proofs.ReportLemmas.{comes_once}
@@ -239,26 +246,103 @@ module _ (words : List Text) (contents : Contents) (made made' : Text) (o o' : O
     pub trace_fil_once : IsRefusedForSource contents Filament c.file o ⊎ IsRefusedWithTop c contents o ⊎ PrintsTrace c contents made o → IsRefusedForSource contents Filament c.file o' ⊎ IsRefusedWithTop c contents o' ⊎ PrintsTrace c contents made' o' → One
     trace_fil_once p q = started_once c (PrintsTrace c contents made o) (PrintsTrace c contents made' o') (trace_grants made o) (trace_grants made' o') two_traces p q
 
-  -- ---- the netlist of a design
+  -- ---- runs of Calyx designs
 
-  pub net_fil_once : (c : NetFil) → Asks words (OfNetFil c) → IsRefusedForSource contents Filament c.file o ⊎ PrintsNet contents c.file made o → IsRefusedForSource contents Filament c.file o' ⊎ PrintsNet contents c.file made' o' → One
-  net_fil_once c asks (inl p) (inl q) = from_source Filament c.file p q
-  net_fil_once c asks (inl p) (inr b) = absurd (refused_here Filament c.file o p (b.made_from.design, b.made_from.gives))
-  net_fil_once c asks (inr a) (inl q) = absurd (refused_here Filament c.file o' q (a.made_from.design, a.made_from.gives))
-  net_fil_once c asks (inr a) (inr b) = record {
-    ended = ap (λ (x : Outcome). x.ended) a.outcome ∙ sym (ap (λ (x : Outcome). x.ended) b.outcome);
-    report = inr (inl (record { asked = c; asks = asks; from = a.made_from; from' = b.made_from; printed = ap (λ (x : Outcome). x.report) a.outcome; printed' = ap (λ (x : Outcome). x.report) b.outcome }));
-    line = inl (ap (λ (x : Outcome). x.line) a.outcome ∙ sym (ap (λ (x : Outcome). x.line) b.outcome));
-  }
+  module _ (c : Driven) where
+    refused_cal_tops : cal_run.IsRefusedWithTop c contents o → cal_run.IsRefusedWithTop c contents o' → One
+    refused_cal_tops a b =
+        let top = cal_runs.same_top contents c.file b.top a.top b.gives a.gives in
+        let other : IsRefusedForStimulus contents c.stimulus (λ bytes. run_causes bytes (face a.top.comp)) o' = subst (λ (t : cal_run.CalTop). IsRefusedForStimulus contents c.stimulus (λ bytes. run_causes bytes (face t.comp)) o') top b.refused in
+        from_stimulus c.stimulus (λ bytes. run_causes bytes (face a.top.comp)) (λ bytes. run_cause_is_one bytes (settable_inputs (face a.top.comp)) (settable_memories (face a.top.comp))) a.refused other
 
-  -- ---- the Calyx design that a design is lowered to
+    cal_run_or_not : (x : Outcome) → cal_run.IsRefusedWithTop c contents x → cal_run.IsGranted c contents → ⊥
+    cal_run_or_not x a b = cal_runs.top_not_refused c contents b.top b.run b.gives x a
 
-  pub lower_fil_once : (c : LowerFil) → Asks words (OfLowerFil c) → IsRefusedForSource contents Filament c.file o ⊎ PrintsLowered contents c.file made o → IsRefusedForSource contents Filament c.file o' ⊎ PrintsLowered contents c.file made' o' → One
-  lower_fil_once c asks (inl p) (inl q) = from_source Filament c.file p q
-  lower_fil_once c asks (inl p) (inr b) = absurd (refused_here Filament c.file o p (b.lowered_from.design, b.lowered_from.gives))
-  lower_fil_once c asks (inr a) (inl q) = absurd (refused_here Filament c.file o' q (a.lowered_from.design, a.lowered_from.gives))
-  lower_fil_once c asks (inr a) (inr b) = record {
-    ended = ap (λ (x : Outcome). x.ended) a.outcome ∙ sym (ap (λ (x : Outcome). x.ended) b.outcome);
-    report = inr (inr (inr (record { asked = c; asks = asks; from = a.lowered_from; from' = b.lowered_from; printed = ap (λ (x : Outcome). x.report) a.outcome; printed' = ap (λ (x : Outcome). x.report) b.outcome })));
-    line = inl (ap (λ (x : Outcome). x.line) a.outcome ∙ sym (ap (λ (x : Outcome). x.line) b.outcome));
-  }
+    refused_cal : (x : Outcome) → IsRefusedForSource contents Calyx c.file x → cal_run.IsGranted c contents → ⊥
+    refused_cal x p b = refused_here Calyx c.file x p (b.top.design, b.gives.gives_top.gives)
+
+    -- whatever comes where the files give a run, one thing comes of the command where one does there
+    module _ (Made Made' : Type 0) (grants : Made → cal_run.IsGranted c contents) (grants' : Made' → cal_run.IsGranted c contents) (both : Made → Made' → One) where
+      cal_run_once : IsRefusedForSource contents Calyx c.file o ⊎ cal_run.IsRefusedWithTop c contents o ⊎ Made → IsRefusedForSource contents Calyx c.file o' ⊎ cal_run.IsRefusedWithTop c contents o' ⊎ Made' → One
+      cal_run_once (inl p) (inl q) = from_source Calyx c.file p q
+      cal_run_once (inl p) (inr (inl b)) = absurd (refused_here Calyx c.file o p (b.top.design, b.gives.gives))
+      cal_run_once (inl p) (inr (inr b)) = absurd (refused_cal o p (grants' b))
+      cal_run_once (inr (inl a)) (inl q) = absurd (refused_here Calyx c.file o' q (a.top.design, a.gives.gives))
+      cal_run_once (inr (inl a)) (inr (inl b)) = refused_cal_tops a b
+      cal_run_once (inr (inl a)) (inr (inr b)) = absurd (cal_run_or_not o a (grants' b))
+      cal_run_once (inr (inr a)) (inl q) = absurd (refused_cal o' q (grants a))
+      cal_run_once (inr (inr a)) (inr (inl b)) = absurd (cal_run_or_not o' b (grants a))
+      cal_run_once (inr (inr a)) (inr (inr b)) = both a b
+
+    module _ (Comes : calyx.Driven → Text → Outcome → Type 0) (text : Text) (x : Outcome) where
+      abbrev cal_grants : cal_run.Runs c Comes contents text x → cal_run.IsGranted c contents
+      cal_grants a = record { top = a.top; run = a.run; gives = a.gives }
+
+    -- two that come where the files give a run come of one run
+    along : (Comes : calyx.Driven → Text → Outcome → Type 0) (a : cal_run.Runs c Comes contents made o) (b : cal_run.Runs c Comes contents made' o') → Comes (cal_runs.driven_of a.top a.run) made' o'
+    along Comes a b =
+        subst₂ (λ (t : cal_run.CalTop) (r : Run). Comes (cal_runs.driven_of t r) made' o') (cal_runs.given_top c contents a.top a.run a.gives b.top b.run b.gives)
+        (cal_runs.given_run c contents a.top a.run a.gives b.top b.run b.gives) b.comes
+
+    abbrev Meant : calyx.Driven → Text → Outcome → Type 0
+    Meant d text x = calyx.Means d x
+
+    two_meant : cal_run.Runs c Meant contents made o → cal_run.Runs c Meant contents made' o' → One
+    two_meant a b = same_outcome (means_once a.top contents c.file a.gives.gives_top a.run o o' a.comes (along Meant a b))
+
+    pub sim_cal_once : IsRefusedForSource contents Calyx c.file o ⊎ cal_run.IsRefusedWithTop c contents o ⊎ cal_run.Runs c Meant contents made o
+        → IsRefusedForSource contents Calyx c.file o' ⊎ cal_run.IsRefusedWithTop c contents o' ⊎ cal_run.Runs c Meant contents made' o' → One
+    sim_cal_once p q = cal_run_once (cal_run.Runs c Meant contents made o) (cal_run.Runs c Meant contents made' o') (cal_grants Meant made o) (cal_grants Meant made' o') two_meant p q
+
+    module _ (asks : Asks words (OfTraceCal c)) where
+      two_cal_traces : cal_run.Runs c calyx.Traces contents made o → cal_run.Runs c calyx.Traces contents made' o' → One
+      two_cal_traces a b =
+          let other = along calyx.Traces a b in
+          let same = end_alike a.top contents c.file a.gives.gives_top a.run made made' o o' a.comes other in
+          record {
+            ended = same.0;
+            report = inr (inr (inr (record {
+              asked = c;
+              asks = asks;
+              top = a.top;
+              run = a.run;
+              gives = a.gives;
+              ended = o.ended;
+              line = o.line;
+              traces = a.comes;
+              traces' =
+                  subst₂ (λ (e : Ended) (l : Text). calyx.Traces (cal_runs.driven_of a.top a.run) made' (record { ended = e; report = o'.report; line = l })) (sym same.0) (sym same.1) other;
+            })));
+            line = inl same.1;
+          }
+
+      pub trace_cal_once : IsRefusedForSource contents Calyx c.file o ⊎ cal_run.IsRefusedWithTop c contents o ⊎ cal_run.Runs c calyx.Traces contents made o
+          → IsRefusedForSource contents Calyx c.file o' ⊎ cal_run.IsRefusedWithTop c contents o' ⊎ cal_run.Runs c calyx.Traces contents made' o' → One
+      trace_cal_once p q =
+          cal_run_once (cal_run.Runs c calyx.Traces contents made o) (cal_run.Runs c calyx.Traces contents made' o') (cal_grants calyx.Traces made o) (cal_grants calyx.Traces made' o') two_cal_traces p q
+
+  -- ---- a text that was made of a design
+
+  module _ (c : Making) (asks : Asks words (OfMaking c)) where
+    abbrev PrintsOne : Text → Outcome → Type 0
+    PrintsOne text x = PrintsMade (IsMadeIn c.language c.product contents c.file) text x
+
+    of_accepted : (text : Text) (x : Outcome) → PrintsOne text x → IsAccepted contents c.language c.file
+    of_accepted text x a = made_of_accepted c.language c.product contents c.file text a.is_made
+
+    pub made_once : IsRefusedForSource contents c.language c.file o ⊎ PrintsOne made o → IsRefusedForSource contents c.language c.file o' ⊎ PrintsOne made' o' → One
+    made_once (inl p) (inl q) = from_source c.language c.file p q
+    made_once (inl p) (inr b) = absurd (refused_here c.language c.file o p (of_accepted made' o' b))
+    made_once (inr a) (inl q) = absurd (refused_here c.language c.file o' q (of_accepted made o a))
+    made_once (inr a) (inr b) = record {
+      ended = ap (λ (x : Outcome). x.ended) a.outcome ∙ sym (ap (λ (x : Outcome). x.ended) b.outcome);
+      report = inr (inl (record {
+        asked = OfMaking c;
+        asks = asks;
+        from = a.is_made;
+        from' = b.is_made;
+        printed = ap (λ (x : Outcome). x.report) a.outcome;
+        printed' = ap (λ (x : Outcome). x.report) b.outcome;
+      }));
+      line = inl (ap (λ (x : Outcome). x.line) a.outcome ∙ sym (ap (λ (x : Outcome). x.line) b.outcome));
+    }

@@ -14,10 +14,11 @@ use Rattle.fil_ast.specs.Sharing.{KeepsApart}
 use Rattle.fil_ast.specs.Tree.{Component, Design, Statement}
 use Rattle.fil_ast.specs.Wires.{IsLoop}
 use Rattle.fil_share.proofs.ListLemmas.{Contains-at}
+use Rattle.filc_stop.specs.declared.language.Language.TheVariants.{Filament}
 use Rattle.filc_laws.proofs.EvidenceLemmas.{shows_once}
 use Rattle.filc_laws.proofs.ListLemmas.{nothing_past}
 use Rattle.filc_laws.proofs.OrderLemmas.{neither_below, neither_greater}
-use Rattle.filc_laws.specs.OneRule.{Broken, ShowOneLoop, FilRefusalIsOne, RefusedDesignBreaksRules}
+use Rattle.filc_laws.specs.OneRule.{AreOneRefusal, FilRefusalIsOne, RefusedDesignBreaksRules}
 
 -- an item has one number
 item_once : (c : Component) (k : ℕ) (a b : Item) → IsItem c k a → IsItem c k b → a ≡ b
@@ -135,11 +136,8 @@ module _ (comps : Design) (n n' : ℕ) (port port' : Text) (others others' : Lis
 not_both : (comps : Design) (n k r m : ℕ) (port : Text) (others : List Text) (f : IsFirstBroken all_rules comps n k r) → HasFirstLoop comps m port others → ⊥
 not_both comps n k r m port others f loop = not_kept all_rules comps n k r f (loop.others_keep n f.c f.at k)
 
-abbrev AreOne : Broken → Broken → Type 0
-AreOne b other = (b ≡ other) ⊎ ShowOneLoop b other
-
 broken_once : (comps : Design) (rule rule' : ℕ) (name name' : Text) (item item' : ℕ) (e e' : Evidence) → IsRefusal comps name item e rule → IsRefusal comps name' item' e' rule'
-    → AreOne (record { rule = rule; name = name; item = item; evidence = e }) (record { rule = rule'; name = name'; item = item'; evidence = e' })
+    → AreOneRefusal Filament (record { rule = rule; name = name; item = item; evidence = e }) (record { rule = rule'; name = name'; item = item'; evidence = e' })
 broken_once comps rule rule' name name' item item' e e' (BreaksRule n place f named shows) (BreaksRule n' place' g named' shows') =
     let rules = ap (λ (p : ℕ). p + 1) (same_order comps n n' item item' place place' f g) in
     let names = sym named ∙ ap (λ (c : Component). c.name) (same_component comps n n' item item' place place' f g) ∙ named' in

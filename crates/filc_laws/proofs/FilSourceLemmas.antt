@@ -1,6 +1,6 @@
 -- The text of a Filament file gives one design, or is refused with one answer and one line, but for which loop that tells: each cause
 -- stands where those before it are not met.
-use Rattle.std.proofs.Common.{◌≡◌, ℕ, ◌<◌, ◌⊎◌, inl, inr, List, codes, Some, None, refl, sym, ap, subst, ◌∙◌, arith}
+use Rattle.std.proofs.Common.{◌≡◌, ℕ, ◌<◌, ◌⊎◌, inl, inr, List, codes, Some, None, sym, ap, subst, ◌∙◌, arith}
 use Rattle.std.specs.Prelude.{slice_get, Contains}
 use Rattle.std.proofs.lemmas.Option.{same_Some}
 use Rattle.hw_graph.proofs.MemberLemmas.{In, in_at, contains_of, in_map}
@@ -29,9 +29,9 @@ use Rattle.filc_stop.specs.declared.language.Language.TheVariants.{Filament}
 use Rattle.filc_stop.specs.declared.limits.TheConstants.{MOST_WEIGHT}
 use Rattle.filc_laws.proofs.FilPlaceLemmas.{fil_place_is_one, refused_fil_spells_none}
 use Rattle.filc_laws.proofs.FilRuleLemmas.{fil_refusal_is_one, refused_design_breaks_rules}
-use Rattle.filc_laws.proofs.LineLemmas.{IsOne, one_of, loop_of}
+use Rattle.filc_laws.proofs.LineLemmas.{IsOne, one_of, one_broken}
 use Rattle.filc_laws.proofs.OrderLemmas.{neither_below}
-use Rattle.filc_laws.specs.OneRule.{Broken, ShowOneLoop}
+use Rattle.filc_laws.specs.OneRule.{Broken}
 
 -- ---- what a text has one of
 
@@ -90,22 +90,14 @@ in_order text ended line (IsTooHeavy d number top accepted has heavy e l) =
 
 -- ---- each is one
 
-abbrev line_of : Broken → Text
-line_of b = rule_line (rule_name Filament b.rule) b.name b.item b.evidence
-
 abbrev broken_of : ℕ → Text → ℕ → Evidence → Broken
 broken_of rule name item evidence = record { rule = rule; name = name; item = item; evidence = evidence }
-
-one_broken : (ended ended' : Ended) (line line' : Text) (b b' : Broken) → ended ≡ Refused → ended' ≡ Refused → line ≡ line_of b → line' ≡ line_of b' → (b ≡ b') ⊎ ShowOneLoop b b' → IsOne ended ended' line line'
-one_broken ended ended' line line' b b' e e' l l' (inl same) = one_of Refused ended ended' line line' (line_of b) (line_of b') e e' l l' (ap line_of same)
-one_broken ended ended' line line' b b' e e' l l' (inr loop) =
-    loop_of Refused ended ended' line line' Filament loop.name loop.first loop.first loop.ports loop.ports' e e' (l ∙ ap line_of loop.shown) (l' ∙ ap line_of loop.shown') refl
 
 by_rule : (d : Design) (ended ended' : Ended) (line line' : Text) → ByRule d ended line → ByRule d ended' line' → IsOne ended ended' line line'
 by_rule d ended ended' line line' (inl (rule, name, item, evidence, broken, e, l)) (inl (rule', name', item', evidence', broken', e', l')) =
     let b = broken_of rule name item evidence in
     let b' = broken_of rule' name' item' evidence' in
-    one_broken ended ended' line line' b b' e e' l l' (fil_refusal_is_one d b b' broken broken')
+    one_broken Filament ended ended' line line' b b' e e' l l' (fil_refusal_is_one d b b' broken broken')
 by_rule d ended ended' line line' (inl (rule, name, item, evidence, broken, e, l)) (inr (rules, more)) = absurd (refused_design_breaks_rules d (broken_of rule name item evidence) broken rules)
 by_rule d ended ended' line line' (inr (rules, more)) (inl (rule, name, item, evidence, broken, e, l)) = absurd (refused_design_breaks_rules d (broken_of rule name item evidence) broken rules)
 by_rule d ended ended' line line' (inr (rules, (number, top, has, e, l))) (inr (rules', (number', top', has', e', l'))) =

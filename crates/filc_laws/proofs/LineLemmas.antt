@@ -1,9 +1,12 @@
 -- Lines of refusals that are one, but for which loop they tell.
-use Rattle.std.proofs.Common.{◌≡◌, List, ◌∷◌, sym, ap, ◌∙◌, inl, inr}
+use Rattle.std.proofs.Common.{◌≡◌, List, ◌∷◌, refl, sym, ap, ◌∙◌, inl, inr}
 use Rattle.hw_names.specs.Name.{Text}
+use Rattle.filc_stop.specs.Lines.{rule_name, rule_line}
 use Rattle.filc_stop.specs.declared.ended.Ended.{Ended}
+use Rattle.filc_stop.specs.declared.ended.Ended.TheVariants.{Refused}
 use Rattle.filc_stop.specs.declared.language.Language.{Language}
 use Rattle.filc_laws.specs.OneLine.{IsSameLine, loop_line}
+use Rattle.filc_laws.specs.OneRule.{Broken, AreOneRefusal}
 
 -- two refusals are one
 abbrev pub IsOne : Ended → Ended → Text → Text → Type 0
@@ -17,6 +20,16 @@ one_of answer ended ended' line line' told told' e e' l l' same = (e ∙ sym e',
 pub loop_of : (answer ended ended' : Ended) (line line' : Text) (language : Language) (name first first' : Text) (ports ports' : List Text) → ended ≡ answer → ended' ≡ answer → line ≡ loop_line language name (first ∷ ports) → line' ≡ loop_line language name (first' ∷ ports') → first ≡ first' → IsOne ended ended' line line'
 loop_of answer ended ended' line line' language name first first' ports ports' e e' l l' same =
     (e ∙ sym e', inr (record { language = language; name = name; first = first; ports = ports; ports' = ports'; told = l; told' = l' ∙ ap (λ (p : Text). loop_line language name (p ∷ ports')) (sym same) }))
+
+-- the line of a broken rule
+abbrev pub line_of : Language → Broken → Text
+line_of language b = rule_line (rule_name language b.rule) b.name b.item b.evidence
+
+-- refusals of one design by the rules
+pub one_broken : (language : Language) (ended ended' : Ended) (line line' : Text) (b b' : Broken) → ended ≡ Refused → ended' ≡ Refused → line ≡ line_of language b → line' ≡ line_of language b' → AreOneRefusal language b b' → IsOne ended ended' line line'
+one_broken language ended ended' line line' b b' e e' l l' (inl same) = one_of Refused ended ended' line line' (line_of language b) (line_of language b') e e' l l' (ap (line_of language) same)
+one_broken language ended ended' line line' b b' e e' l l' (inr loop) =
+    loop_of Refused ended ended' line line' language loop.name loop.first loop.first loop.ports loop.ports' e e' (l ∙ ap (line_of language) loop.shown) (l' ∙ ap (line_of language) loop.shown') refl
 
 pub along_lines : (a b c d : Text) → a ≡ c → b ≡ d → IsSameLine c d → IsSameLine a b
 along_lines a b c d e f (inl same) = inl (e ∙ same ∙ sym f)

@@ -3,24 +3,28 @@ use Rattle.std.proofs.Common.{◌≡◌, ◌⊎◌, inl, inr, List, [], ◌∷�
 use Rattle.hw_names.specs.Name.{Text}
 use Rattle.net_core.specs.Netlist.{Netlist}
 use Rattle.net_text.specs.Layout.{net_text}
+use Rattle.cal_ast.specs.Tree as calyx
 use Rattle.fil_ast.specs.Tree.{Component, Design}
 use Rattle.stim_read.specs.CycleRun.{Run}
 use Rattle.stim_read.specs.TxRun.{Transaction, TxRun}
 use Rattle.stim_read.specs.declared.stim_end.StimEnd.{StimEnd}
-use Rattle.filc_load.specs.Source.{Tells, FileGivesNet, FileGivesFil, IsAccepted, IsSourceRefused, IsRefusedForSource}
+use Rattle.cal_net.specs.Face.{face}
+use Rattle.filc_calyx.specs.Means as means
+use Rattle.filc_load.specs.Source.{Tells, FileGivesNet, FileGivesFil, FileGivesCal, IsAccepted, IsSourceRefused, IsRefusedForSource}
 use Rattle.filc_load.specs.StimulusFile.{FileGivesRun, FileGivesTransactions, IsRefusedForStimulus, run_causes, transaction_causes}
 use Rattle.filc_stop.specs.Outcome.{Contents, Outcome}
 use Rattle.filc_stop.specs.declared.ended.Ended.{Ended}
 use Rattle.filc_stop.specs.declared.language.Language.{Language}
-use Rattle.filc_stop.specs.declared.language.Language.TheVariants.{Netlists, Filament}
+use Rattle.filc_stop.specs.declared.language.Language.TheVariants.{Netlists, Filament, Calyx}
 use Rattle.filc_core.specs.Files.{IsDesignOf, IsStimulusOf}
-use Rattle.filc_core.specs.Request.{Request, OfCheck, OfRows, OfSimNet, OfTraceNet, OfFlow, OfTimeline, OfNetFil, OfSimFil, OfTraceFil, OfLowerFil, command_of, Asks}
+use Rattle.filc_core.specs.Request.{Request, OfCheck, OfRows, OfSimNet, OfTraceNet, OfFlow, OfTimeline, OfSimFil, OfTraceFil, OfSimCal, OfTraceCal, OfMaking, command_of, Asks}
 use Rattle.filc_core.specs.Verdict.{Verdict, NotAsked, Asked}
 use Rattle.filc_core.specs.commands.Check.{Check, Accepts}
 use Rattle.filc_core.specs.commands.Flow.{flow_of_top}
-use Rattle.filc_core.specs.commands.LowerFil.{LowerFil, IsLoweredFrom, PrintsLowered}
-use Rattle.filc_core.specs.commands.NetFil.{NetFil, IsMadeFrom, PrintsNet}
-use Rattle.filc_core.specs.commands.NetRun.{Driven, IsRefusedWithNet}
+use Rattle.filc_core.specs.commands.CalRun as cal_run
+use Rattle.filc_core.specs.commands.Driven.{Driven}
+use Rattle.filc_core.specs.commands.Making.{IsMadeIn, Making, PrintsMade}
+use Rattle.filc_core.specs.commands.NetRun.{IsRefusedWithNet}
 use Rattle.filc_core.specs.commands.NetRun as net_run
 use Rattle.filc_core.specs.commands.Rows.{Rows, AsksTooMany}
 use Rattle.filc_core.specs.commands.Rows as rows
@@ -41,12 +45,16 @@ module _ (contents other : Contents) where
     fil_too : (d : Design) → FileGivesFil contents file d → FileGivesFil other file d
     fil_too d g = record { bytes = g.bytes; tells = tells_too Filament g.bytes g.tells; gives = g.gives }
 
+    cal_too : (d : calyx.Design) → FileGivesCal contents file d → FileGivesCal other file d
+    cal_too d g = record { bytes = g.bytes; tells = tells_too Calyx g.bytes g.tells; gives = g.gives }
+
     top_too : (t : Top) → GivesTop contents file t → GivesTop other file t
     top_too t g = record { gives = fil_too t.design g.gives; top = g.top; at = g.at }
 
     accepted_too : (language : Language) → IsAccepted contents language file → IsAccepted other language file
     accepted_too Netlists (n, g) = (n, net_too n g)
     accepted_too Filament (d, g) = (d, fil_too d g)
+    accepted_too Calyx (d, g) = (d, cal_too d g)
 
     refused_too : (language : Language) (ended : Ended) (line : Text) → IsSourceRefused contents language file ended line → IsSourceRefused other language file ended line
     refused_too language ended line (inl (long, e, l)) = inl (record { bytes = long.bytes; told = sym same ∙ long.told; over = long.over }, e, l)
@@ -112,19 +120,30 @@ module _ (contents other : Contents) where
   trace_fil_too c made o same same' (inr (inl a)) = inr (inl (refused_top_too c o same same' a))
   trace_fil_too c made o same same' (inr (inr a)) = inr (inr (record { top = a.top; run = a.run; gives = given_too c a.top a.run same same' a.gives; traces = a.traces }))
 
-  made_too : (file made : Text) → contents file ≡ other file → IsMadeFrom contents file made → IsMadeFrom other file made
-  made_too file made same m = record { design = m.design; net = m.net; gives = fil_too file same m.design m.gives; made_net = m.made_net }
+  cal_top_too : (file : Text) → contents file ≡ other file → (t : cal_run.CalTop) → cal_run.GivesTop contents file t → cal_run.GivesTop other file t
+  cal_top_too file same t g = record { gives = cal_too file same t.design g.gives; is_top = g.is_top; at = g.at }
 
-  net_fil_too : (c : NetFil) (made : Text) (o : Outcome) → contents c.file ≡ other c.file → IsRefusedForSource contents Filament c.file o ⊎ PrintsNet contents c.file made o → IsRefusedForSource other Filament c.file o ⊎ PrintsNet other c.file made o
-  net_fil_too c made o same (inl p) = inl (source_too c.file same Filament o p)
-  net_fil_too c made o same (inr a) = inr (record { made_from = made_too c.file made same a.made_from; outcome = a.outcome })
+  cal_run_too : (c : Driven) (Comes : means.Driven → Text → Outcome → Type 0) (made : Text) (o : Outcome) → contents c.file ≡ other c.file → contents c.stimulus ≡ other c.stimulus
+      → IsRefusedForSource contents Calyx c.file o ⊎ cal_run.IsRefusedWithTop c contents o ⊎ cal_run.Runs c Comes contents made o → IsRefusedForSource other Calyx c.file o ⊎ cal_run.IsRefusedWithTop c other o ⊎ cal_run.Runs c Comes other made o
+  cal_run_too c Comes made o same same' (inl p) = inl (source_too c.file same Calyx o p)
+  cal_run_too c Comes made o same same' (inr (inl a)) =
+      inr (inl (record { top = a.top; gives = cal_top_too c.file same a.top a.gives; refused = stimulus_too c.stimulus same' (λ bytes. run_causes bytes (face a.top.comp)) o a.refused }))
+  cal_run_too c Comes made o same same' (inr (inr a)) = inr (inr (record {
+    top = a.top;
+    run = a.run;
+    gives = record { gives_top = cal_top_too c.file same a.top a.gives.gives_top; gives_run = run_too c.stimulus same' (face a.top.comp) a.run a.gives.gives_run };
+    comes = a.comes;
+  }))
 
-  lowered_too : (file made : Text) → contents file ≡ other file → IsLoweredFrom contents file made → IsLoweredFrom other file made
-  lowered_too file made same m = record { design = m.design; gives = fil_too file same m.design m.gives; lowered = m.lowered }
+  made_in_too : (language : Language) (c : Making) (made : Text) → contents c.file ≡ other c.file → IsMadeIn language c.product contents c.file made → IsMadeIn language c.product other c.file made
+  made_in_too Netlists c made same from = record { design = from.design; gives = net_too c.file same from.design from.gives; is_made = from.is_made }
+  made_in_too Filament c made same from = record { design = from.design; gives = fil_too c.file same from.design from.gives; is_made = from.is_made }
+  made_in_too Calyx c made same from = record { design = from.design; gives = cal_too c.file same from.design from.gives; is_made = from.is_made }
 
-  lower_fil_too : (c : LowerFil) (made : Text) (o : Outcome) → contents c.file ≡ other c.file → IsRefusedForSource contents Filament c.file o ⊎ PrintsLowered contents c.file made o → IsRefusedForSource other Filament c.file o ⊎ PrintsLowered other c.file made o
-  lower_fil_too c made o same (inl p) = inl (source_too c.file same Filament o p)
-  lower_fil_too c made o same (inr a) = inr (record { lowered_from = lowered_too c.file made same a.lowered_from; outcome = a.outcome })
+  making_too : (c : Making) (made : Text) (o : Outcome) → contents c.file ≡ other c.file → IsRefusedForSource contents c.language c.file o ⊎ PrintsMade (IsMadeIn c.language c.product contents c.file) made o
+      → IsRefusedForSource other c.language c.file o ⊎ PrintsMade (IsMadeIn c.language c.product other c.file) made o
+  making_too c made o same (inl p) = inl (source_too c.file same c.language o p)
+  making_too c made o same (inr a) = inr (record { is_made = made_in_too c.language c made same a.is_made; outcome = a.outcome })
 
   -- what comes of a request, where its files tell the same
   comes_too : (r : Request) (made : Text) (o : Outcome) → ((file : Text) → IsDesignOf r file ⊎ IsStimulusOf r file → contents file ≡ other file) → (command_of r).comes contents made o → (command_of r).comes other made o
@@ -134,10 +153,11 @@ module _ (contents other : Contents) where
   comes_too (OfTraceNet c) made o same p = net_run_too c (λ net. net_text net ++ 10 ∷ []) true o (same c.file (inl (record { language = Netlists; name = c.file }, refl, refl))) (same c.stimulus (inr refl)) p
   comes_too (OfFlow c) made o same p = started_too c flow_of_top o (same c.file (inl (record { language = Filament; name = c.file }, refl, refl))) (same c.stimulus (inr refl)) p
   comes_too (OfTimeline c) made o same p = started_too c holds_in_top o (same c.file (inl (record { language = Filament; name = c.file }, refl, refl))) (same c.stimulus (inr refl)) p
-  comes_too (OfNetFil c) made o same p = net_fil_too c made o (same c.file (inl (record { language = Filament; name = c.file }, refl, refl))) p
   comes_too (OfSimFil c) made o same p = started_too c rows_of_top o (same c.file (inl (record { language = Filament; name = c.file }, refl, refl))) (same c.stimulus (inr refl)) p
   comes_too (OfTraceFil c) made o same p = trace_fil_too c made o (same c.file (inl (record { language = Filament; name = c.file }, refl, refl))) (same c.stimulus (inr refl)) p
-  comes_too (OfLowerFil c) made o same p = lower_fil_too c made o (same c.file (inl (record { language = Filament; name = c.file }, refl, refl))) p
+  comes_too (OfSimCal c) made o same p = cal_run_too c (λ d text x. means.Means d x) made o (same c.file (inl (record { language = Calyx; name = c.file }, refl, refl))) (same c.stimulus (inr refl)) p
+  comes_too (OfTraceCal c) made o same p = cal_run_too c means.Traces made o (same c.file (inl (record { language = Calyx; name = c.file }, refl, refl))) (same c.stimulus (inr refl)) p
+  comes_too (OfMaking c) made o same p = making_too c made o (same c.file (inl (record { language = c.language; name = c.file }, refl, refl))) p
 
 verdict_too : (words : List Text) (contents other : Contents) (made : Text) (o : Outcome) → ((r : Request) → Asks words r → (file : Text) → IsDesignOf r file ⊎ IsStimulusOf r file → contents file ≡ other file) → Verdict words contents made o → Verdict words other made o
 verdict_too words contents other made o same (NotAsked none e) = NotAsked none e

@@ -5,12 +5,14 @@ use Rattle.hw_names.specs.Name.{Text}
 use Rattle.net_text.specs.Layout.{net_text}
 use Rattle.filc_stop.specs.Outcome.{Contents, Outcome, done_with}
 use Rattle.filc_core.proofs.AskLemmas.{asks_once}
-use Rattle.filc_core.specs.Request.{Request, OfCheck, OfRows, OfSimNet, OfTraceNet, OfFlow, OfTimeline, OfNetFil, OfSimFil, OfTraceFil, OfLowerFil, command_of, Asks}
+use Rattle.filc_core.specs.Request.{Request, OfCheck, OfRows, OfSimNet, OfTraceNet, OfFlow, OfTimeline, OfSimFil, OfTraceFil, OfSimCal, OfTraceCal, OfMaking, command_of, Asks}
 use Rattle.filc_core.specs.Verdict.{Verdict, NotAsked, Asked}
 use Rattle.filc_core.specs.commands.Flow.{flow_of_top}
 use Rattle.filc_core.specs.commands.SimFil.{rows_of_top}
 use Rattle.filc_core.specs.commands.Timeline.{holds_in_top}
-use Rattle.filc_laws.proofs.ComesLemmas.{same_outcome, check_once, rows_once, net_run_once, transactions_once, net_fil_once, trace_fil_once, lower_fil_once}
+use Rattle.filc_core.proofs.CalRunLemmas.{driven_of}
+use Rattle.filc_laws.proofs.CalRunLemmas.{cal_traces_once}
+use Rattle.filc_laws.proofs.ComesLemmas.{same_outcome, check_once, rows_once, net_run_once, transactions_once, trace_fil_once, sim_cal_once, trace_cal_once, made_once}
 use Rattle.filc_laws.proofs.TraceLemmas.{traces_once}
 use Rattle.filc_laws.specs.OneVerdict.{IsSameReport, AreOne, OneVerdict, OneReport}
 
@@ -22,10 +24,11 @@ comes_one words contents made made' o o' (OfSimNet c) asks p q = net_run_once wo
 comes_one words contents made made' o o' (OfTraceNet c) asks p q = net_run_once words contents made made' o o' c (λ net. net_text net ++ 10 ∷ []) true p q
 comes_one words contents made made' o o' (OfFlow c) asks p q = transactions_once words contents made made' o o' c flow_of_top p q
 comes_one words contents made made' o o' (OfTimeline c) asks p q = transactions_once words contents made made' o o' c holds_in_top p q
-comes_one words contents made made' o o' (OfNetFil c) asks p q = net_fil_once words contents made made' o o' c asks p q
 comes_one words contents made made' o o' (OfSimFil c) asks p q = transactions_once words contents made made' o o' c rows_of_top p q
 comes_one words contents made made' o o' (OfTraceFil c) asks p q = trace_fil_once words contents made made' o o' c asks p q
-comes_one words contents made made' o o' (OfLowerFil c) asks p q = lower_fil_once words contents made made' o o' c asks p q
+comes_one words contents made made' o o' (OfSimCal c) asks p q = sim_cal_once words contents made made' o o' c p q
+comes_one words contents made made' o o' (OfTraceCal c) asks p q = trace_cal_once words contents made made' o o' c asks p q
+comes_one words contents made made' o o' (OfMaking c) asks p q = made_once words contents made made' o o' c asks p q
 
 verdicts_one : (words : List Text) (contents : Contents) (made made' : Text) (o o' : Outcome) → Verdict words contents made o → Verdict words contents made' o' → AreOne words contents made made' o o'
 verdicts_one words contents made made' o o' (NotAsked none e) (NotAsked none' e') = same_outcome words contents made made' o o' (e ∙ sym e')
@@ -39,10 +42,11 @@ one_verdict = verdicts_one
 
 same_report : (words : List Text) (contents : Contents) (made report other : Text) → IsSameReport words contents made made report other → report ≡ other
 same_report words contents made report other (inl same) = same
-same_report words contents made report other (inr (inl nets)) = nets.printed ∙ sym nets.printed'
+same_report words contents made report other (inr (inl texts)) = texts.printed ∙ sym texts.printed'
 same_report words contents made report other (inr (inr (inl two))) =
     ap (λ (x : Outcome). x.report) (traces_once two.top.comp two.run two.top.design made (done_with report) (done_with other) two.traces two.traces')
-same_report words contents made report other (inr (inr (inr lowered))) = lowered.printed ∙ sym lowered.printed'
+same_report words contents made report other (inr (inr (inr two))) =
+    ap (λ (x : Outcome). x.report) (cal_traces_once (driven_of two.top two.run) made (record { ended = two.ended; report = report; line = two.line }) (record { ended = two.ended; report = other; line = two.line }) two.traces two.traces')
 
 pub one_report : OneReport
 one_report = λ words contents made o other p q. same_report words contents made o.report other.report (verdicts_one words contents made made o other p q).report

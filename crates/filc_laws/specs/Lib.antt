@@ -1,6 +1,7 @@
 pub mod OneLine
 pub mod OnePlace
 pub mod OneRule
+pub mod OneCost
 pub mod OneRun
 pub mod OneOutcome
 pub mod OneStimulus

@@ -5,35 +5,22 @@ use Rattle.filc_stop.specs.Lines.{as_line}
 use Rattle.filc_stop.specs.Outcome.{Contents}
 use Rattle.filc_stop.specs.declared.ended.Ended.{Ended}
 use Rattle.filc_core.specs.Ending.{IsAnswered}
-use Rattle.filc_core.specs.Request.{OfNetFil, OfLowerFil, Asks}
-use Rattle.filc_core.specs.commands.LowerFil.{LowerFil, IsLoweredFrom}
-use Rattle.filc_core.specs.commands.NetFil.{NetFil, IsMadeFrom}
+use Rattle.filc_core.specs.Request.{Request, command_of, Asks}
 use Rattle.filc_laws.specs.OneLine.{TellOneLoop}
 use Rattle.filc_laws.specs.OneVerdict.{AreTracesOfOne}
 
--- both hold the text of a netlist that was made, and both were made of the design that the words ask for
-pub record HoldNetsOfOne (words : List Text) (contents : Contents) (before out out' : Text) : Type 0 where
-  pub asked : NetFil
-  pub asks : Asks words (OfNetFil asked)
+-- both hold a text that was made, and both were made of the design that the words ask for
+pub record HoldTextsOfOne (words : List Text) (contents : Contents) (before out out' : Text) : Type 0 where
+  pub asked : Request
+  pub asks : Asks words asked
   pub made : Text
   pub made' : Text
-  pub from : IsMadeFrom contents asked.file made
-  pub from' : IsMadeFrom contents asked.file made'
+  pub from : (command_of asked).makes contents made
+  pub from' : (command_of asked).makes contents made'
   pub printed : out ≡ before ++ made
   pub printed' : out' ≡ before ++ made'
 
--- the same of the text of a Calyx design
-pub record HoldLoweringsOfOne (words : List Text) (contents : Contents) (before out out' : Text) : Type 0 where
-  pub asked : LowerFil
-  pub asks : Asks words (OfLowerFil asked)
-  pub made : Text
-  pub made' : Text
-  pub from : IsLoweredFrom contents asked.file made
-  pub from' : IsLoweredFrom contents asked.file made'
-  pub printed : out ≡ before ++ made
-  pub printed' : out' ≡ before ++ made'
-
--- both hold the trace of a netlist that was made, both netlists were made of the design that the words ask for, and the same transactions drive them
+-- both hold the trace of a netlist that was made, both netlists were made of the design that the words ask for, and the same stimulus drives them
 pub record HoldTracesOfOne (words : List Text) (contents : Contents) (before out out' : Text) : Type 0 where
   pub made : Text
   pub made' : Text
@@ -46,8 +33,7 @@ pub record HoldTracesOfOne (words : List Text) (contents : Contents) (before out
 -- the sinks of the reports hold the same, but for which netlist or which Calyx design was made
 abbrev pub IsSameOut : List Text → Contents → Text → Text → Text → Type 0
 IsSameOut words contents before out out' =
-    (out ≡ out') ⊎ HoldNetsOfOne words contents before out out' ⊎ HoldTracesOfOne words contents before out out'
-    ⊎ HoldLoweringsOfOne words contents before out out'
+    (out ≡ out') ⊎ HoldTextsOfOne words contents before out out' ⊎ HoldTracesOfOne words contents before out out'
 
 -- both hold the line of a loop of one netlist or component, from the same port on
 pub record HoldOneLoop (before err err' : Text) : Type 0 where

@@ -4,12 +4,13 @@ use Rattle.hw_names.specs.Name.{Text}
 use Rattle.fil_ast.specs.Evidence.{ALoop}
 use Rattle.filc_stop.specs.Lines.{rule_name, rule_line}
 use Rattle.filc_stop.specs.declared.language.Language.{Language}
-use Rattle.filc_stop.specs.declared.language.Language.TheVariants.{Netlists, Filament}
+use Rattle.filc_stop.specs.declared.language.Language.TheVariants.{Netlists, Filament, Calyx}
 
--- the number of the rule that there is no loop
+-- the number of the rule that there is no loop. Which of the loops from the least port on is told is left to a program, in each language
 abbrev pub loop_rule : Language → ℕ
 loop_rule Netlists = 6
 loop_rule Filament = 14
+loop_rule Calyx = 12
 
 -- the line that tells a loop of these ports, in the netlist or component of this name
 abbrev pub loop_line : Language → Text → List Text → Text

@@ -1,6 +1,8 @@
 -- The first broken rule of a netlist or a design is one, with its place and with what it shows, but for which loop that is. This project's.
 use Rattle.std.specs.Prelude.{◌≡◌, ◌⊎◌, ℕ, ◌∷◌, List}
 use Rattle.hw_names.specs.Name.{Text}
+use Rattle.cal_ast.specs.Rules as calyx_rules
+use Rattle.cal_ast.specs.Tree as calyx
 use Rattle.fil_ast.specs.Evidence.{Evidence, ALoop}
 use Rattle.fil_ast.specs.Refusal.{IsRefusal}
 use Rattle.fil_ast.specs.Rules.{FilRules}
@@ -8,6 +10,10 @@ use Rattle.fil_ast.specs.Tree.{Design}
 use Rattle.net_core.specs.Graph.{IsLeastLoop}
 use Rattle.net_core.specs.Netlist.{Netlist}
 use Rattle.net_core.specs.Rules.{IsValid, FirstBroken}
+use Rattle.filc_stop.specs.declared.language.Language.{Language}
+use Rattle.filc_stop.specs.declared.language.Language.TheVariants.{Filament, Calyx}
+use Rattle.filc_load.specs.CalFile.{shown_ports}
+use Rattle.filc_laws.specs.OneLine.{loop_rule}
 
 -- what a refusal tells of a design: the rule, the component's name, the item, and what that shows
 pub record Broken : Type 0 where
@@ -19,25 +25,40 @@ pub record Broken : Type 0 where
 abbrev pub Refuses : Design → Broken → Type 0
 Refuses design b = IsRefusal design b.name b.item b.evidence b.rule
 
--- by F14, at item 0
-abbrev pub loop_in : Text → List Text → Broken
-loop_in name ports = record { rule = 14; name = name; item = 0; evidence = ALoop ports }
+-- by the rule that there is no loop, at item 0
+abbrev pub loop_in : Language → Text → List Text → Broken
+loop_in language name ports = record { rule = loop_rule language; name = name; item = 0; evidence = ALoop ports }
 
 -- both show a loop of one component, from the same port on
-pub record ShowOneLoop (b other : Broken) : Type 0 where
+pub record ShowOneLoop (language : Language) (b other : Broken) : Type 0 where
   pub name : Text
   pub first : Text
   pub ports : List Text
   pub ports' : List Text
-  pub shown : b ≡ loop_in name (first ∷ ports)
-  pub shown' : other ≡ loop_in name (first ∷ ports')
+  pub shown : b ≡ loop_in language name (first ∷ ports)
+  pub shown' : other ≡ loop_in language name (first ∷ ports')
+
+-- refusals of one design: the same, but for which loop is shown
+abbrev pub AreOneRefusal : Language → Broken → Broken → Type 0
+AreOneRefusal language b other = (b ≡ other) ⊎ ShowOneLoop language b other
 
 abbrev pub FilRefusalIsOne : Type 0
-FilRefusalIsOne = (design : Design) (b other : Broken) → Refuses design b → Refuses design other → (b ≡ other) ⊎ ShowOneLoop b other
+FilRefusalIsOne = (design : Design) (b other : Broken) → Refuses design b → Refuses design other → AreOneRefusal Filament b other
 
 -- a design with a broken rule doesn't keep F1 to F14
 abbrev pub RefusedDesignBreaksRules : Type 0
 RefusedDesignBreaksRules = (design : Design) (b : Broken) → Refuses design b → FilRules design → ⊥
+
+-- the same of a Calyx design
+abbrev pub RefusesCal : calyx.Design → Broken → Type 0
+RefusesCal design b = (ports : List Text) × calyx_rules.IsRefusal design b.name b.item ports b.rule × (b.evidence ≡ shown_ports ports)
+
+abbrev pub CalRefusalIsOne : Type 0
+CalRefusalIsOne = (design : calyx.Design) (b other : Broken) → RefusesCal design b → RefusesCal design other → AreOneRefusal Calyx b other
+
+-- a design with a broken rule doesn't keep C1 to C12
+abbrev pub RefusedCalBreaksRules : Type 0
+RefusedCalBreaksRules = (design : calyx.Design) (b : Broken) → RefusesCal design b → calyx_rules.CalRules design → ⊥
 
 -- the first of N1 to N5 that a netlist breaks, and its line
 abbrev pub NetRuleIsOne : Type 0

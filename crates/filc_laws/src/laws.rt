@@ -1,10 +1,11 @@
 //! Laws of the verdict, from its parts to the whole.
 ghost use Rattle.filc_laws.specs.OneAnswer.{OneAnswer};
+ghost use Rattle.filc_laws.specs.OneCost.{CalWeightIsOne, CalWordsAreOne};
 ghost use Rattle.filc_laws.specs.OneOutcome.{RunIsOne};
-ghost use Rattle.filc_laws.specs.OnePlace.{FilPlaceIsOne, RefusedFilSpellsNone, NetPlaceIsOne};
-ghost use Rattle.filc_laws.specs.OneRule.{FilRefusalIsOne, RefusedDesignBreaksRules, NetRuleIsOne, BrokenNetIsNotValid, LeastPortIsOne};
+ghost use Rattle.filc_laws.specs.OnePlace.{FilPlaceIsOne, RefusedFilSpellsNone, CalPlaceIsOne, RefusedCalSpellsNone, NetPlaceIsOne};
+ghost use Rattle.filc_laws.specs.OneRule.{FilRefusalIsOne, RefusedDesignBreaksRules, CalRefusalIsOne, RefusedCalBreaksRules, NetRuleIsOne, BrokenNetIsNotValid, LeastPortIsOne};
 ghost use Rattle.filc_laws.specs.OneRun.{RowsAreOne};
-ghost use Rattle.filc_laws.specs.OneSource.{NetIsGivenOnce, FilIsGivenOnce, SourceIsRefusedOnce, RefusedSourceIsNotAccepted};
+ghost use Rattle.filc_laws.specs.OneSource.{NetIsGivenOnce, FilIsGivenOnce, CalIsGivenOnce, SourceIsRefusedOnce, RefusedSourceIsNotAccepted};
 ghost use Rattle.filc_laws.specs.OneStimulus.{RunIsGivenOnce, RunCauseIsOne, GivenRunHasNoCause, RunIsRefusedOnce, TransactionsAreGivenOnce, TransactionCauseIsOne, GivenTransactionsHaveNoCause, TransactionsAreRefusedOnce};
 ghost use Rattle.filc_laws.specs.OneVerdict.{OneVerdict, OneReport};
 ghost use Rattle.filc_laws.specs.OnlyWhatIsTold.{OnlyWhatIsTold};
@@ -29,6 +30,16 @@ pub fn refused_fil_spells_none()
     ensures { RefusedFilSpellsNone }
 {}
 
+/// A Calyx text is refused at one byte, whatever numbers its names have, and there for a word that is left out or for none.
+pub fn cal_place_is_one()
+    ensures { CalPlaceIsOne }
+{}
+
+/// A Calyx text that its grammar refuses spells no design, whatever numbers its names have.
+pub fn refused_cal_spells_none()
+    ensures { RefusedCalSpellsNone }
+{}
+
 /// The text of a netlist is refused at one byte.
 pub fn net_place_is_one()
     ensures { NetPlaceIsOne }
@@ -42,6 +53,26 @@ pub fn fil_refusal_is_one()
 /// A design with a first broken rule doesn't keep F1 to F14.
 pub fn refused_design_breaks_rules()
     ensures { RefusedDesignBreaksRules }
+{}
+
+/// The first broken rule of a Calyx design is one, with its place, and with what it shows but for which loop that is.
+pub fn cal_refusal_is_one()
+    ensures { CalRefusalIsOne }
+{}
+
+/// A Calyx design with a first broken rule doesn't keep C1 to C12.
+pub fn refused_cal_breaks_rules()
+    ensures { RefusedCalBreaksRules }
+{}
+
+/// What a Calyx design weighs is one number.
+pub fn cal_weight_is_one()
+    ensures { CalWeightIsOne }
+{}
+
+/// How many words the memories of a Calyx design have is one number.
+pub fn cal_words_are_one()
+    ensures { CalWordsAreOne }
 {}
 
 /// The first of N1 to N5 that a netlist breaks is one, and so is its line.
@@ -67,6 +98,11 @@ pub fn net_is_given_once()
 /// A file gives at most one Filament design.
 pub fn fil_is_given_once()
     ensures { FilIsGivenOnce }
+{}
+
+/// A file gives at most one Calyx design.
+pub fn cal_is_given_once()
+    ensures { CalIsGivenOnce }
 {}
 
 /// A file that is refused is so with one answer and one line, but for which loop that tells.

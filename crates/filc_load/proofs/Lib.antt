@@ -1,5 +1,8 @@
 pub mod TopLemmas
 pub mod FilLemmas
+pub mod CostLemmas
+pub mod CalLemmas
+pub mod LeftOutLemmas
 pub mod StimulusLemmas
 mod LoadLemmas
 pub mod CauseLemmas

@@ -5,6 +5,7 @@ use Rattle.std.proofs.lemmas.Option.{get_or_from_slice_get}
 use Rattle.std.specs.Prelude.{Result, Ok, Err, IsSome, IfSome, IfOk, IfErr, All, Contains, slice_get}
 use Rattle.std.specs.Result.{IsErrAnd}
 use Rattle.hw_names.specs.Name.{Text}
+use Rattle.cal_ast.specs.Tree as calyx
 use Rattle.fil_ast.specs.Evidence.{ALoop}
 use Rattle.fil_ast.specs.Tree.{Component, design_of}
 use Rattle.fil_ast.specs.declared.tx.TxList.{TxList}
@@ -24,17 +25,19 @@ use Rattle.filc_stop.specs.Stops.{IsOfSource}
 use Rattle.filc_stop.specs.declared.ended.Ended.{Ended}
 use Rattle.filc_stop.specs.declared.ended.Ended.TheVariants.{Refused, Stimulus, Conflict, Limit}
 use Rattle.filc_stop.specs.declared.language.Language.{Language}
-use Rattle.filc_stop.specs.declared.language.Language.TheVariants.{Netlists, Filament}
+use Rattle.filc_stop.specs.declared.language.Language.TheVariants.{Netlists, Filament, Calyx}
 use Rattle.filc_stop.specs.declared.limits.TheConstants.{MOST_STIMULUS_BYTES}
 use Rattle.filc_stop.specs.declared.refusal.Refusal.TheVariants as refusal
 use Rattle.filc_stop.specs.declared.stop.Stop.{Stop}
 use Rattle.filc_stop.specs.declared.stop.Stop.TheVariants as stop
-use Rattle.filc_load.specs.Built.{KnowsFile, IsBuiltFrom, IsFilBuiltFrom, IsGivenBy, AreGivenBy, IsUnbuilt, IsUnread, GivesNothing, IsNotGiven, AreNamesOf}
+use Rattle.filc_load.specs.Built.{KnowsFile, IsBuiltFrom, IsFilBuiltFrom, IsCalBuiltFrom, IsGivenBy, AreGivenBy, IsUnbuilt, IsUnread, GivesNothing, IsNotGiven, AreNamesOf}
+use Rattle.filc_load.specs.CalFile
 use Rattle.filc_load.specs.FilFile
 use Rattle.filc_load.specs.NetFile
 use Rattle.filc_load.specs.NetFile.{IsTextOf, IsRefused, HasLoop}
-use Rattle.filc_load.specs.Source.{Tells, IsRefusedIn, FileGivesNet, FileGivesFil}
+use Rattle.filc_load.specs.Source.{Tells, IsRefusedIn, FileGivesNet, FileGivesFil, FileGivesCal}
 use Rattle.filc_load.specs.StimulusFile.{GivesRun, GivesTransactions, TooLong}
+use Rattle.filc_load.specs.declared.cal_file.CalBuilt.{CalBuilt}
 use Rattle.filc_load.specs.declared.fil_file.FilBuilt.{FilBuilt}
 use Rattle.filc_load.specs.declared.net_file.Built.{Built}
 
@@ -83,6 +86,11 @@ pub read_fil : (contents : Contents) (file bytes : Text) (answer : Result FilBui
 read_fil contents file bytes (Ok b) tells built = record { bytes = bytes; tells = tells; gives = built.gives }
 read_fil contents file bytes (Err why) tells built = tt
 
+-- a text that gives a Calyx design
+pub read_cal : (contents : Contents) (file bytes : Text) (answer : Result CalBuilt Stop) → Tells contents Calyx file bytes → IfOk answer (IsCalBuiltFrom bytes) → IfOk answer (λ (b : CalBuilt). FileGivesCal contents file (calyx.design_of b.design))
+read_cal contents file bytes (Ok b) tells built = record { bytes = bytes; tells = tells; gives = built.gives }
+read_cal contents file bytes (Err why) tells built = tt
+
 -- ---- the refusal of a design's text is none of a stimulus or of a run
 
 -- the letter with which the name of a limit starts, in its line
@@ -119,6 +127,13 @@ end_of_text Filament text ended line (FilFile.HasNoGrammar at shallow refused is
 end_of_text Filament text ended line (FilFile.HasLargeOffset design offset shallow spells large is tells) = inr (is, subst IsOtherLetter (sym (ap letter tells)) other_o)
 end_of_text Filament text ended line (FilFile.BreaksRule design rule name item evidence of first is tells) = inl is
 end_of_text Filament text ended line (FilFile.IsTooHeavy design number top of has heavy is tells) = inr (is, subst IsOtherLetter (sym (ap letter tells)) other_w)
+end_of_text Calyx text ended line (CalFile.ByTokens cause) = inl cause.is
+end_of_text Calyx text ended line (CalFile.ByNesting cause) = inr (cause.is, subst IsOtherLetter (sym (ap letter cause.tells)) other_n)
+end_of_text Calyx text ended line (CalFile.ByGrammar cause) = inl cause.is
+end_of_text Calyx text ended line (CalFile.ByWord cause) = inl cause.is
+end_of_text Calyx text ended line (CalFile.ByRule cause) = inl cause.is
+end_of_text Calyx text ended line (CalFile.ByWeight cause) = inr (cause.is, subst IsOtherLetter (sym (ap letter cause.tells)) other_w)
+end_of_text Calyx text ended line (CalFile.ByWords cause) = inr (cause.is, subst IsOtherLetter (sym (ap letter cause.tells)) other_w)
 
 -- a limit that a text is over
 other_limit : (line : Text) → IsEndOfText Limit line → IsOtherLetter (letter line)
@@ -137,6 +152,7 @@ of_source language text (stop.Refused (refusal.SourceTooLong l)) unbuilt = tt
 of_source language text (stop.Refused (refusal.HasNoTokens at)) unbuilt = tt
 of_source language text (stop.Refused (refusal.NestsTooDeep l depth)) unbuilt = tt
 of_source language text (stop.Refused (refusal.HasNoGrammar at)) unbuilt = tt
+of_source language text (stop.Refused (refusal.LeavesOut word at)) unbuilt = tt
 of_source language text (stop.Refused (refusal.HasLargeOffset offset)) unbuilt = tt
 of_source language text (stop.Refused (refusal.BreaksRule l rule name item evidence)) unbuilt = tt
 of_source language text (stop.Refused (refusal.IsTooHeavy weight)) unbuilt = tt

@@ -2,6 +2,11 @@
 use Rattle.std.specs.Prelude.{◌≡◌, ℕ, ◌<◌, ◌≤◌, List, [], filter, length, map, slice_index_or, All, Contains, Result, Ok, Err}
 use Rattle.hw_bits.specs.Values.{widths_of}
 use Rattle.hw_names.specs.Name.{Text}
+use Rattle.cal_ast.specs.Numbers as calyx_numbers
+use Rattle.cal_ast.specs.Rules.{CalRules}
+use Rattle.cal_ast.specs.Tree as calyx
+use Rattle.cal_ast.specs.declared.tree.CalDesign.{CalDesign}
+use Rattle.cal_parse.specs.Written as calyx_written
 use Rattle.fil_ast.specs.Limits.{HasSmallOffsets}
 use Rattle.fil_ast.specs.Numbers.{HasNumbers as HasNumbersOfNames}
 use Rattle.fil_ast.specs.Rules.{FilRules}
@@ -26,6 +31,7 @@ use Rattle.stim_read.specs.TxRun.{tx_run_seen}
 use Rattle.stim_read.specs.declared.stim_end.StimEnd.{StimEnd}
 use Rattle.filc_load.specs.Given.{FitsMemory}
 use Rattle.filc_load.specs.Inputs.{AreSetsFor}
+use Rattle.filc_load.specs.CalFile.{GivesCal, IsCalTextOf, IsAcceptedCalTextOf}
 use Rattle.filc_load.specs.FilFile.{GivesFil, IsFilTextOf, IsAcceptedFilTextOf}
 use Rattle.filc_load.specs.NetFile.{GivesNet, IsTextOf, IsAcceptedTextOf}
 use Rattle.filc_stop.specs.Outcome.{Contents}
@@ -33,7 +39,8 @@ use Rattle.filc_stop.specs.Stops.{answer_of, refusal_line}
 use Rattle.filc_load.specs.Source.{IsRefusedIn, IsSourceRefused}
 use Rattle.filc_load.specs.StimulusFile.{FileGivesRun, FileGivesTransactions, IsRefusedBy, IsStimulusRefused, event_name}
 use Rattle.filc_stop.specs.declared.language.Language.{Language}
-use Rattle.filc_stop.specs.declared.language.Language.TheVariants.{Netlists, Filament}
+use Rattle.filc_stop.specs.declared.language.Language.TheVariants.{Netlists, Filament, Calyx}
+use Rattle.filc_load.specs.declared.cal_file.CalBuilt.{CalBuilt}
 use Rattle.filc_load.specs.declared.fil_file.FilBuilt.{FilBuilt}
 use Rattle.filc_load.specs.declared.net_file.Built.{Built}
 use Rattle.filc_stop.specs.declared.stop.Stop.{Stop}
@@ -96,6 +103,30 @@ IsUnfitDesign d why = (text : Text) → IsFilTextOf (design_of d) text → IsUnb
 -- the same for a design that keeps the rules
 abbrev pub IsOverweightDesign : FilDesign → Stop → Type 0
 IsOverweightDesign d why = (text : Text) → IsAcceptedFilTextOf (design_of d) text → IsUnbuilt Filament text why
+
+-- the Calyx design is the text's
+pub record IsCalDesignOf (text : Text) (d : CalDesign) : Type 0 where
+  pub text_of : IsCalTextOf (calyx.design_of d) text
+  pub numbers : calyx_numbers.HasNumbers d
+
+-- the design keeps C1 to C12
+pub record IsCalReady (b : CalBuilt) : Type 0 where
+  pub numbers : calyx_numbers.HasNumbers b.design
+  pub rules : CalRules (calyx.design_of b.design)
+  pub written : calyx_written.DesignIsWritten (calyx.design_of b.design)
+
+-- the text gives this design, which later commands may take
+pub record IsCalBuiltFrom (text : Text) (b : CalBuilt) : Type 0 where
+  pub gives : GivesCal text (calyx.design_of b.design)
+  pub ready : IsCalReady b
+
+-- whichever text spells the design is refused so, or there was no memory
+abbrev pub IsUnfitCal : CalDesign → Stop → Type 0
+IsUnfitCal d why = (text : Text) → IsCalTextOf (calyx.design_of d) text → IsUnbuilt Calyx text why
+
+-- the same for a design that keeps the rules
+abbrev pub IsOverweightCal : CalDesign → Stop → Type 0
+IsOverweightCal d why = (text : Text) → IsAcceptedCalTextOf (calyx.design_of d) text → IsUnbuilt Calyx text why
 
 -- the file of this name is known, unless it couldn't be read or there was no memory
 abbrev pub KnowsFile : {T : Type 0} → List Text → Text → Result T Stop → Type 0

@@ -10,6 +10,7 @@ pub use Rattle.fil_parse.specs.Spelling as FilSpelling
 pub use Rattle.stim_read.specs.CycleRun
 pub mod NetFile
 pub mod FilFile
+pub mod CalFile
 pub mod Source
 pub mod Settable
 pub mod Given

@@ -2,6 +2,7 @@
 use Rattle.std.specs.Prelude.{◌≡◌, ◌⊎◌, ℕ, ◌+◌, ◌<◌, ◌≤◌, length, slice_get, codes, Some}
 use Rattle.hw_names.specs.Name.{Text}
 use Rattle.fil_ast.specs.Top.{IsTop}
+use Rattle.cal_ast.specs.Tree as calyx
 use Rattle.fil_ast.specs.Tree.{Component, Design}
 use Rattle.net_core.specs.Netlist.{Netlist}
 use Rattle.filc_stop.specs.Language.{most_bytes}
@@ -10,7 +11,9 @@ use Rattle.filc_stop.specs.Outcome.{Contents, Outcome, refused_with}
 use Rattle.filc_stop.specs.declared.ended.Ended.{Ended}
 use Rattle.filc_stop.specs.declared.ended.Ended.TheVariants.{Limit}
 use Rattle.filc_stop.specs.declared.language.Language.{Language}
-use Rattle.filc_stop.specs.declared.language.Language.TheVariants.{Netlists, Filament}
+use Rattle.filc_stop.specs.declared.language.Language.TheVariants.{Netlists, Filament, Calyx}
+use Rattle.filc_load.specs.CalFile
+use Rattle.filc_load.specs.CalFile.{GivesCal}
 use Rattle.filc_load.specs.FilFile
 use Rattle.filc_load.specs.FilFile.{GivesFil}
 use Rattle.filc_load.specs.NetFile
@@ -31,6 +34,7 @@ pub record IsTooLong (contents : Contents) (language : Language) (file : Text) :
 abbrev pub IsRefusedIn : Language → Text → Ended → Text → Type 0
 IsRefusedIn Netlists text ended line = NetFile.IsRefused text ended line
 IsRefusedIn Filament text ended line = FilFile.IsRefused text ended line
+IsRefusedIn Calyx text ended line = CalFile.IsRefused text ended line
 
 -- the text of the file is refused so
 pub record IsTextRefused (contents : Contents) (language : Language) (file : Text) (ended : Ended) (line : Text) : Type 0 where
@@ -59,6 +63,12 @@ pub record FileGivesFil (contents : Contents) (file : Text) (design : Design) : 
   pub tells : Tells contents Filament file bytes
   pub gives : GivesFil bytes design
 
+-- the file gives this Calyx design
+pub record FileGivesCal (contents : Contents) (file : Text) (design : calyx.Design) : Type 0 where
+  pub bytes : Text
+  pub tells : Tells contents Calyx file bytes
+  pub gives : GivesCal bytes design
+
 -- the file gives this Filament design, and the component with this number is its top one
 pub record FileGivesTop (contents : Contents) (file : Text) (design : Design) (number : ℕ) (c : Component) : Type 0 where
   pub gives : FileGivesFil contents file design
@@ -69,6 +79,7 @@ pub record FileGivesTop (contents : Contents) (file : Text) (design : Design) (n
 abbrev pub IsAccepted : Contents → Language → Text → Type 0
 IsAccepted contents Netlists file = (n : Netlist) × FileGivesNet contents file n
 IsAccepted contents Filament file = (design : Design) × FileGivesFil contents file design
+IsAccepted contents Calyx file = (design : calyx.Design) × FileGivesCal contents file design
 
 -- the command is refused, as its design's file gives no design
 pub record IsRefusedForSource (contents : Contents) (language : Language) (file : Text) (o : Outcome) : Type 0 where

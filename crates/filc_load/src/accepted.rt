@@ -5,7 +5,7 @@ ghost use Rattle.filc_stop.specs.Stops.{IsOfSource};
 ghost use Rattle.filc_load.specs.Built.{IsUnread, KnowsFile};
 ghost use Rattle.filc_load.specs.Source.{IsAccepted};
 
-use crate::{fil_file, net_file};
+use crate::{cal_file, fil_file, net_file};
 use filc_stop::{Language, Stop};
 use hw_io::Files;
 use std::alloc::Global;
@@ -31,6 +31,9 @@ pub fn accept<F: Files>(
         }
         Language::Filament => {
             let _built = fil_file::load(alloc, file, files)?;
+        }
+        Language::Calyx => {
+            let _built = cal_file::load(alloc, file, files)?;
         }
     }
     Ok(())

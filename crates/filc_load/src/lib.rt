@@ -2,6 +2,7 @@
 #![tactic(auto)]
 
 mod accepted;
+pub mod cal_file;
 pub mod fil_file;
 mod made;
 pub mod net_file;
@@ -12,7 +13,8 @@ pub mod stimulus;
 mod top;
 
 pub use accepted::accept;
+pub use cal_file::CalBuilt;
 pub use fil_file::FilBuilt;
-pub use made::make_ready;
+pub use made::{make_ready, table_of};
 pub use net_file::Built;
 pub use ports::name_of;

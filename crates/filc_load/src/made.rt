@@ -28,7 +28,7 @@ pub fn make_ready(alloc: Global, net: Net) -> Result<Built, Memory>
 }
 
 /// The table of a netlist that keeps N1 to N5.
-fn table_of(alloc: Global, net: &Net) -> Result<Table, Memory>
+pub fn table_of(alloc: Global, net: &Net) -> Result<Table, Memory>
     requires valid { IsValid (netlist_of net.now) }
     requires numbers { HasNumbers net.now }
     ensures { IfOk result (IsTableOf (netlist_of net.now)) }

@@ -64,6 +64,7 @@ pub fn run<O: Sink>(
     requires ready { IsReady built.now }
     requires fits { FitsNet (netlist_of built.now.net) list.now }
     ensures leaves { LeavesOfRun (run_from (netlist_of built.now.net) list.now head.now all) result (O.written out.old) (O.written out.new) }
+    ensures rows { RunLeaves (run_from (netlist_of built.now.net) list.now head.now all) result (O.written out.old) (O.written out.new) }
     ensures stops { IfErr result IsOfRun }
     ensures write_fault { IsErrOf result Stop.WriteFault → Rose (O.faults out.old) (O.faults out.new) }
     ensures never_falls { O.faults out.old ≤ O.faults out.new }

@@ -6,6 +6,7 @@ use Rattle.hw_prims.specs.Row.{Trace}
 use Rattle.net_core.specs.NetRun.{NetRun}
 use Rattle.net_core.specs.Netlist.{Netlist}
 use Rattle.net_sim.specs.Order.{IsOrderOf}
+use Rattle.net_guard.specs.Folded.{HasFoldedGuards}
 use Rattle.net_text.proofs.OneNetlist.{one_netlist}
 use Rattle.net_text.specs.Layout.{net_text}
 use Rattle.net_text.specs.Names.{HasText}
@@ -30,7 +31,7 @@ use Rattle.filc_report.specs.Streams.{shown_ports}
 use Rattle.filc_run.proofs.MeantLemmas.{run_driven, rows_driven, sig_driven, carried, never_conflicts}
 use Rattle.filc_run.specs.Traced.{IsMadeOf, IsNetOf, Traces}
 
-module _ (design : Design) (n : Netlist) (refines : Refines design n) (rules : FilRules design) (list : TxList) (are : AreTransactionsOf refines.c list) (has_text : HasText n) (order : List ℕ) (ordered : IsOrderOf n order) where
+module _ (design : Design) (n : Netlist) (refines : Refines design n) (rules : FilRules design) (list : TxList) (are : AreTransactionsOf refines.c list) (folded : HasFoldedGuards n) (has_text : HasText n) (order : List ℕ) (ordered : IsOrderOf n order) where
   abbrev made : Text
   made = net_text n
 
@@ -48,7 +49,7 @@ module _ (design : Design) (n : Netlist) (refines : Refines design n) (rules : F
   comes_of = Traces design refines.c (tx_run_seen list)
 
   made_net : IsNetOf design n made
-  made_net = record { refines = refines; spells = (has_text, refl) }
+  made_net = record { refines = refines; folded = folded; spells = (has_text, refl) }
 
   runnable : IsRunnable trace_run
   runnable = record {

@@ -2,3 +2,4 @@ pub use Rattle.fil_fsm.specs.Refines
 pub use Rattle.filc_report.specs.Runs
 pub mod Meant
 pub mod Traced
+pub mod Verilog

@@ -4,6 +4,7 @@ use Rattle.hw_names.specs.Name.{Text}
 use Rattle.hw_prims.specs.Row.{Trace}
 use Rattle.net_core.specs.NetRun.{NetRun}
 use Rattle.net_core.specs.Netlist.{Netlist}
+use Rattle.net_guard.specs.Folded.{HasFoldedGuards}
 use Rattle.net_text.specs.Reading.{Spells}
 use Rattle.fil_ast.specs.Signature.{component_signature}
 use Rattle.fil_ast.specs.Tree.{Component, Design}
@@ -16,10 +17,11 @@ use Rattle.filc_report.specs.Streams.{shown_ports}
 use Rattle.filc_stop.specs.Outcome.{Outcome, done_with}
 use Rattle.filc_run.specs.Meant.{rows_taken}
 
--- the text spells a netlist that keeps what the design promises: for every legal list of transactions, overlapping as it may, each instance at each path
+-- the text spells a netlist with folded guards that keeps what the design promises: for every legal list of transactions, overlapping as it may, each instance at each path
 -- carries what the list gives it
 pub record IsNetOf (design : Design) (net : Netlist) (made : Text) : Type 0 where
   pub refines : Refines design net
+  pub folded : HasFoldedGuards net
   pub spells : Spells made net
 
 -- the text is that of such a netlist

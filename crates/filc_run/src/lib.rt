@@ -1,4 +1,4 @@
-//! Runs of the netlist of a Filament design, as transactions drive it: what `sim` and `trace` write.
+//! The netlist of a Filament design: its text, its Verilog, and its runs as transactions drive it, as `net`, `verilog`, `sim` and `trace` write them.
 #![tactic(auto)]
 
 mod lowered;
@@ -6,4 +6,4 @@ mod run;
 mod text;
 
 pub use run::{write_outputs, write_trace};
-pub use text::{text_of, with_empty_line};
+pub use text::{text_of, verilog_of, with_empty_line};

@@ -5,6 +5,7 @@ ghost use Rattle.fil_ast.specs.Tree.{Component, design_of};
 ghost use Rattle.fil_fsm.specs.Refines.{Refines};
 ghost use Rattle.fil_sig.specs.Seen.{seen};
 ghost use Rattle.net_core.specs.Netlist.{netlist_of};
+ghost use Rattle.net_guard.specs.Folded.{HasFoldedGuards};
 ghost use Rattle.net_text.specs.Names.{HasText};
 ghost use Rattle.stim_read.specs.TxRun.{transaction_seen};
 ghost use Rattle.filc_load.specs.Built.{IsFilReady, IsReady};
@@ -33,6 +34,7 @@ impl Lowered {
         requires { IsFilReady design.now }
         ensures ready { IfOk result (λ it. IsReady it.built) }
         ensures refines { IfOk result (λ it. Refines (design_of design.now.design) (netlist_of it.built.net)) }
+        ensures folded { IfOk result (λ it. HasFoldedGuards (netlist_of it.built.net)) }
         ensures text { IfOk result (λ it. HasText (netlist_of it.built.net)) }
         ensures sig { (c : Component) → slice_get (design_of design.now.design) design.now.top ≡ Some c
             → IfOk result (λ it. seen it.sig ≡ component_signature c) }

@@ -3,7 +3,7 @@ use Rattle.std.proofs.Common.{◌≡◌, ℕ, [], ◌∷◌, ◌++◌, codes, de
 use Rattle.std.proofs.lemmas.List.{append-nil}
 use Rattle.hw_names.specs.Name.{Text}
 use Rattle.fil_ast.specs.Evidence.{Evidence}
-use Rattle.filc_stop.specs.Lines.{as_line, token_line, grammar_line, place_text, evidence_text, rule_line, entry_text, stimulus_text, shown_starts, stimulus_line, conflict_line}
+use Rattle.filc_stop.specs.Lines.{as_line, token_line, grammar_line, left_out_line, place_text, evidence_text, rule_line, entry_text, stimulus_text, shown_starts, stimulus_line, conflict_line}
 
 pub conflict_texts : (cycle : ℕ) (port : Text) → codes "conflict cycle " ++ (decimal cycle ++ (codes " port " ++ (port ++ 10 ∷ []))) ≡ as_line (conflict_line cycle port)
 conflict_texts cycle port =
@@ -15,6 +15,11 @@ token_texts place = refl
 
 pub grammar_texts : (place : ℕ) → codes "refused grammar at byte " ++ (decimal place ++ 10 ∷ []) ≡ as_line (grammar_line place)
 grammar_texts place = refl
+
+pub left_out_texts : (word : Text) (place : ℕ) → codes "refused left out " ++ (word ++ (codes " at byte " ++ (decimal place ++ 10 ∷ []))) ≡ as_line (left_out_line word place)
+left_out_texts word place =
+    ap (λ rest. codes "refused left out " ++ rest)
+    (sym (append_assoc (word ++ codes " at byte ") (decimal place) (10 ∷ []) ∙ append_assoc word (codes " at byte ") (decimal place ++ 10 ∷ [])))
 
 -- a rule's line is its place, its evidence and the line feed
 pub rule_texts : (rule name : Text) (item : ℕ) (evidence : Evidence) → place_text rule name item ++ (evidence_text evidence ++ 10 ∷ []) ≡ as_line (rule_line rule name item evidence)

@@ -2,7 +2,7 @@
 --
 -- A command may make a design and print its text; which one is left to it. So what comes of it is said for each text that it may
 -- make: the empty one alone, where it makes none.
-use Rattle.std.specs.Prelude.{◌≡◌, ◌⊎◌, List, [], Option, Result, Ok, Err}
+use Rattle.std.specs.Prelude.{◌≡◌, ◌⊎◌, [], Option, Result, Ok, Err}
 use Rattle.std.specs.Io.KnownBytes.{Appends, Keeps}
 use Rattle.hw_io.specs.Writing.{AppendsPrefix}
 use Rattle.hw_names.specs.Name.{Text}

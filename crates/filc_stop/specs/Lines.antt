@@ -26,6 +26,10 @@ token_line place = codes "refused token at byte " ++ decimal place
 abbrev pub grammar_line : ℕ → Text
 grammar_line place = codes "refused grammar at byte " ++ decimal place
 
+-- a text with a word that its language has and this profile leaves out, and the byte at which it stands
+abbrev pub left_out_line : Text → ℕ → Text
+left_out_line word place = codes "refused left out " ++ word ++ codes " at byte " ++ decimal place
+
 -- a rule of a language: its letter and its number
 abbrev pub rule_name : Language → ℕ → Text
 rule_name language number = letter_of language ++ decimal number

@@ -1,5 +1,5 @@
 -- What comes of a command: its answer, its report, and the line of a refusal. This project's.
-use Rattle.std.specs.Prelude.{ℕ, List, [], Option}
+use Rattle.std.specs.Prelude.{ℕ, [], Option}
 use Rattle.hw_names.specs.Name.{Text}
 use Rattle.filc_stop.specs.Lines.{usage_line, conflict_line}
 use Rattle.filc_stop.specs.declared.ended.Ended.{Ended}

@@ -7,7 +7,8 @@ use Rattle.hw_names.specs.Name.{Text}
 use Rattle.fil_ast.specs.declared.tree.TheConstants.{MOST_OFFSET}
 use Rattle.fil_check.specs.Least.{evidence_of}
 use Rattle.filc_stop.specs.Language.{most_bytes, most_nesting}
-use Rattle.filc_stop.specs.Lines.{as_line, read_fault_line, limit_line, token_line, grammar_line, rule_name, rule_line, counted_name, stimulus_line, conflict_line, memory_line}
+use Rattle.filc_stop.specs.Lines.{as_line, read_fault_line, limit_line, token_line, grammar_line, left_out_line, rule_name, rule_line}
+use Rattle.filc_stop.specs.Lines.{counted_name, stimulus_line, conflict_line, memory_line}
 use Rattle.filc_stop.specs.declared.ended.Ended.{Ended}
 use Rattle.filc_stop.specs.declared.ended.Ended.TheVariants.{Refused, ReadFault, WriteFault, Memory, Stimulus, Conflict, Limit}
 use Rattle.filc_stop.specs.declared.limits.TheConstants.{MOST_STIMULUS_BYTES, MOST_WEIGHT, MOST_WORDS}
@@ -26,6 +27,7 @@ answer_of (refusal.SourceTooLong language) = Limit
 answer_of (refusal.HasNoTokens at) = Refused
 answer_of (refusal.NestsTooDeep language depth) = Limit
 answer_of (refusal.HasNoGrammar at) = Refused
+answer_of (refusal.LeavesOut word at) = Refused
 answer_of (refusal.HasLargeOffset offset) = Limit
 answer_of (refusal.BreaksRule language rule name item evidence) = Refused
 answer_of (refusal.IsTooHeavy weight) = Limit
@@ -41,6 +43,7 @@ refusal_line (refusal.SourceTooLong language) = limit_line (codes "source") (mos
 refusal_line (refusal.HasNoTokens at) = token_line at
 refusal_line (refusal.NestsTooDeep language depth) = limit_line (codes "nesting") depth (most_nesting language)
 refusal_line (refusal.HasNoGrammar at) = grammar_line at
+refusal_line (refusal.LeavesOut word at) = left_out_line word at
 refusal_line (refusal.HasLargeOffset offset) = limit_line (codes "offset") offset MOST_OFFSET
 refusal_line (refusal.BreaksRule language rule name item evidence) = rule_line (rule_name language rule) name item (evidence_of evidence)
 refusal_line (refusal.IsTooHeavy weight) = limit_line (codes "weight") weight MOST_WEIGHT
@@ -65,6 +68,7 @@ IsOfSource (stop.Refused (refusal.SourceTooLong language)) = Unit {0}
 IsOfSource (stop.Refused (refusal.HasNoTokens at)) = Unit {0}
 IsOfSource (stop.Refused (refusal.NestsTooDeep language depth)) = Unit {0}
 IsOfSource (stop.Refused (refusal.HasNoGrammar at)) = Unit {0}
+IsOfSource (stop.Refused (refusal.LeavesOut word at)) = Unit {0}
 IsOfSource (stop.Refused (refusal.HasLargeOffset offset)) = Unit {0}
 IsOfSource (stop.Refused (refusal.BreaksRule language rule name item evidence)) = Unit {0}
 IsOfSource (stop.Refused (refusal.IsTooHeavy weight)) = Unit {0}

@@ -2,8 +2,9 @@
 ghost use Rattle.std.specs.Prelude.{◌≡◌, ◌≤◌, ◌^◌};
 ghost use Rattle.filc_stop.specs.Language.{ending_of, letter_of, most_bytes, most_nesting};
 
-use crate::limits::{MOST_FIL_BYTES, MOST_NET_BYTES, MOST_NET_NESTING};
-use fil_parse::MOST_NESTING;
+use crate::limits::{MOST_CAL_BYTES, MOST_FIL_BYTES, MOST_NET_BYTES, MOST_NET_NESTING};
+use cal_parse::MOST_NESTING as MOST_CAL_NESTING;
+use fil_parse::MOST_NESTING as MOST_FIL_NESTING;
 
 /// The language of a file, which the end of its name tells.
 #[derive(Clone, Copy, Debug, PartialEq, Eq)]
@@ -12,6 +13,8 @@ pub enum Language {
     Netlists,
     /// Filament (PLDI 2023).
     Filament,
+    /// Calyx (ASPLOS 2021).
+    Calyx,
 }
 
 impl Language {
@@ -22,6 +25,7 @@ impl Language {
         match self {
             Language::Netlists => ".net",
             Language::Filament => ".fil",
+            Language::Calyx => ".futil",
         }
     }
 
@@ -33,6 +37,7 @@ impl Language {
         match self {
             Language::Netlists => MOST_NET_BYTES,
             Language::Filament => MOST_FIL_BYTES,
+            Language::Calyx => MOST_CAL_BYTES,
         }
     }
 
@@ -42,7 +47,8 @@ impl Language {
     {
         match self {
             Language::Netlists => MOST_NET_NESTING,
-            Language::Filament => MOST_NESTING as u64,
+            Language::Filament => MOST_FIL_NESTING as u64,
+            Language::Calyx => MOST_CAL_NESTING as u64,
         }
     }
 
@@ -53,6 +59,7 @@ impl Language {
         match self {
             Language::Netlists => "N",
             Language::Filament => "F",
+            Language::Calyx => "C",
         }
     }
 }

@@ -5,7 +5,7 @@ ghost use Rattle.hw_io.specs.Faults.{Rose};
 ghost use Rattle.hw_io.specs.Writing.{AppendsPrefix};
 ghost use Rattle.fil_ast.specs.Evidence.{AGap, ALoop};
 ghost use Rattle.fil_check.specs.Least.{evidence_of};
-ghost use Rattle.filc_stop.specs.Lines.{as_line, read_fault_line, limit_line, token_line, grammar_line, rule_name, place_text, rule_line, spaced, count_text, evidence_text, entry_text, stimulus_text, starts_text, shown_starts, stimulus_line, conflict_line};
+ghost use Rattle.filc_stop.specs.Lines.{as_line, read_fault_line, limit_line, token_line, grammar_line, left_out_line, rule_name, place_text, rule_line, spaced, count_text, evidence_text, entry_text, stimulus_text, starts_text, shown_starts, stimulus_line, conflict_line};
 ghost use Rattle.filc_stop.specs.Stops.{joined};
 
 use crate::language::Language;
@@ -91,6 +91,24 @@ pub(crate) fn write_grammar<S: Sink>(sink: &mut S, place: u64) -> Result<(), Fai
     let mut counted = Buffer::new();
     let texts = [
         "refused grammar at byte ".as_bytes(),
+        counted.format(place).as_bytes(),
+        "\n".as_bytes(),
+    ];
+    write_texts(sink, &texts)
+}
+
+/// Writes the line of a text with a word that is left out.
+pub(crate) fn write_left_out<S: Sink>(sink: &mut S, word: &[u8], place: u64) -> Result<(), Failed>
+    ensures appended { OnOk result (Appends (S.written sink.old) (S.written sink.new) (as_line (left_out_line word.now place))) }
+    ensures prefix { OnErr result (AppendsPrefix (S.written sink.old) (S.written sink.new) (as_line (left_out_line word.now place))) }
+    ensures failed { OnErr result (Rose (S.faults sink.old) (S.faults sink.new)) }
+    ensures never_falls { S.faults sink.old ≤ S.faults sink.new }
+{
+    let mut counted = Buffer::new();
+    let texts = [
+        "refused left out ".as_bytes(),
+        word,
+        " at byte ".as_bytes(),
         counted.format(place).as_bytes(),
         "\n".as_bytes(),
     ];

@@ -10,7 +10,8 @@ use crate::ended::Ended;
 use crate::language::Language;
 use crate::limits::{MOST_STIMULUS_BYTES, MOST_WEIGHT, MOST_WORDS};
 use crate::line::{
-    write_conflict, write_grammar, write_limit, write_rule, write_stimulus, write_token,
+    write_conflict, write_grammar, write_left_out, write_limit, write_rule, write_stimulus,
+    write_token,
 };
 use fil_ast::MOST_OFFSET;
 use fil_check::Evidence;
@@ -36,6 +37,12 @@ pub enum Refusal {
     },
     /// The text has not the grammar of its language; the place is a byte.
     HasNoGrammar {
+        at: u64,
+    },
+    /// The text has not the grammar of its language, since at this byte a word stands that the language has and this profile
+    /// leaves out.
+    LeavesOut {
+        word: Word,
         at: u64,
     },
     /// This is the first offset or delay that is over the limit.
@@ -94,6 +101,7 @@ impl Refusal {
         match self {
             Refusal::HasNoTokens { .. }
             | Refusal::HasNoGrammar { .. }
+            | Refusal::LeavesOut { .. }
             | Refusal::BreaksRule { .. } => Ended::Refused,
             Refusal::BreaksStimulusRule { .. } => Ended::Stimulus,
             Refusal::Conflict { .. } => Ended::Conflict,
@@ -119,6 +127,7 @@ impl Refusal {
                 write_limit(err, "nesting", *depth as u128, most)
             }
             Refusal::HasNoGrammar { at } => write_grammar(err, *at),
+            Refusal::LeavesOut { word, at } => write_left_out(err, word.bytes(), *at),
             Refusal::HasLargeOffset { offset } => {
                 write_limit(err, "offset", *offset, MOST_OFFSET)
             }

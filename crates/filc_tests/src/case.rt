@@ -41,7 +41,7 @@ pub(crate) struct Said {
     pub(crate) line: String,
 }
 
-/// The files, a netlist's and a Filament design's of one text, and a stimulus, of which these calls fail.
+/// The files, of a netlist, a Filament design and a Calyx design of one text, and of a stimulus, of which these calls fail.
 pub(crate) fn files(
     alloc: Global,
     text: &str,
@@ -52,6 +52,7 @@ pub(crate) fn files(
     for (name, bytes) in [
         ("f.net", text.as_bytes()),
         ("f.fil", text.as_bytes()),
+        ("f.futil", text.as_bytes()),
         ("s.json", stimulus),
     ] {
         held.push(MemFile {

@@ -1,4 +1,5 @@
 //! Files and sinks that fail in mid-stream: each call in its turn.
+use crate::calyx::{CHECK_CALYX, DOUBLE, LOOPED, REPEATS};
 use crate::case::{CHECK, ROWS, Said, ask, files};
 use crate::counter::COUNTER;
 use crate::nets::NET;
@@ -55,6 +56,9 @@ const ASKED: &[(&[&str], &str, &str)] = &[
     (ROWS, CLASH, ""),
     (CHECK, "net n\nin a 0\nend\n", ""),
     (CHECK, "net\n", ""),
+    (CHECK_CALYX, DOUBLE, ""),
+    (CHECK_CALYX, LOOPED, ""),
+    (CHECK_CALYX, REPEATS, ""),
     (&[], COUNTER, ""),
     (
         SIM,
@@ -108,6 +112,7 @@ const ALONE: &[(&[&str], &str, &str)] = &[
     (CHECK, SHOWN, "read fault: f.net\n"),
     (ROWS, SHOWN, "read fault: f.net\n"),
     (NET, SUM, "read fault: f.fil\n"),
+    (CHECK_CALYX, REPEATS, "read fault: f.futil\n"),
 ];
 
 // A small file is read in a piece, and a second one finds its end.

@@ -2,6 +2,12 @@
 #![tactic(auto)]
 
 #[cfg(test)]
+mod calyx;
+#[cfg(test)]
+mod calyx_designs;
+#[cfg(test)]
+mod calyx_runs;
+#[cfg(test)]
 mod case;
 #[cfg(test)]
 mod counter;
@@ -9,6 +15,8 @@ mod counter;
 mod faults;
 #[cfg(test)]
 mod filament;
+#[cfg(test)]
+mod folded;
 #[cfg(test)]
 mod grammar;
 #[cfg(test)]
@@ -37,3 +45,5 @@ mod stimulus_rules;
 mod timeline;
 #[cfg(test)]
 mod transactions;
+#[cfg(test)]
+mod verilog;

@@ -259,7 +259,7 @@ const IDLES: &[(&str, u8)] = &[
 ];
 
 /// What the program reports of the design and the stimulus.
-fn report_of(
+pub(crate) fn report_of(
     rt: &impl Abort,
     alloc: Global,
     words: &[&str],
@@ -281,7 +281,7 @@ fn try_row(rt: &impl Abort, shown: &str, traced: &str) {
 }
 
 /// Both have rows of the same numbers, and what `sim` prints is what `trace` does.
-fn try_rows(rt: &impl Abort, shown: &str, traced: &str) {
+pub(crate) fn try_rows(rt: &impl Abort, shown: &str, traced: &str) {
     assert_eq!(rt; shown.lines().count(), traced.lines().count(), "{traced}");
     for (row, all) in shown.lines().zip(traced.lines()) {
         try_row(rt, row, all);
@@ -289,7 +289,7 @@ fn try_rows(rt: &impl Abort, shown: &str, traced: &str) {
 }
 
 /// A trace is the netlist's text, an empty line, and the rows of which `sim` prints a part.
-fn try_trace(rt: &impl Abort, net: &str, shown: &str, trace: &str) {
+pub(crate) fn try_trace(rt: &impl Abort, net: &str, shown: &str, trace: &str) {
     assert!(rt; trace.starts_with(net), "{trace}");
     let rows = trace.split_once("\nend\n\n");
     assert!(rt; rows.is_some(), "{trace}");

@@ -1,5 +1,5 @@
 -- A netlist's run under a stimulus: what `sim` and `trace` share. This project's.
-use Rattle.std.specs.Prelude.{◌≡◌, ◌⊎◌, Bool, List, [], ◌∷◌, Some}
+use Rattle.std.specs.Prelude.{◌⊎◌, Bool, Some}
 use Rattle.hw_names.specs.Name.{Text}
 use Rattle.net_core.specs.Netlist.{Netlist}
 use Rattle.stim_read.specs.CycleRun.{Run}
@@ -11,12 +11,7 @@ use Rattle.filc_stop.specs.Outcome.{Contents, Outcome}
 use Rattle.filc_stop.specs.Stops.{IsOfSource, IsOfStimulus, IsOfRun}
 use Rattle.filc_stop.specs.declared.language.Language.TheVariants.{Netlists}
 use Rattle.filc_core.specs.Command.{Command}
-use Rattle.filc_core.specs.Words.{IsFileIn, IsStimulusName}
-
--- the file of a netlist, and that of a stimulus for it
-pub record Driven : Type 0 where
-  pub file : Text
-  pub stimulus : Text
+use Rattle.filc_core.specs.commands.Driven.{Driven, IsWellFormed, words_with}
 
 -- the netlist is accepted, and the stimulus gives it nothing
 pub record IsRefusedWithNet (c : Driven) (contents : Contents) (o : Outcome) : Type 0 where
@@ -41,23 +36,12 @@ pub record IsGranted (c : Driven) (contents : Contents) : Type 0 where
   pub run : Run
   pub gives : GivesRunOf c contents net run
 
--- the words of a command with this word
-abbrev pub words_with : Text → Driven → List Text
-words_with word c = word ∷ c.file ∷ c.stimulus ∷ []
-
-abbrev pub IsWellFormed : Driven → Type 0
-IsWellFormed c = IsFileIn Netlists c.file × IsStimulusName c.stimulus
-
--- words ask for this, by a command with this word
-abbrev pub AsksWith : Text → List Text → Driven → Type 0
-AsksWith word words c = (words ≡ words_with word c) × IsWellFormed c
-
 -- a command with this word, which prints this text of a netlist before its rows, and all ports of a row or the outputs alone
 abbrev pub net_run : Text → (Netlist → Text) → Bool → Driven → Command
 net_run word head all c =
     record {
       words = words_with word c;
-      well_formed = IsWellFormed c;
+      well_formed = IsWellFormed Netlists c;
       design = Some (record { language = Netlists; name = c.file });
       stimulus = Some c.stimulus;
       comes = λ contents made o. IsRefusedForSource contents Netlists c.file o ⊎ IsRefusedWithNet c contents o ⊎ Runs c head all contents o;

@@ -3,13 +3,13 @@
 use Rattle.std.specs.Prelude.{◌⊎◌, codes, Some}
 use Rattle.hw_names.specs.Name.{Text}
 use Rattle.stim_read.specs.TxRun.{TxRun}
-use Rattle.filc_load.specs.Source.{IsRefusedForSource}
-use Rattle.filc_run.specs.Traced.{Traces}
+use Rattle.filc_load.specs.Source.{FileGivesFil, IsRefusedForSource}
+use Rattle.filc_run.specs.Traced.{IsMadeOf, Traces}
 use Rattle.filc_stop.specs.Outcome.{Contents, Outcome}
 use Rattle.filc_stop.specs.Stops.{IsOfSource, IsOfStimulus, IsWritingStop}
 use Rattle.filc_stop.specs.declared.language.Language.TheVariants.{Filament}
 use Rattle.filc_core.specs.Command.{Command}
-use Rattle.filc_core.specs.commands.NetFil.{IsMadeFrom}
+use Rattle.filc_core.specs.commands.Making.{IsMadeFrom}
 use Rattle.filc_core.specs.commands.Transactions.{Started, Top, GivesTransactionsOf, IsGranted, IsRefusedWithTop, IsWellFormed, words_with}
 
 -- the stimulus gives the top component transactions, and this comes of them
@@ -27,7 +27,7 @@ trace_fil c =
       design = Some (record { language = Filament; name = c.file });
       stimulus = Some c.stimulus;
       comes = λ contents made o. IsRefusedForSource contents Filament c.file o ⊎ IsRefusedWithTop c contents o ⊎ PrintsTrace c contents made o;
-      makes = λ contents. IsMadeFrom contents c.file;
+      makes = λ contents. IsMadeFrom (FileGivesFil contents c.file) IsMadeOf;
       stops = λ why. IsOfSource why ⊎ IsOfStimulus why ⊎ IsWritingStop why;
       granted = IsGranted c;
     }

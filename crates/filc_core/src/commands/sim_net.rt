@@ -3,10 +3,10 @@ ghost use Rattle.std.specs.Prelude.{map, MatchOption};
 ghost use Rattle.filc_core.specs.Request.{OfSimNet, Asks};
 
 use crate::commands::Command;
-use crate::commands::net_run::Driven;
+use crate::commands::driven::Driven;
 use filc_load::{net_file, stimulus};
 use filc_report::run;
-use filc_stop::Stop;
+use filc_stop::{Language, Stop};
 use hw_io::{Files, Sink};
 use std::alloc::Global;
 
@@ -22,7 +22,7 @@ impl<'a> SimNet<'a> {
         ensures { MatchOption result ((c : _) → Asks (map (λ w. w.now) words.now) (OfSimNet c) → ⊥)
             (λ c. Asks (map (λ w. w.now) words.now) (OfSimNet (sim_net_told c))) }
     {
-        Some(SimNet(Driven::asked("sim", words)?))
+        Some(SimNet(Driven::asked(Language::Netlists, "sim", words)?))
     }
 }
 

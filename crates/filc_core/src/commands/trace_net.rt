@@ -3,11 +3,11 @@ ghost use Rattle.std.specs.Prelude.{map, MatchOption};
 ghost use Rattle.filc_core.specs.Request.{OfTraceNet, Asks};
 
 use crate::commands::Command;
-use crate::commands::net_run::Driven;
+use crate::commands::driven::Driven;
 use filc_load::{net_file, stimulus};
 use filc_report::run;
 use filc_run::with_empty_line;
-use filc_stop::Stop;
+use filc_stop::{Language, Stop};
 use hw_io::{Files, Sink};
 use std::alloc::Global;
 
@@ -23,7 +23,7 @@ impl<'a> TraceNet<'a> {
         ensures { MatchOption result ((c : _) → Asks (map (λ w. w.now) words.now) (OfTraceNet c) → ⊥)
             (λ c. Asks (map (λ w. w.now) words.now) (OfTraceNet (trace_net_told c))) }
     {
-        Some(TraceNet(Driven::asked("trace", words)?))
+        Some(TraceNet(Driven::asked(Language::Netlists, "trace", words)?))
     }
 }
 

@@ -5,7 +5,7 @@ use Rattle.filc_load.specs.Given.{after_loads}
 use Rattle.filc_stop.proofs.SinkLemmas.{keeps_all}
 use Rattle.filc_stop.specs.Leaving.{LeavesAt, MakesNone}
 use Rattle.filc_stop.specs.declared.stop.Stop.TheVariants as stop
-use Rattle.filc_report.specs.Runs.{RunComes, run_from, no_loads}
+use Rattle.filc_report.specs.Runs.{RunComes, RunLeavesAt, run_from, no_loads}
 use Rattle.filc_report.specs.declared.drive.Drive.TheVariants.{Cycles}
 use Rattle.filc_report.proofs.RunLemmas.{stands_loaded, runnable_from, leaves_of_run}
 use Rattle.filc_report.proofs.net_run.run.Goals as goal
@@ -13,6 +13,12 @@ use Rattle.filc_report.proofs.net_run.run.Goals as goal
 pub returns-in_err-sim-clause-leaves : goal.returns-in_err-sim-clause-leaves
 returns-in_err-sim-clause-leaves g c =
     let nothing : LeavesAt MakesNone (λ made. RunComes (run_from (netlist_of c.args.built.now.net) c.args.list.now c.args.head.now c.args.all)) stop.Memory (g.O.Sink.written c.args.out.now) (g.O.Sink.written c.args.out.now) = inl (keeps_all (g.O.Sink.written c.args.out.now)) in
+    search (rules, nothing)
+
+pub returns-in_err-sim-clause-rows : goal.returns-in_err-sim-clause-rows
+returns-in_err-sim-clause-rows g c =
+    let p = run_from (netlist_of c.args.built.now.net) c.args.list.now c.args.head.now c.args.all in
+    let nothing : RunLeavesAt p stop.Memory (g.O.Sink.written c.args.out.now) (g.O.Sink.written c.args.out.now) = inl (keeps_all (g.O.Sink.written c.args.out.now)) in
     search (rules, nothing)
 
 pub write_run-requires : goal.write_run-requires
@@ -33,3 +39,11 @@ returns-clause-leaves g c =
     c.write_run.result (g.O.Sink.written c.args.out.now) (g.O.Sink.written c.write_run.new.out)
     (c.write_run.ensures.leaves loads
     (stands_loaded net list c.in_ok-sim.sim c.load_memories.new.sim c.deref.result.now c.deref.ensures.value c.in_ok-sim.ensures c.load_memories.ensures.loaded))
+
+pub returns-clause-rows : goal.returns-clause-rows
+returns-clause-rows g c =
+    let net = c.args.built.now.net in
+    let list = c.args.list.now in
+    let loads = after_loads (netlist_of net) (map load_seen list.loads.items) no_loads in
+    c.write_run.ensures.leaves loads
+    (stands_loaded net list c.in_ok-sim.sim c.load_memories.new.sim c.deref.result.now c.deref.ensures.value c.in_ok-sim.ensures c.load_memories.ensures.loaded)

@@ -65,7 +65,7 @@ returns g c =
     record {
       leaves = λ other at.
           subst (λ (d : Component). Leaves (IsMadeOf design) (Traces design d (tx_run_seen list)) c.run_transactions.result out out') (same_component design b.top comp other top at)
-          (trace_leaves design n made.refines rules_kept list are made.text built.order.ports made.ready.order.ports c.run_transactions.result out out' leaves);
+          (trace_leaves design n made.refines rules_kept list are made.folded made.text built.order.ports made.ready.order.ports c.run_transactions.result out out' leaves);
       stops = driven_stops design n made.refines rules_kept list are head true c.run_transactions.result out out' c.run_transactions.ensures.stops leaves;
       write_fault = c.run_transactions.ensures.write_fault;
       never_falls = c.run_transactions.ensures.never_falls;

@@ -13,4 +13,4 @@ net_of-requires c = subst (λ (d : FilDesign). DesignIsWritten (design_of d)) (s
 pub returns : goal.returns
 returns c =
     printed_net (design_of c.args.built.now.design) (netlist_of c.in_ok-net.net) c.print_net.result
-    (subst (λ (d : FilDesign). Refines (design_of d) (netlist_of c.in_ok-net.net)) c.new.ensures c.in_ok-net.ensures.refines) c.in_ok-net.ensures.text c.print_net.ensures
+    (subst (λ (d : FilDesign). Refines (design_of d) (netlist_of c.in_ok-net.net)) c.new.ensures c.in_ok-net.ensures.refines) c.in_ok-net.ensures.folded c.in_ok-net.ensures.text c.print_net.ensures

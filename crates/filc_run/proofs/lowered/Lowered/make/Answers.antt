@@ -2,6 +2,7 @@ use Rattle.std.proofs.Common.{◌≡◌, map, refl, sym, ap, subst, ◌∙◌, a
 use Rattle.std.proofs.lemmas.List.{length-map}
 use Rattle.net_core.specs.Netlist.{netlist_of}
 use Rattle.net_core.specs.declared.net.Net.{Net}
+use Rattle.net_guard.specs.Folded.{HasFoldedGuards}
 use Rattle.net_text.specs.Names.{HasText}
 use Rattle.fil_ast.specs.Signature.{Signature}
 use Rattle.fil_ast.specs.Tree.{component_tree, design_of, event_tree}
@@ -48,6 +49,9 @@ pub returns-clause-refines : goal.returns-clause-refines
 returns-clause-refines c =
     subst (λ (net : Net). Refines (design_of c.args.design.now.design) (netlist_of net)) (sym c.in_ok-built.ensures.net)
     (subst (λ (d : FilDesign). Refines (design_of d) (netlist_of c.in_ok-net.net)) c.new.ensures c.in_ok-net.ensures.refines)
+
+pub returns-clause-folded : goal.returns-clause-folded
+returns-clause-folded c = subst (λ (net : Net). HasFoldedGuards (netlist_of net)) (sym c.in_ok-built.ensures.net) c.in_ok-net.ensures.folded
 
 pub returns-clause-text : goal.returns-clause-text
 returns-clause-text c = subst (λ (net : Net). HasText (netlist_of net)) (sym c.in_ok-built.ensures.net) c.in_ok-net.ensures.text
