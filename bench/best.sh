@@ -15,3 +15,12 @@ best() {
     done
     echo "$least"
 }
+
+# The most memory that the program takes for the words, in MB.
+memory() {
+    python3 - "$program" "$@" <<'PEAK'
+import resource, subprocess, sys
+subprocess.run(sys.argv[1:], stdout=subprocess.DEVNULL, stderr=subprocess.DEVNULL)
+print(resource.getrusage(resource.RUSAGE_CHILDREN).ru_maxrss // 1000)
+PEAK
+}

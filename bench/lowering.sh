@@ -67,15 +67,6 @@ transactions() {
         }'
 }
 
-# The most memory that the program takes for the words, in MB.
-memory() {
-    python3 - "$program" "$@" <<'PEAK'
-import resource, subprocess, sys
-subprocess.run(sys.argv[1:], stdout=subprocess.DEVNULL, stderr=subprocess.DEVNULL)
-print(resource.getrusage(resource.RUSAGE_CHILDREN).ru_maxrss // 1000)
-PEAK
-}
-
 # Prints the times of `net` of the shape $1 at half of the size $2 and at all of it.
 net() {
     "$1" $(($2 / 2)) >"$work/half.fil" || exit
