@@ -10,6 +10,7 @@ pub mod ShapeLemmas
 pub mod MadeLemmas
 pub mod CellLemmas
 pub mod MemoryLemmas
+pub mod PortLemmas
 pub mod RefineLemmas
 pub mod TextSegments
 pub mod TextGuards

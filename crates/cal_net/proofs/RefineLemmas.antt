@@ -13,6 +13,7 @@ use Rattle.net_flat.specs.FlatTop.{IsFlatTop}
 use Rattle.net_flat.specs.Flattened.{IsFlattened}
 use Rattle.cal_net.proofs.CellLemmas.{source_cells}
 use Rattle.cal_net.proofs.MemoryLemmas.{memories_shown}
+use Rattle.cal_net.proofs.PortLemmas.{ports_listed}
 use Rattle.cal_net.proofs.ShapeLemmas.{top_kept, zip_left}
 use Rattle.cal_net.specs.Laws.{FlattenedWiresRefine}
 use Rattle.cal_net.specs.Lowers.{LowersControl}
@@ -31,6 +32,7 @@ refined source wires net lowers plain flat =
     let c = zip_left KeepsComponentShape source wires flat.place flat.top lowers.shape flat.at in
     let means = lowers.means flat.place c.0 flat.top c.1 flat.at in
     let runs = from_net wires flat.top n flat.flattened in
+    let among = Contains-at wires flat.place flat.top flat.at in
     record {
       number = flat.place;
       is_top = top_kept source wires lowers.shape flat.place flat.is_top;
@@ -43,10 +45,11 @@ refined source wires net lowers plain flat =
           name = flat.flattened.name ∙ c.2.name;
           ins = flat.flattened.ins ∙ c.2.ins;
           outs = flat.flattened.outs ∙ c.2.outs;
-          cells = source_cells source wires lowers.shape plain c.0 flat.top c.2 (Contains-at wires flat.place flat.top flat.at) n flat.flattened.cells;
+          cells = source_cells source wires lowers.shape plain c.0 flat.top c.2 among n flat.flattened.cells;
           runs = λ asked inputs loads height trace stop given. means.runs asked inputs loads height trace stop (runs asked inputs loads height trace stop given);
           agree = λ asked inputs loads a b one other. means.agree asked inputs loads a b (runs asked inputs loads a.height a.trace a.stop one) other;
         };
+        ports = ports_listed source wires lowers.shape lowers.wired plain c.0 flat.top c.2 among n flat.listed;
         memories = memories_shown c.0 flat.top c.2 wires n flat.listed;
       };
     }

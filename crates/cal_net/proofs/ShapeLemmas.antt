@@ -64,7 +64,7 @@ top_kept source wires shape n (inr (none, last)) =
 
 -- ---- cells by their names
 
-cell_named-front : (cells added : List CellDef) (name : Text) (cell : CellDef) → cell_named cells name ≡ Some cell → cell_named (cells ++ added) name ≡ Some cell
+pub cell_named-front : (cells added : List CellDef) (name : Text) (cell : CellDef) → cell_named cells name ≡ Some cell → cell_named (cells ++ added) name ≡ Some cell
 cell_named-front [] added name cell found = absurd (none-some cell found)
 cell_named-front (x ∷ cells) added name cell found = by (bytes_eq x.name name) (cell_named-front cells added name cell) found
   where
@@ -83,7 +83,7 @@ cell_named-cases (x ∷ cells) added name cell found = by (bytes_eq x.name name)
 -- ---- components by their names
 
 -- none is found in both designs, or a component in each, of which the second keeps the shape of the first
-abbrev AreFound : Option Component → Option Component → Type 0
+abbrev pub AreFound : Option Component → Option Component → Type 0
 AreFound None None = Unit {0}
 AreFound None (Some d) = ⊥
 AreFound (Some c) None = ⊥
@@ -115,7 +115,7 @@ components_found (c ∷ cs) (d ∷ ds) shape name =
 -- ---- instances by their paths
 
 module _ (source wires : Design) (shape : KeepsShape source wires) where
-  parts_found : (cell : CellDef) → AreFound (part_of source cell) (part_of wires cell)
+  pub parts_found : (cell : CellDef) → AreFound (part_of source cell) (part_of wires cell)
   parts_found cell = by (is_primitive cell.made)
     where
       by : (b : Bool) → AreFound (if b then None else component_named source cell.made) (if b then None else component_named wires cell.made)

@@ -1,10 +1,11 @@
 -- A netlist with its guards folded shows the same of a design.
 use Rattle.std.proofs.Common.{List, Contains, filter, sym, ap, subst, ◌∙◌}
 use Rattle.net_core.specs.Netlist.{CellLine, Netlist}
+use Rattle.net_core.specs.Rules.{PortLine, port_names}
 use Rattle.cal_ast.specs.Keeping.{KeepsRuns, NetRuns, Refines}
 use Rattle.cal_ast.specs.Tree.{Component, Design}
 use Rattle.net_guard.proofs.LoopLemmas.{has_no_loop}
-use Rattle.net_guard.proofs.RuleLemmas.{is_valid}
+use Rattle.net_guard.proofs.RuleLemmas.{is_valid, same_ports}
 use Rattle.net_guard.proofs.RunLemmas.{keeps_runs}
 use Rattle.net_guard.specs.Simplified.{IsSimplified}
 use Rattle.net_sim.specs.Shown.{is_shown}
@@ -39,7 +40,11 @@ module _ (old new : Netlist) (s : IsSimplified old new) where
     is_top = r.is_top;
     top = r.top;
     at = r.at;
-    refines = record { refines = refines_kept design r.top r.refines.refines; memories = ap (filter is_shown) s.cells ∙ r.refines.memories };
+    refines = record {
+      refines = refines_kept design r.top r.refines.refines;
+      ports = λ port is. subst (λ (ports : List PortLine). Contains (port_names ports) port) (sym (same_ports old new s)) (r.refines.ports port is);
+      memories = ap (filter is_shown) s.cells ∙ r.refines.memories;
+    };
   }
 
 pub simplified_nets_refine : SimplifiedNetsRefine

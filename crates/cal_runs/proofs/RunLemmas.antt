@@ -164,6 +164,16 @@ module _ (design : Design) (top : Component) (plain : HasPlainTree design) (rule
   pub rows_before : (t : ℕ) → t ≤ height → t ≤ height' → AgreeBefore t
   rows_before t in_a in_b u less = rows_agree u (omega (arith, less, in_a)) (omega (arith, less, in_b))
 
+  -- and the same actors act in them
+  pub same_actors_act : (path : Path) (c : Component) → component_at design top path ≡ Some c → (actor : Actor) (t : ℕ) → t < height → t < height' → a.acts path actor t ≡ b.acts path actor t
+  same_actors_act path c at actor t in_a in_b =
+      let agree : AgreeIn t = rows_agree t in_a in_b in
+      let before : AgreeBefore t = rows_before t (omega (arith, in_a)) (omega (arith, in_b)) in
+      (told path c at t in_a in_b before).acting actor (λ control. record {
+        go = agree (full_name path (codes "go")) (source_port design top rules in_design path c (own (codes "go")) at (go_source design c control));
+        done = done_alike path c at t agree actor;
+      })
+
   -- a Conflict of the one is one of the other
   pub conflicts_agree : (t : ℕ) → t < height → t < height' → (port : Text) → HasConflict (cal_circuit design top (scheduled design a.acts a.is_done)) t (trace t) port
       → HasConflict (cal_circuit design top (scheduled design b.acts b.is_done)) t (trace' t) port

@@ -1,10 +1,11 @@
--- That rows of two runs of a Calyx design are the same, as far as both runs go. This project's.
-use Rattle.std.specs.Prelude.{◌≡◌, ℕ, ◌<◌, ◌≤◌, List, Some, None, Contains}
-use Rattle.hw_names.specs.Name.{Text}
+-- That rows of two runs of a Calyx design are the same, and the same actors act in them, as far as both runs go. This project's.
+use Rattle.std.specs.Prelude.{◌≡◌, ℕ, ◌<◌, ◌≤◌, List, Option, Some, None, Contains}
+use Rattle.hw_names.specs.Name.{Text, Path}
 use Rattle.hw_prims.specs.Row.{Trace}
 use Rattle.hw_prims.specs.declared.prim.Primitive.{Primitive}
 use Rattle.net_core.specs.Circuit.{states_before}
-use Rattle.cal_ast.specs.Instances.{IsPrimitiveCell}
+use Rattle.cal_ast.specs.Actors.{Actor}
+use Rattle.cal_ast.specs.Instances.{component_at, IsPrimitiveCell}
 use Rattle.cal_ast.specs.Keeping.{EndsAs, Outcome}
 use Rattle.cal_ast.specs.Plain.{HasPlainTree}
 use Rattle.cal_ast.specs.Rules.{CalRules}
@@ -25,3 +26,12 @@ RowsAreOne =
     (design : Design) (top : Component) → HasPlainTree design → CalRules design → Contains design top →
     (asked other : ℕ) (inputs : Trace) (loads : Text → List ℕ) (a b : Outcome) →
     EndsAs (Run design top) asked inputs loads a → EndsAs (Run design top) other inputs loads b → GoTogether design top loads a b
+
+-- the law: by C1 to C12 and plain names, runs of the same inputs and words let the same actors act in each row that both have
+abbrev pub ActorsAreOne : Type 0
+ActorsAreOne =
+    (design : Design) (top : Component) → HasPlainTree design → CalRules design → Contains design top →
+    (asked other : ℕ) (inputs : Trace) (loads : Text → List ℕ) (height height' : ℕ) (trace trace' : Trace) (stop stop' : Option Text) →
+    (a : Run design top asked inputs loads height trace stop) (b : Run design top other inputs loads height' trace' stop') →
+    (path : Path) (c : Component) → component_at design top path ≡ Some c → (actor : Actor) (t : ℕ) → t < height → t < height' →
+    a.acts path actor t ≡ b.acts path actor t

@@ -3,4 +3,4 @@
 
 mod laws;
 
-pub use laws::{rows_are_one, runs_are_unique};
+pub use laws::{actors_are_one, rows_are_one, runs_are_unique};

@@ -23,7 +23,7 @@ use Rattle.cal_ast.specs.declared.tree.ControlPart.{ControlPart}
 use Rattle.cal_ast.specs.declared.tree.ControlPart.TheVariants as parts
 use Rattle.cal_ast.specs.declared.tree.InBind.{InBind}
 use Rattle.cal_ast.specs.declared.tree.OutBind.{OutBind}
-use Rattle.cal_walk.specs.Planning.{IsKnown, NamesGroup, IsGroupAt, NamesGroupIfAny, IsActorOf, InvokeNumbers, CanPlan, CanPlanThis, CanPlanBranch, CanPlanAll, CanPlanSection, IsCounted, GoesOver, IsConditionAt, PutsInvoke, IsPlanOf, ArePlansOf, statements_from}
+use Rattle.cal_walk.specs.Planning.{IsKnown, IsTestedIn, NamesGroup, IsGroupAt, NamesGroupIfAny, IsActorOf, InvokeNumbers, CanPlan, CanPlanThis, CanPlanBranch, CanPlanAll, CanPlanSection, IsCounted, GoesOver, IsConditionAt, PutsInvoke, IsPlanOf, ArePlansOf, statements_from}
 use Rattle.cal_walk.specs.Trees.{IsWithin}
 use Rattle.cal_walk.specs.declared.plan.Plan as code
 use Rattle.cal_walk.specs.declared.plan.Plan.TheVariants as variants
@@ -162,6 +162,9 @@ module _ (names : List Text) (c : Component) where
     pub if_port : PortHasNumbers names port
     if_port = can.numbers.0
 
+    pub if_tested : IsTestedIn c (port_tree names port)
+    if_tested = All-head (IsTestedIn c) (port_tree names port) [] if_known.ports
+
     pub if_group : NamesGroupIfAny names c by
     if_group = names_if_any by can.numbers.1 if_known.condition
       where
@@ -202,6 +205,9 @@ module _ (names : List Text) (c : Component) where
 
     pub while_port : PortHasNumbers names port
     while_port = can.numbers.0
+
+    pub while_tested : IsTestedIn c (port_tree names port)
+    while_tested = All-head (IsTestedIn c) (port_tree names port) [] (All-head (IsKnown c) while_tree turn can.known).ports
 
     pub while_group : NamesGroupIfAny names c by
     while_group = names_if_any by can.numbers.1 (All-head (IsKnown c) while_tree turn can.known).condition

@@ -16,7 +16,7 @@ use Rattle.cal_ast.specs.Tree.{PortName, GroupDef, Statement, Invoke, Component,
 use Rattle.cal_ast.specs.declared.tree.CalPort.{CalPort}
 use Rattle.cal_ast.specs.declared.tree.InBind.{InBind}
 use Rattle.cal_ast.specs.declared.tree.OutBind.{OutBind}
-use Rattle.cal_walk.specs.Planning.{ShowsNames, NamesGroup, NamesCell, NamesGroupIfAny, IsGroupAt, IsMadeOf, InvokeNumbers, IsInvoke, invoke_tree, AreNumbered, CanPlan, IsCounted, GoesOver, IsConditionAt, IsActorOf, PutsInvoke, IsPlanOf, ArePlansOf}
+use Rattle.cal_walk.specs.Planning.{ShowsNames, NamesGroup, NamesCell, NamesGroupIfAny, IsGroupAt, IsMadeOf, InvokeNumbers, IsInvoke, invoke_tree, AreNumbered, CanPlan, IsCounted, IsTestedIn, GoesOver, IsConditionAt, IsActorOf, PutsInvoke, IsPlanOf, ArePlansOf}
 use Rattle.net_core.specs.Numbers.{IsNumberOf}
 use Rattle.cal_walk.specs.Trees.{plan_tree, IsWithin}
 use Rattle.cal_walk.specs.declared.plan.Plan as code
@@ -58,6 +58,10 @@ sum_is None P sum n some is = absurd (cc)
 sum_is (Some m) P sum n some is = let same : m ≡ n = cc in sym same ∙ some.1
 
 module _ (names : List Text) (c : Component) where
+  -- a condition of the component's control reads the port
+  abbrev pub IsTested : CalPort → Type 0
+  IsTested p = IsTestedIn c (port_tree names p)
+
   -- ---- statements
 
   pub goes_nowhere : (p : Planner) → CanPlan names c p → GoesOver names c [] p p
@@ -91,6 +95,7 @@ module _ (names : List Text) (c : Component) where
     counted = is.groups_are ∙ can.counted;
     invoked = subst (λ (l : List InvokeOf). All (IsInvoke names c) l) (sym is.invokes_are) can.invoked;
     tested = subst (λ (l : List CalPort). All (PortHasNumbers names) l) (sym is.conditions_are) can.tested;
+    are_tested = subst (λ (l : List CalPort). All IsTested l) (sym is.conditions_are) can.are_tested;
   }
 
   -- a statement that is no invoke is counted
@@ -124,20 +129,23 @@ module _ (names : List Text) (c : Component) where
 
   -- ---- what planning puts last
 
-  same_can : (old new : Planner) → CanPlan names c old → new.numbers ≡ old.numbers → new.groups ≡ old.groups → All (IsInvoke names c) new.invokes.items → All (PortHasNumbers names) new.conditions.items → CanPlan names c new
-  same_can old new can numbers groups invoked tested = record {
+  same_can : (old new : Planner) → CanPlan names c old → new.numbers ≡ old.numbers → new.groups ≡ old.groups → All (IsInvoke names c) new.invokes.items → All (PortHasNumbers names) new.conditions.items
+      → All IsTested new.conditions.items → CanPlan names c new
+  same_can old new can numbers groups invoked tested are_tested = record {
     shows = subst (λ (n : Numbers). ShowsNames names c n) (sym (ap (λ (r : Bor Numbers). r.now) numbers)) can.shows;
     counted = groups ∙ can.counted;
     invoked = invoked;
     tested = tested;
+    are_tested = are_tested;
   }
 
-  pub condition_put : (port : CalPort) (old new : Planner) (number : ℕ) → CanPlan names c old → PortHasNumbers names port → new.numbers ≡ old.numbers → new.groups ≡ old.groups → new.item ≡ old.item
+  pub condition_put : (port : CalPort) (old new : Planner) (number : ℕ) → CanPlan names c old → PortHasNumbers names port → IsTested port → new.numbers ≡ old.numbers → new.groups ≡ old.groups → new.item ≡ old.item
       → new.invokes.items ≡ old.invokes.items → new.conditions.items ≡ old.conditions.items ++ port ∷ [] → number ≡ length old.conditions.items → IsConditionAt names c port old new number
-  condition_put port old new number can has numbers groups item invokes conditions last = record {
+  condition_put port old new number can has tested numbers groups item invokes conditions last = record {
     goes = record {
       can = same_can old new can numbers groups (All-same (IsInvoke names c) new.invokes.items old.invokes.items invokes can.invoked)
-          (All-same (PortHasNumbers names) new.conditions.items (old.conditions.items ++ port ∷ []) conditions (All-push (PortHasNumbers names) old.conditions.items port can.tested has));
+          (All-same (PortHasNumbers names) new.conditions.items (old.conditions.items ++ port ∷ []) conditions (All-push (PortHasNumbers names) old.conditions.items port can.tested has))
+          (All-same IsTested new.conditions.items (old.conditions.items ++ port ∷ []) conditions (All-push IsTested old.conditions.items port can.are_tested tested));
       counts = omega (arith, item);
       adds = ap (map (invoke_tree names)) invokes ∙ sym (append-nil (map (invoke_tree names) old.invokes.items));
       keeps_invokes = λ k i at. subst (λ (l : List InvokeOf). slice_get l k ≡ Some i) (sym invokes) at;
@@ -162,7 +170,8 @@ module _ (names : List Text) (c : Component) where
       let known : IsInvoke names c i = record { numbers = has; made_of = made_of_cell old i.cell i.made can has.number has.named made } in
       record {
         can = same_can old new can numbers groups (All-same (IsInvoke names c) new.invokes.items (old.invokes.items ++ i ∷ []) invokes (All-push (IsInvoke names c) old.invokes.items i can.invoked known))
-            (All-same (PortHasNumbers names) new.conditions.items old.conditions.items conditions can.tested);
+            (All-same (PortHasNumbers names) new.conditions.items old.conditions.items conditions can.tested)
+            (All-same IsTested new.conditions.items old.conditions.items conditions can.are_tested);
         i = i;
         is = refl;
         item_is = item;

@@ -18,6 +18,7 @@ use Rattle.cal_walk.specs.declared.planning.Invoke.{Invoke as InvokeOf}
 use Rattle.cal_walk.specs.declared.planning.Planner.{Planner}
 use Rattle.cal_walk.proofs.ArmLemmas.{PlannedSection}
 use Rattle.cal_walk.proofs.CountLemmas.{invokes_after}
+use Rattle.cal_walk.proofs.PlanLemmas.{IsTested}
 
 module _ (names : List Text) (comp : CalComp) (old : Planner) (no_invokes : old.invokes.items ≡ []) where
   abbrev c : Component
@@ -31,6 +32,7 @@ module _ (names : List Text) (comp : CalComp) (old : Planner) (no_invokes : old.
       counted = groups ∙ sym (length-map comp.groups.items (group_tree names));
       invoked = All-same (IsInvoke names c) old.invokes.items [] no_invokes (All-nil (IsInvoke names c));
       tested = All-same (PortHasNumbers names) old.conditions.items [] no_conditions (All-nil (PortHasNumbers names));
+      are_tested = All-same (IsTested names c) old.conditions.items [] no_conditions (All-nil (IsTested names c));
     };
     numbers = has.control;
     known = known;
@@ -63,6 +65,7 @@ module _ (names : List Text) (comp : CalComp) (old : Planner) (no_invokes : old.
       invokes_are = invokes_are;
       are_invokes = planned.0.can.invoked;
       conditions_are = planned.0.can.tested;
+      are_tested = planned.0.can.are_tested;
       plan_is = λ f h n. planned.1.is f h n ∙ ap (λ (k : ℕ). section_plan k c.control) first;
       within = subst (λ (n : ℕ). IsWithin n (length new.conditions.items) plan) actors_are planned.1.within;
     }

@@ -1,5 +1,5 @@
 -- What code makes of the control of a component: a plan, whose actors are the groups and then the invokes, by their numbers. This project's.
-use Rattle.std.specs.Prelude.{◌≡◌, ℕ, ◌+◌, List, [], ◌∷◌, ◌++◌, length, map, slice_get, Some, None, Option, IfSome, All}
+use Rattle.std.specs.Prelude.{◌≡◌, ℕ, ◌+◌, List, [], ◌∷◌, ◌++◌, length, map, flat_map, slice_get, Some, None, Option, IfSome, All, Contains}
 use Rattle.hw_names.specs.Name.{Text, text_of}
 use Rattle.hw_names.specs.declared.names.NameId.{NameId}
 use Rattle.net_core.specs.Numbers.{IsNumberOf}
@@ -10,7 +10,7 @@ use Rattle.cal_ast.specs.Numbers.{ControlHasNumbers, InHasNumbers, OutHasNumbers
 use Rattle.cal_ast.specs.Plan.{Plan, Plans, plan_of}
 use Rattle.cal_ast.specs.Ports.{is_bare, cell_named}
 use Rattle.cal_ast.specs.Statement.{IfEnable, IfCondition, IfInvoke}
-use Rattle.cal_ast.specs.Tree.{PortName, CellDef, GroupDef, Statement, Statements, NoStatements, MoreStatements, Component}
+use Rattle.cal_ast.specs.Tree.{PortName, CellDef, GroupDef, Statement, If, While, Statements, NoStatements, MoreStatements, Component}
 use Rattle.cal_ast.specs.Tree.{component_tree, control_tree, in_tree, out_tree, port_tree, statement_tree}
 use Rattle.cal_ast.specs.declared.tree.CalComp.{CalComp}
 use Rattle.cal_ast.specs.declared.tree.CalDesign.{CalDesign}
@@ -59,11 +59,22 @@ pub record ShowsNames (names : List Text) (c : Component) (numbers : Numbers) : 
   pub made : (name : NameId) → IsNumberOf names name → NamesCell c (text_of names name) →
       (made : NameId) × (slice_get numbers.made.items name.0 ≡ Some made) × IsMadeOf names c name made
 
--- the groups and the cells that a statement names are there
+-- the port of a statement's condition, if it has one
+abbrev pub tested_ports : Statement → List PortName
+tested_ports (If port by s t) = port ∷ []
+tested_ports (While port by s) = port ∷ []
+tested_ports s = []
+
+-- a condition of the component's control reads the port
+abbrev pub IsTestedIn : Component → PortName → Type 0
+IsTestedIn c port = Contains (flat_map tested_ports (control_statements c.control)) port
+
+-- the groups and the cells that a statement names are there, and its condition is one of the component's control
 pub record IsKnown (c : Component) (s : Statement) : Type 0 where
   pub enable : IfEnable s (NamesGroup c)
   pub condition : IfCondition s (λ port by. IfSome by (NamesGroup c))
   pub invoke : IfInvoke s (λ cell ins outs. NamesCell c cell)
+  pub ports : All (IsTestedIn c) (tested_ports s)
 
 -- ---- invokes
 
@@ -98,6 +109,7 @@ pub record CanPlan (names : List Text) (c : Component) (planner : Planner) : Typ
   pub counted : planner.groups ≡ length c.groups
   pub invoked : All (IsInvoke names c) planner.invokes.items
   pub tested : All (PortHasNumbers names) planner.conditions.items
+  pub are_tested : All (λ p. IsTestedIn c (port_tree names p)) planner.conditions.items
 
 -- one item more is counted, and nothing else is changed
 pub record IsCounted (old new : Planner) : Type 0 where
@@ -188,6 +200,7 @@ pub record IsControlOf (names : List Text) (c : Component) (control : Controlled
   pub invokes_are : map (invoke_tree names) control.invokes.items ≡ invokes_in c
   pub are_invokes : All (IsInvoke names c) control.invokes.items
   pub conditions_are : All (PortHasNumbers names) control.conditions.items
+  pub are_tested : All (λ p. IsTestedIn c (port_tree names p)) control.conditions.items
   pub plan_is : (f : ℕ → Actor) (h : ℕ → PortName) → AreNumbered names c control.invokes.items control.conditions.items f h →
       plan_tree f h control.plan ≡ plan_of c
   pub within : IsWithin (length (actors_of c)) (length control.conditions.items) control.plan

@@ -9,7 +9,7 @@ ghost use Rattle.cal_ast.specs.Rules.{KeepsRules};
 ghost use Rattle.cal_ast.specs.Tree.{Component, Seq, NoStatements, Statement, assignment_tree, component_tree, control_tree, design_of, port_tree, statement_tree};
 ghost use Rattle.cal_ast.specs.declared.tree.CalCell.{CalCell as CellOf};
 ghost use Rattle.cal_ast.specs.declared.tree.Group.{Group as GroupOf};
-ghost use Rattle.cal_walk.specs.Planning.{AreControlsOf, CanPlan, CanPlanAll, CanPlanBranch, CanPlanSection, CanPlanThis, GoesOver, InvokeNumbers, IsActorOf, IsConditionAt, IsControlOf, IsCounted, IsKnown, IsPlanOf, ArePlansOf, NamesGroupIfAny, PutsInvoke, ShowsNames, TellsLast, statements_from};
+ghost use Rattle.cal_walk.specs.Planning.{AreControlsOf, CanPlan, CanPlanAll, CanPlanBranch, CanPlanSection, CanPlanThis, GoesOver, InvokeNumbers, IsActorOf, IsConditionAt, IsControlOf, IsCounted, IsKnown, IsPlanOf, IsTestedIn, ArePlansOf, NamesGroupIfAny, PutsInvoke, ShowsNames, TellsLast, statements_from};
 
 use crate::plan::Plan;
 use cal_ast::{CalCell, CalComp, CalDesign, CalPort, Control, ControlPart, Group, InBind, OutBind};
@@ -197,7 +197,7 @@ impl<'a, 'n> Planner<'a, 'n> {
     /// The number of a condition's port, which goes last.
     fn condition(&mut self, port: CalPort) -> Result<usize, Memory>
         ensures { (names : List Text) (c : Component) → CanPlan names c self.old → cal.PortHasNumbers names port
-            → IfOk result (IsConditionAt names c port self.old self.new) }
+            → IsTestedIn c (port_tree names port) → IfOk result (IsConditionAt names c port self.old self.new) }
     {
         let number = self.conditions.len();
         self.conditions.push(port)?;

@@ -6,7 +6,7 @@ use Rattle.cal_ast.specs.declared.tree.Control.{Control, the_lemmas}
 use Rattle.cal_ast.specs.declared.tree.Control.TheVariants as controls
 use Rattle.cal_walk.specs.declared.plan.Plan.{Plan}
 use Rattle.cal_walk.specs.declared.plan.Plan.TheVariants as variants
-use Rattle.cal_walk.proofs.ArmLemmas.{PlannedAll, as_form, of_form, read_branch, boxed_branch, empty_branch, branch_can, branch_planned, enable_group, enable_arm, seq_can, seq_arm, par_can, par_arm, if_port, if_group, if_yes, if_no, if_arm, while_port, while_group, while_body, while_arm, invoke_numbers, invoke_arm, one_can, one_planned, none_planned}
+use Rattle.cal_walk.proofs.ArmLemmas.{PlannedAll, as_form, of_form, read_branch, boxed_branch, empty_branch, branch_can, branch_planned, enable_group, enable_arm, seq_can, seq_arm, par_can, par_arm, if_port, if_tested, if_group, if_yes, if_no, if_arm, while_port, while_tested, while_group, while_body, while_arm, invoke_numbers, invoke_arm, one_can, one_planned, none_planned}
 use Rattle.cal_walk.proofs.OverLemmas.{at_index, one_more}
 use Rattle.cal_walk.proofs.PlanLemmas.{can_after, group_within}
 use Rattle.cal_walk.proofs.WithinLemmas.{read_at}
@@ -96,7 +96,7 @@ plan_of-actor_of-by-requires t c =
     let yes = c.in-If.yes in
     let no = c.in-If.no in
     let here = as_form names comp c.args.control.now (controls.If port by yes no) old c.in-If.is can in
-    let at = c.in_ok-condition-in-If.ensures names comp (can_after names comp old m1 can.can c.in_ok-item.ensures.counted) (if_port names comp port by yes no old here) in
+    let at = c.in_ok-condition-in-If.ensures names comp (can_after names comp old m1 can.can c.in_ok-item.ensures.counted) (if_port names comp port by yes no old here) (if_tested names comp port by yes no old here) in
     (names, comp, at.goes.can, if_group names comp port by yes no old here)
 
 pub plan_of-branch_of-requires : goal.plan_of-branch_of-requires
@@ -110,7 +110,7 @@ plan_of-branch_of-requires t c =
     let yes = c.in-If.yes in
     let no = c.in-If.no in
     let here = as_form names comp c.args.control.now (controls.If port by yes no) old c.in-If.is can in
-    let at = c.in_ok-condition-in-If.ensures names comp (can_after names comp old m1 can.can c.in_ok-item.ensures.counted) (if_port names comp port by yes no old here) in
+    let at = c.in_ok-condition-in-If.ensures names comp (can_after names comp old m1 can.can c.in_ok-item.ensures.counted) (if_port names comp port by yes no old here) (if_tested names comp port by yes no old here) in
     (search (rules, the_lemmas), (names, comp, read_branch names comp c.deref-in-If.result.now yes.value m2 c.deref-in-If.ensures (if_yes names comp port by yes no old here m2 at.goes.can)))
 
 pub plan_of-branch_of-requires-in-If : goal.plan_of-branch_of-requires-in-If
@@ -125,7 +125,7 @@ plan_of-branch_of-requires-in-If t c =
     let yes = c.in-If.yes in
     let no = c.in-If.no in
     let here = as_form names comp c.args.control.now (controls.If port by yes no) old c.in-If.is can in
-    let at = c.in_ok-condition-in-If.ensures names comp (can_after names comp old m1 can.can c.in_ok-item.ensures.counted) (if_port names comp port by yes no old here) in
+    let at = c.in_ok-condition-in-If.ensures names comp (can_after names comp old m1 can.can c.in_ok-item.ensures.counted) (if_port names comp port by yes no old here) (if_tested names comp port by yes no old here) in
     let first = c.in_ok-branch_of-in-If.ensures names comp (read_branch names comp c.deref-in-If.result.now yes.value m2 c.deref-in-If.ensures (if_yes names comp port by yes no old here m2 at.goes.can)) in
     (search (rules, the_lemmas), (names, comp, read_branch names comp c.deref-in-If-2.result.now no.value m3 c.deref-in-If-2.ensures (if_no names comp port by yes no old here m3 first.0.can)))
 
@@ -142,7 +142,7 @@ plan_of-returns-in_ok-off-in-If t c = λ names comp can.
     let no = c.in-If.no in
     let counted = c.in_ok-item.ensures.counted in
     let here = as_form names comp c.args.control.now (controls.If port by yes no) old c.in-If.is can in
-    let at = c.in_ok-condition-in-If.ensures names comp (can_after names comp old m1 can.can counted) (if_port names comp port by yes no old here) in
+    let at = c.in_ok-condition-in-If.ensures names comp (can_after names comp old m1 can.can counted) (if_port names comp port by yes no old here) (if_tested names comp port by yes no old here) in
     let acts = c.actor_of-by.ensures names comp at.goes.can (if_group names comp port by yes no old here) in
     let first = c.in_ok-branch_of-in-If.ensures names comp (read_branch names comp c.deref-in-If.result.now yes.value m2 c.deref-in-If.ensures (if_yes names comp port by yes no old here m2 at.goes.can)) in
     let second = c.in_ok-branch_of-in-If-2.ensures names comp (read_branch names comp c.deref-in-If-2.result.now no.value m3 c.deref-in-If-2.ensures (if_no names comp port by yes no old here m3 first.0.can)) in
@@ -166,7 +166,7 @@ plan_of-actor_of-by-requires-in-While t c =
     let by = c.in-While.by in
     let body = c.in-While.body in
     let here = as_form names comp c.args.control.now (controls.While port by body) old c.in-While.is can in
-    let at = c.in_ok-condition-in-While.ensures names comp (can_after names comp old m1 can.can c.in_ok-item.ensures.counted) (while_port names comp port by body old here) in
+    let at = c.in_ok-condition-in-While.ensures names comp (can_after names comp old m1 can.can c.in_ok-item.ensures.counted) (while_port names comp port by body old here) (while_tested names comp port by body old here) in
     (names, comp, at.goes.can, while_group names comp port by body old here)
 
 pub plan_of-branch_of-requires-in-While : goal.plan_of-branch_of-requires-in-While
@@ -179,7 +179,7 @@ plan_of-branch_of-requires-in-While t c =
     let by = c.in-While.by in
     let body = c.in-While.body in
     let here = as_form names comp c.args.control.now (controls.While port by body) old c.in-While.is can in
-    let at = c.in_ok-condition-in-While.ensures names comp (can_after names comp old m1 can.can c.in_ok-item.ensures.counted) (while_port names comp port by body old here) in
+    let at = c.in_ok-condition-in-While.ensures names comp (can_after names comp old m1 can.can c.in_ok-item.ensures.counted) (while_port names comp port by body old here) (while_tested names comp port by body old here) in
     (search (rules, the_lemmas), (names, comp, read_branch names comp c.deref-in-While.result.now body.value m2 c.deref-in-While.ensures (while_body names comp port by body old here m2 at.goes.can)))
 
 pub plan_of-returns-in_ok-body-in-While : goal.plan_of-returns-in_ok-body-in-While
@@ -193,7 +193,7 @@ plan_of-returns-in_ok-body-in-While t c = λ names comp can.
     let body = c.in-While.body in
     let counted = c.in_ok-item.ensures.counted in
     let here = as_form names comp c.args.control.now (controls.While port by body) old c.in-While.is can in
-    let at = c.in_ok-condition-in-While.ensures names comp (can_after names comp old m1 can.can counted) (while_port names comp port by body old here) in
+    let at = c.in_ok-condition-in-While.ensures names comp (can_after names comp old m1 can.can counted) (while_port names comp port by body old here) (while_tested names comp port by body old here) in
     let acts = c.actor_of-by-in-While.ensures names comp at.goes.can (while_group names comp port by body old here) in
     let turn = c.in_ok-branch_of-in-While.ensures names comp (read_branch names comp c.deref-in-While.result.now body.value m2 c.deref-in-While.ensures (while_body names comp port by body old here m2 at.goes.can)) in
     let number = c.in_ok-condition-in-While.condition in
