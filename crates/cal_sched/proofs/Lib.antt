@@ -1,0 +1,10 @@
+pub mod GuardLemmas
+pub mod PlaceLemmas
+pub mod LookLemmas
+pub mod ActorLemmas
+pub mod KnownLemmas
+pub mod WatchLemmas
+pub mod SightLemmas
+pub mod DoneLemmas
+pub mod ActingLemmas
+pub mod WalkerLemmas
