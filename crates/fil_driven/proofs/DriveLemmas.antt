@@ -96,7 +96,7 @@ covered_so p row t is =
       to = ltb-true row (t.start + p.to.plus) rows.1;
     }
 
-covered_is : (p : SigPort) (row : ℕ) (t : stim.Transaction) → IsCovered p row t → covers p row t ≡ true
+pub covered_is : (p : SigPort) (row : ℕ) (t : stim.Transaction) → IsCovered p row t → covers p row t ≡ true
 covered_is p row t is =
     and_from (p.from.event == t.event) (nat_le (t.start + p.from.plus) row && nat_lt row (t.start + p.to.plus))
     (eq-eqb p.from.event t.event is.event)

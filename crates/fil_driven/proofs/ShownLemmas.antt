@@ -63,7 +63,7 @@ module _ (comps : Design) (n : ℕ) (c : Component) (rules : FilRules comps) (th
     on_events = All-weaker (IsTransactionOf c) (IsOfEvent c) (λ tx is. is.event) txs are.each
 
     -- in each row of its interval an output has the value that the transaction computes
-    value_is : (p : DataPort) → Contains c.outs p → (t : Tx) → Contains txs t → IsCovered (sig_port c.events p) row (transaction_seen t) → trace row p.name ≡ computed comps c p (transaction_seen t)
+    pub value_is : (p : DataPort) → Contains c.outs p → (t : Tx) → Contains txs t → IsCovered (sig_port c.events p) row (transaction_seen t) → trace row p.name ≡ computed comps c p (transaction_seen t)
     value_is p has t has_t covered =
         let b = component_behaviour (take n comps) c in
         let to : row < t.start + p.to.plus = covered.to in

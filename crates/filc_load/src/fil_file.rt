@@ -50,8 +50,8 @@ pub fn load<F: Files>(alloc: Global, file: &str, files: &mut F) -> Result<FilBui
     build(alloc, &text)
 }
 
-/// The design that a text gives.
-fn build(alloc: Global, text: &[u8]) -> Result<FilBuilt, Stop>
+/// The design that a text gives, as a file with it does.
+pub fn build(alloc: Global, text: &[u8]) -> Result<FilBuilt, Stop>
     ensures built { IfOk result (IsFilBuiltFrom text.now) }
     ensures refused { IfErr result (IsUnbuilt Language.Filament text.now) }
 {

@@ -11,7 +11,8 @@ use Rattle.hw_prims.specs.Row.{Row, Trace}
 use Rattle.filc_report.specs.Rows.{port_text, row_text, lines_text, marked_port, marked_ports, marked_line}
 use Rattle.fil_driven.specs.Shown.{shown_value, outputs_line}
 
-values_same : (row row' : Row) (ports : List Text) → ((port : Text) → Contains ports port → row port ≡ row' port) → flat_map (λ port. port_text port (row port)) ports ≡ flat_map (λ port. port_text port (row' port)) ports
+-- rows that agree at ports have one text of them
+pub values_same : (row row' : Row) (ports : List Text) → ((port : Text) → Contains ports port → row port ≡ row' port) → flat_map (λ port. port_text port (row port)) ports ≡ flat_map (λ port. port_text port (row' port)) ports
 values_same row row' [] same = refl
 values_same row row' (port ∷ ports) same =
     ap₂ ◌++◌ (ap (λ v. port_text port v) (same port (0, omega arith, refl)))

@@ -250,13 +250,10 @@ loads_done net old new loads is more =
     subst (λ (m : Net). IsLoadedSim m (after_loads (netlist_of m) loads no_loads) new) is.net_is
     (more no_loads (subst (λ (m : Net). IsLoadedSim m no_loads old) (sym is.net_is) is))
 
--- a new simulation stands before row 0 of the run, once the loads of the list are made
-pub stands_loaded : (net : Net) (list : CycleList) (old new : SimValue) (given : List MemLoad) → given ≡ list.loads.items → IsLoadedSim net no_loads old → ((before : Text → List ℕ) → IsLoadedSim old.net before old → IsLoadedSim old.net (after_loads (netlist_of old.net) (map load_seen given) before) new) → StandsAt (netlist_of net) new 0 (driven (netlist_of net) list.sets.items) (after_loads (netlist_of net) (map load_seen list.loads.items) no_loads)
-stands_loaded net list old new given are is more =
-    let n = netlist_of net in
-    let loaded = loads_done net old new (map load_seen given) is more in
-    loaded_stands net n (after_loads n (map load_seen list.loads.items) no_loads) new (driven n list.sets.items) refl
-    (subst (λ (loads : List MemLoad). IsLoadedSim net (after_loads n (map load_seen loads) no_loads) new) are loaded)
+-- a new simulation has the words of the list, once its loads are made
+pub list_loaded : (net : Net) (list : CycleList) (old new : SimValue) (given : List MemLoad) → given ≡ list.loads.items → IsLoadedSim net no_loads old → ((before : Text → List ℕ) → IsLoadedSim old.net before old → IsLoadedSim old.net (after_loads (netlist_of old.net) (map load_seen given) before) new) → IsLoadedSim net (after_loads (netlist_of net) (map load_seen list.loads.items) no_loads) new
+list_loaded net list old new given are is more =
+    subst (λ (loads : List MemLoad). IsLoadedSim net (after_loads (netlist_of net) (map load_seen loads) no_loads) new) are (loads_done net old new (map load_seen given) is more)
 
 -- what is streamed of a simulation's netlist, by this line, is of the run that is asked
 module _ (n n' : Netlist) (same : n' ≡ n) (asked : Asked) (line : ℕ → Row → Text) (lined : line ≡ line_of n asked.drive asked.all) (loads : Text → List ℕ) where

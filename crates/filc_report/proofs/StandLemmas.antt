@@ -158,7 +158,8 @@ module _ (n : Netlist) (sim sim' : SimValue) (t : ℕ) (inputs : Trace) (loads :
 
 -- ---- the line of a row
 
-map_row_of : (names : List Text) (values : List ℕ) → AreDistinct names → length values ≡ length names → map (row_of names values) names ≡ values
+-- a row along names has the values at them
+pub map_row_of : (names : List Text) (values : List ℕ) → AreDistinct names → length values ≡ length names → map (row_of names values) names ≡ values
 map_row_of names values distinct same =
     same_number_lists (map (row_of names values) names) values (length-map names (row_of names values) ∙ sym same)
     (λ k within.

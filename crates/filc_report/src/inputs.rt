@@ -54,8 +54,15 @@ impl Inputs {
         })
     }
 
+    /// The values of the inputs, in their order, in the row that came last; 0 before the first.
+    pub fn values(&self) -> &[Bits]
+        ensures { result.now ≡ self.now.values.items }
+    {
+        &self.values
+    }
+
     /// Gives the inputs their values in a row. Rows come in their order.
-    pub(crate) fn set_row(&mut self, drive: Drive, row: u64)
+    pub fn set_row(&mut self, drive: Drive, row: u64)
         requires { (n : Netlist) × FitsDrive n drive × AreInputsAt n drive self.old row }
         ensures at { (n : Netlist) → FitsDrive n drive.entry → AreInputsAt n drive.entry self.old row → AreInputsAt n drive.entry self.new (row + 1) }
         ensures given { (n : Netlist) → FitsDrive n drive.entry → AreInputsAt n drive.entry self.old row

@@ -17,7 +17,7 @@ pub use drive::Drive;
 pub use flows::write_flows;
 pub use holds::write_holds;
 pub use inputs::Inputs;
-pub use net_run::{Transactions, run, run_transactions};
+pub use net_run::{Transactions, make_sim, run, run_transactions};
 pub use report::{write_accepted, write_text};
 pub use stream::{RowEnd, stream_rows};
 pub use view::View;

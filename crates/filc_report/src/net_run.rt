@@ -10,7 +10,7 @@ ghost use Rattle.net_sim.specs.declared.sim.Phase.TheVariants.{Fresh};
 ghost use Rattle.stim_read.specs.CycleRun.{load_seen};
 ghost use Rattle.filc_load.specs.Built.{IsReady, FitsNet};
 ghost use Rattle.filc_load.specs.Given.{FitsMemory, after_load, after_loads};
-ghost use Rattle.filc_report.specs.Runs.{LeavesOfRun, RunLeaves, run_from, transactions_run, asked_run};
+ghost use Rattle.filc_report.specs.Runs.{LeavesOfRun, RunLeaves, run_from, transactions_run, asked_run, no_loads};
 ghost use Rattle.filc_report.specs.Driving.{trace_of, FitsDrive, AreTransactionsFor};
 ghost use Rattle.fil_sig.specs.Seen.{seen};
 ghost use Rattle.stim_read.specs.TxRun.{tx_run_seen};
@@ -51,6 +51,17 @@ pub struct Transactions<'a> {
     pub rows: u64,
 }
 
+/// A simulation of a netlist that can be run, before its first row, with the words that the list gives in the shown memories.
+pub fn make_sim<'a>(alloc: Global, built: &'a Built, list: &CycleList) -> Result<Sim<'a>, Memory>
+    requires ready { IsReady built.now }
+    requires fits { FitsNet (netlist_of built.now.net) list.now }
+    ensures { IfOk result (IsLoadedSim built.now.net (after_loads (netlist_of built.now.net) (map load_seen list.now.loads.items) no_loads)) }
+{
+    let mut sim = Sim::new(alloc, &built.net, &built.table, &built.order)?;
+    load_memories(&mut sim, &list.loads);
+    Ok(sim)
+}
+
 /// Writes a text, then the rows of a netlist that can be run, from what the list gives: with `all` every port, else the
 /// outputs. Without a Conflict the shown memories follow.
 pub fn run<O: Sink>(
@@ -69,8 +80,7 @@ pub fn run<O: Sink>(
     ensures write_fault { IsErrOf result Stop.WriteFault → Rose (O.faults out.old) (O.faults out.new) }
     ensures never_falls { O.faults out.old ≤ O.faults out.new }
 {
-    let mut sim = Sim::new(alloc, &built.net, &built.table, &built.order)?;
-    load_memories(&mut sim, &list.loads);
+    let mut sim = make_sim(alloc, built, list)?;
     let asked = Asked {
         drive: Drive::Cycles(list),
         rows: list.cycles,
