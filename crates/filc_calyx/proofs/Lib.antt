@@ -5,3 +5,14 @@ pub mod TextLemmas
 pub mod MeansLemmas
 pub mod PartLemmas
 pub mod TraceLemmas
+pub mod ActingLemmas
+pub mod LineLemmas
+pub mod WalkLemmas
+pub mod GrowLemmas
+pub mod LabelLemmas
+pub mod OutputLemmas
+pub mod SchedulerLemmas
+pub mod SubjectLemmas
+pub mod ScheduleLemmas
+pub mod OneScheduleLemmas
+pub mod WriteLemmas

@@ -1,2 +1,4 @@
 pub mod Made
 pub mod Means
+pub mod Scheduled
+pub mod Scheduling

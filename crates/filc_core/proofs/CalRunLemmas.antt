@@ -16,6 +16,7 @@ use Rattle.filc_calyx.proofs.FaceLemmas.{LookAlike, file_gives_alike, not_given_
 use Rattle.filc_calyx.proofs.TopLemmas.{one_number}
 use Rattle.filc_calyx.specs.Made.{IsMadeOf}
 use Rattle.filc_calyx.specs.Means as calyx
+use Rattle.filc_calyx.specs.Scheduled.{Schedules}
 use Rattle.filc_load.specs.Built.{KnowsFile, IsGivenBy, IsNotGiven}
 use Rattle.filc_load.specs.Source.{FileGivesCal}
 use Rattle.filc_load.specs.StimulusFile.{FileGivesRun, IsRefusedForStimulus, run_causes}
@@ -34,6 +35,7 @@ use Rattle.filc_core.specs.Request.{Request, command_of}
 use Rattle.filc_core.specs.commands.CalRun.{CalTop, GivesTop, GivesRunOf, IsRefusedWithTop, cal_run}
 use Rattle.filc_core.specs.commands.Driven.{Driven}
 use Rattle.filc_core.specs.commands.Making.{IsMadeFrom}
+use Rattle.filc_core.specs.commands.SchedCal.{sched_cal}
 use Rattle.filc_core.specs.commands.SimCal.{sim_cal}
 use Rattle.filc_core.specs.commands.TraceCal.{trace_cal}
 
@@ -96,7 +98,7 @@ module _ (word : Text) (Comes : calyx.Driven → Text → Outcome → Type 0) (M
         leaves_of Made (Makes contents c.file) (Comes (driven_of top run)) ((cal_run word Comes Makes c).comes contents) made_too
         (λ made o comes. inr (inr (record { top = top; run = run; gives = gives; comes = comes }))) cal_run_comes
 
--- ---- the two commands
+-- ---- the three commands
 
 module _ (c : Driven) where
   pub sim_cal_reading : ReadsCalRun (sim_cal c) c
@@ -105,12 +107,18 @@ module _ (c : Driven) where
   pub trace_cal_reading : ReadsCalRun (trace_cal c) c
   trace_cal_reading = cal_run_reading (codes "trace") calyx.Traces (λ contents file. IsMadeFrom (FileGivesCal contents file) IsMadeOf) c
 
+  pub sched_cal_reading : ReadsCalRun (sched_cal c) c
+  sched_cal_reading = cal_run_reading (codes "sched") (λ d made o. Schedules d o) (λ contents file. MakesNone) c
+
   module _ (contents : Contents) (top : CalTop) (run : Run) (gives : GivesRunOf c contents top run) where
     pub sim_cal_comes : (made : Text) (o : Outcome) → (sim_cal c).comes contents made o → calyx.Means (driven_of top run) o
     sim_cal_comes = cal_run_comes (codes "sim") (λ d made o. calyx.Means d o) (λ contents file. MakesNone) c contents top run gives
 
     pub trace_cal_comes : (made : Text) (o : Outcome) → (trace_cal c).comes contents made o → calyx.Traces (driven_of top run) made o
     trace_cal_comes = cal_run_comes (codes "trace") calyx.Traces (λ contents file. IsMadeFrom (FileGivesCal contents file) IsMadeOf) c contents top run gives
+
+    pub sched_cal_comes : (made : Text) (o : Outcome) → (sched_cal c).comes contents made o → Schedules (driven_of top run) o
+    sched_cal_comes = cal_run_comes (codes "sched") (λ d made o. Schedules d o) (λ contents file. MakesNone) c contents top run gives
 
     pub sim_cal_leaves : (result : Result (Unit {0}) Stop) (out out' : Option Text) → Leaves MakesNone (λ made. calyx.Means (driven_of top run)) result out out' → Leaves ((sim_cal c).makes contents) ((sim_cal c).comes contents) result out out'
     sim_cal_leaves = cal_run_leaves (codes "sim") (λ d made o. calyx.Means d o) (λ contents file. MakesNone) c contents top run gives MakesNone (λ made is. is)
@@ -119,6 +127,9 @@ module _ (c : Driven) where
     trace_cal_leaves =
         cal_run_leaves (codes "trace") calyx.Traces (λ contents file. IsMadeFrom (FileGivesCal contents file) IsMadeOf) c contents top run gives (IsMadeOf top.design)
         (λ made is. record { design = top.design; gives = gives.gives_top.gives; is_made = is })
+
+    pub sched_cal_leaves : (result : Result (Unit {0}) Stop) (out out' : Option Text) → Leaves MakesNone (λ made. Schedules (driven_of top run)) result out out' → Leaves ((sched_cal c).makes contents) ((sched_cal c).comes contents) result out out'
+    sched_cal_leaves = cal_run_leaves (codes "sched") (λ d made o. Schedules d o) (λ contents file. MakesNone) c contents top run gives MakesNone (λ made is. is)
 
 -- ---- what a command performs
 

@@ -6,12 +6,13 @@ use Rattle.net_text.specs.Layout.{net_text}
 use Rattle.stim_read.specs.TxRun.{Transaction}
 use Rattle.filc_report.specs.Runs.{PrintedRun, RunComes, plain_run, stimulus_run}
 use Rattle.filc_calyx.specs.Means as calyx
+use Rattle.filc_calyx.specs.Scheduled.{Schedules}
 use Rattle.filc_stop.specs.Outcome.{Contents, Outcome}
 use Rattle.filc_stop.specs.declared.ended.Ended.{Ended}
 use Rattle.filc_stop.specs.declared.ended.Ended.TheVariants.{Done, Conflict}
 use Rattle.filc_stop.specs.declared.language.Language.TheVariants.{Netlists, Filament, Calyx}
 use Rattle.filc_core.proofs.CheckLemmas.{check_reads, check_comes}
-use Rattle.filc_core.proofs.CalRunLemmas.{driven_of, sim_cal_comes, sim_cal_reading, trace_cal_comes, trace_cal_reading}
+use Rattle.filc_core.proofs.CalRunLemmas.{driven_of, sched_cal_comes, sched_cal_reading, sim_cal_comes, sim_cal_reading, trace_cal_comes, trace_cal_reading}
 use Rattle.filc_core.proofs.MakingLemmas.{making_reads, making_comes}
 use Rattle.filc_core.proofs.NetRunLemmas.{net_run_reads, net_run_comes}
 use Rattle.filc_core.proofs.PerformLemmas.{one_told, both_told}
@@ -20,7 +21,7 @@ use Rattle.filc_core.proofs.SourceLemmas.{is_told}
 use Rattle.filc_core.proofs.StartedLemmas.{started_reads, started_comes}
 use Rattle.filc_core.proofs.TraceFilLemmas.{trace_fil_reading, trace_fil_done}
 use Rattle.filc_core.specs.Files.{IsToldFor}
-use Rattle.filc_core.specs.Request.{Request, OfCheck, OfRows, OfSimNet, OfTraceNet, OfFlow, OfTimeline, OfSimFil, OfTraceFil, OfSimCal, OfTraceCal, OfMaking, command_of}
+use Rattle.filc_core.specs.Request.{Request, OfCheck, OfRows, OfSimNet, OfTraceNet, OfFlow, OfTimeline, OfSimFil, OfTraceFil, OfSimCal, OfTraceCal, OfSchedCal, OfMaking, command_of}
 use Rattle.filc_core.specs.commands.CalRun as cal_run
 use Rattle.filc_core.specs.commands.Driven.{Driven}
 use Rattle.filc_core.specs.commands.NetRun as net_run
@@ -50,6 +51,10 @@ means_ends : (d : calyx.Driven) (o : Outcome) → calyx.Means d o → IsGrantedE
 means_ends d o (inl clash) = inr (ap (λ (x : Outcome). x.ended) clash.outcome)
 means_ends d o (inr whole) = inl (ap (λ (x : Outcome). x.ended) whole.outcome)
 
+schedules_end : (d : calyx.Driven) (o : Outcome) → Schedules d o → IsGrantedEnd o.ended
+schedules_end d o (inl clash) = inr (ap (λ (x : Outcome). x.ended) clash.outcome)
+schedules_end d o (inr whole) = inl (ap (λ (x : Outcome). x.ended) whole.outcome)
+
 traces_end : (d : calyx.Driven) (made : Text) (o : Outcome) → calyx.Traces d made o → IsGrantedEnd o.ended
 traces_end d made o traces = run_ends (stimulus_run traces.net d.run (made ++ 10 ∷ []) true) o traces.comes
 
@@ -74,6 +79,7 @@ granted_ends (OfSimFil c) contents made o granted comes = started_ends (codes "s
 granted_ends (OfTraceFil c) contents made o granted comes = inl (trace_fil_done c contents granted.top granted.run granted.gives made o comes)
 granted_ends (OfSimCal c) contents made o granted comes = means_ends (driven_of granted.top granted.run) o (sim_cal_comes c contents granted.top granted.run granted.gives made o comes)
 granted_ends (OfTraceCal c) contents made o granted comes = traces_end (driven_of granted.top granted.run) made o (trace_cal_comes c contents granted.top granted.run granted.gives made o comes)
+granted_ends (OfSchedCal c) contents made o granted comes = schedules_end (driven_of granted.top granted.run) o (sched_cal_comes c contents granted.top granted.run granted.gives made o comes)
 granted_ends (OfMaking c) contents made o granted comes = inl (ap (λ (x : Outcome). x.ended) (making_comes c contents made o granted comes))
 
 -- and its files are told
@@ -96,4 +102,6 @@ granted_told (OfSimCal c) contents granted =
     both_told (OfSimCal c) Calyx c.file (sim_cal_reading c).reads c.stimulus refl contents (granted.top.design, granted.gives.gives_top.gives) (cal_run_is_told c contents granted)
 granted_told (OfTraceCal c) contents granted =
     both_told (OfTraceCal c) Calyx c.file (trace_cal_reading c).reads c.stimulus refl contents (granted.top.design, granted.gives.gives_top.gives) (cal_run_is_told c contents granted)
+granted_told (OfSchedCal c) contents granted =
+    both_told (OfSchedCal c) Calyx c.file (sched_cal_reading c).reads c.stimulus refl contents (granted.top.design, granted.gives.gives_top.gives) (cal_run_is_told c contents granted)
 granted_told (OfMaking c) contents granted = one_told (OfMaking c) c.language c.file (making_reads c) contents refl granted

@@ -8,6 +8,7 @@ use Rattle.filc_core.specs.commands.Flow.{flow}
 use Rattle.filc_core.specs.commands.Driven.{Driven}
 use Rattle.filc_core.specs.commands.Making.{Making, making}
 use Rattle.filc_core.specs.commands.Rows.{Rows, rows}
+use Rattle.filc_core.specs.commands.SchedCal.{sched_cal}
 use Rattle.filc_core.specs.commands.SimCal.{sim_cal}
 use Rattle.filc_core.specs.commands.SimFil.{sim_fil}
 use Rattle.filc_core.specs.commands.SimNet.{sim_net}
@@ -29,6 +30,7 @@ pub data Request : Type 0 where
   OfTraceFil : Started → Request
   OfSimCal : Driven → Request
   OfTraceCal : Driven → Request
+  OfSchedCal : Driven → Request
   OfMaking : Making → Request
 
 abbrev pub command_of : Request → Command
@@ -42,6 +44,7 @@ command_of (OfSimFil c) = sim_fil c
 command_of (OfTraceFil c) = trace_fil c
 command_of (OfSimCal c) = sim_cal c
 command_of (OfTraceCal c) = trace_cal c
+command_of (OfSchedCal c) = sched_cal c
 command_of (OfMaking c) = making c
 
 -- the words ask for this, exactly

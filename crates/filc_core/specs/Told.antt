@@ -1,5 +1,5 @@
 -- The program's own values, as what they say.
-use Rattle.filc_core.specs.Request.{Request, OfCheck, OfRows, OfSimNet, OfTraceNet, OfFlow, OfTimeline, OfSimFil, OfTraceFil, OfSimCal, OfTraceCal, OfMaking}
+use Rattle.filc_core.specs.Request.{Request, OfCheck, OfRows, OfSimNet, OfTraceNet, OfFlow, OfTimeline, OfSimFil, OfTraceFil, OfSimCal, OfTraceCal, OfSchedCal, OfMaking}
 use Rattle.filc_core.specs.commands.Check.{Check}
 use Rattle.filc_core.specs.commands.Driven.{Driven}
 use Rattle.filc_core.specs.commands.Making.{Making}
@@ -11,6 +11,7 @@ use Rattle.filc_core.specs.declared.commands.driven.Driven.{Driven as DrivenValu
 use Rattle.filc_core.specs.declared.commands.making.Making.{Making as MakingValue}
 use Rattle.filc_core.specs.declared.commands.sim_cal.SimCal.{SimCal as SimCalValue}
 use Rattle.filc_core.specs.declared.commands.trace_cal.TraceCal.{TraceCal as TraceCalValue}
+use Rattle.filc_core.specs.declared.commands.sched_cal.SchedCal.{SchedCal as SchedCalValue}
 use Rattle.filc_core.specs.declared.commands.rows.Rows.{Rows as RowsValue}
 use Rattle.filc_core.specs.declared.commands.sim_fil.SimFil.{SimFil as SimFilValue}
 use Rattle.filc_core.specs.declared.commands.sim_net.SimNet.{SimNet as SimNetValue}
@@ -45,6 +46,9 @@ sim_cal_told c = driven_told c.0
 abbrev pub trace_cal_told : TraceCalValue → Driven
 trace_cal_told c = driven_told c.0
 
+abbrev pub sched_cal_told : SchedCalValue → Driven
+sched_cal_told c = driven_told c.0
+
 abbrev pub started_told : StartedValue → Started
 started_told c = record { file = c.file.now; stimulus = c.stimulus.now }
 
@@ -71,4 +75,5 @@ request_told (value.SimFil c) = OfSimFil (sim_fil_told c)
 request_told (value.TraceFil c) = OfTraceFil (trace_fil_told c)
 request_told (value.SimCal c) = OfSimCal (sim_cal_told c)
 request_told (value.TraceCal c) = OfTraceCal (trace_cal_told c)
+request_told (value.SchedCal c) = OfSchedCal (sched_cal_told c)
 request_told (value.Making c) = OfMaking (making_told c)

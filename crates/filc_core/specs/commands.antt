@@ -14,3 +14,4 @@ pub mod TraceFil
 pub mod CalRun
 pub mod SimCal
 pub mod TraceCal
+pub mod SchedCal

@@ -8,6 +8,7 @@ mod driven;
 pub(crate) mod flow;
 pub(crate) mod making;
 pub(crate) mod rows;
+pub(crate) mod sched_cal;
 pub(crate) mod sim_cal;
 pub(crate) mod sim_fil;
 pub(crate) mod sim_net;

@@ -8,6 +8,7 @@ use crate::commands::check::Check;
 use crate::commands::flow::Flow;
 use crate::commands::making::Making;
 use crate::commands::rows::Rows;
+use crate::commands::sched_cal::SchedCal;
 use crate::commands::sim_cal::SimCal;
 use crate::commands::sim_fil::SimFil;
 use crate::commands::sim_net::SimNet;
@@ -32,6 +33,7 @@ pub(crate) enum Request<'a> {
     TraceFil(TraceFil<'a>),
     SimCal(SimCal<'a>),
     TraceCal(TraceCal<'a>),
+    SchedCal(SchedCal<'a>),
     Making(Making<'a>),
 }
 
@@ -70,6 +72,9 @@ pub(crate) fn asked<'a>(words: &[&'a str]) -> Option<Request<'a>>
     if let Some(trace) = TraceCal::asked(words) {
         return Some(Request::TraceCal(trace));
     }
+    if let Some(sched) = SchedCal::asked(words) {
+        return Some(Request::SchedCal(sched));
+    }
     Some(Request::Making(Making::asked(words)?))
 }
 
@@ -90,6 +95,7 @@ impl Command for Request<'_> {
             Request::TraceFil(it) => it.design(),
             Request::SimCal(it) => it.design(),
             Request::TraceCal(it) => it.design(),
+            Request::SchedCal(it) => it.design(),
             Request::Making(it) => it.design(),
         }
     }
@@ -106,6 +112,7 @@ impl Command for Request<'_> {
             Request::TraceFil(it) => it.stimulus(),
             Request::SimCal(it) => it.stimulus(),
             Request::TraceCal(it) => it.stimulus(),
+            Request::SchedCal(it) => it.stimulus(),
             Request::Making(it) => it.stimulus(),
         }
     }
@@ -127,6 +134,7 @@ impl Command for Request<'_> {
             Request::TraceFil(it) => it.perform(alloc, files, out),
             Request::SimCal(it) => it.perform(alloc, files, out),
             Request::TraceCal(it) => it.perform(alloc, files, out),
+            Request::SchedCal(it) => it.perform(alloc, files, out),
             Request::Making(it) => it.perform(alloc, files, out),
         }
     }

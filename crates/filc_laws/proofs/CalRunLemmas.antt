@@ -9,6 +9,8 @@ use Rattle.net_core.specs.Netlist.{Netlist}
 use Rattle.net_text.proofs.OneNetlist.{one_netlist}
 use Rattle.cal_ast.proofs.ListLemmas.{Contains-at}
 use Rattle.cal_ast.specs.Keeping as keeping
+use Rattle.cal_ast.specs.Plain.{HasPlainTree}
+use Rattle.cal_ast.specs.Rules.{CalRules}
 use Rattle.cal_ast.specs.Tree.{Component}
 use Rattle.cal_net.specs.Face.{face}
 use Rattle.cal_net.specs.Refining.{RefinesFrom}
@@ -23,7 +25,7 @@ use Rattle.filc_calyx.specs.Means.{Driven, IsRun, Means, EndsInConflict, RunsWho
 use Rattle.filc_load.specs.Given.{given_inputs}
 use Rattle.filc_report.proofs.MemoryLemmas.{memories_same}
 use Rattle.filc_report.proofs.RowLemmas.{lines_same, row_same}
-use Rattle.filc_report.specs.Rows.{outputs_of_net, row_text}
+use Rattle.filc_report.specs.Rows.{memories_text, outputs_of_net, row_text}
 use Rattle.filc_report.specs.Runs.{RunComes, stimulus_run}
 use Rattle.filc_stop.specs.Lines.{conflict_line}
 use Rattle.filc_stop.specs.Outcome.{Contents, Outcome, conflict_after, done_with}
@@ -41,16 +43,21 @@ module _ (top : CalTop) (contents : Contents) (file : Text) (gives : GivesTop co
   abbrev outs : List Text
   outs = outputs_of_net (face top.comp)
 
-  in_design : Contains top.design top.comp
+  pub in_design : Contains top.design top.comp
   in_design = Contains-at top.design top.number top.comp gives.at
 
+  pub plain_tree : HasPlainTree top.design
+  plain_tree = written_plain top.design (tree_written gives.gives.bytes top.design gives.gives.gives.accepted.text_of.spells)
+
+  pub keeps_rules : CalRules top.design
+  keeps_rules = gives.gives.gives.accepted.rules
+
   -- its runs are one
-  one_run : (height tall : ℕ) (trace other : Trace) (stop stop' : Option Text) → IsRun d height trace stop → IsRun d tall other stop'
+  pub one_run : (height tall : ℕ) (trace other : Trace) (stop stop' : Option Text) → IsRun d height trace stop → IsRun d tall other stop'
       → keeping.AreOne top.design top.comp (words_given d) (record { height = height; trace = trace; stop = stop }) (record { height = tall; trace = other; stop = stop' })
   one_run height tall trace other stop stop' is is' =
-      let text = gives.gives.gives.accepted.text_of.spells in
-      runs_are_unique top.design top.comp (written_plain top.design (tree_written gives.gives.bytes top.design text)) gives.gives.gives.accepted.rules in_design run.cycles
-      (given_inputs (face top.comp) run.settings) (words_given d) (record { height = height; trace = trace; stop = stop }) (record { height = tall; trace = other; stop = stop' }) is is'
+      runs_are_unique top.design top.comp plain_tree keeps_rules in_design run.cycles (given_inputs (face top.comp) run.settings) (words_given d) (record { height = height; trace = trace; stop = stop })
+      (record { height = tall; trace = other; stop = stop' }) is is'
 
   rows_alike : (t height tall : ℕ) (trace other : Trace) (stop stop' : Option Text) → t < height + 1 → IsRun d height trace stop → IsRun d tall other stop' → output_rows d trace t ≡ output_rows d other t
   rows_alike t height tall trace other stop stop' within is is' =
@@ -68,15 +75,18 @@ module _ (top : CalTop) (contents : Contents) (file : Text) (gives : GivesTop co
   not_both : (o o' : Outcome) → EndsInConflict d o → RunsWhole d o' → ⊥
   not_both o o' p q = let stops = (one_run (suc p.row) run.cycles p.trace q.trace (Some p.port) None p.run q.run).stops in cc stops
 
+  -- after the last edge the observable memories have the same words
+  pub memories_alike : (trace other : Trace) → IsRun d run.cycles trace None → IsRun d run.cycles other None
+      → memories_text (face top.comp) (states_before run.cycles trace (words_given d)) ≡ memories_text (face top.comp) (states_before run.cycles other (words_given d))
+  memories_alike trace other is is' =
+      let one = one_run run.cycles run.cycles trace other None None is is' in
+      memories_same (face top.comp) (states_before run.cycles trace (words_given d)) (states_before run.cycles other (words_given d))
+      (λ name prim cell. one.states run.cycles name prim (omega arith) (memory_is_cell top.design top.comp plain_tree keeps_rules in_design name prim cell))
+
   two_whole : (o o' : Outcome) → RunsWhole d o → RunsWhole d o' → o ≡ o'
   two_whole o o' p q =
-      let one = one_run run.cycles run.cycles p.trace q.trace None None p.run q.run in
       let rows = rows_alike run.cycles run.cycles run.cycles p.trace q.trace None None (omega arith) p.run q.run in
-      let plain = written_plain top.design (tree_written gives.gives.bytes top.design gives.gives.gives.accepted.text_of.spells) in
-      let memories =
-      memories_same (face top.comp) (states_before run.cycles p.trace (words_given d)) (states_before run.cycles q.trace (words_given d))
-      (λ name prim is. one.states run.cycles name prim (omega arith) (memory_is_cell top.design top.comp plain gives.gives.gives.accepted.rules in_design name prim is)) in
-      p.outcome ∙ ap done_with (ap₂ ◌++◌ rows memories) ∙ sym q.outcome
+      p.outcome ∙ ap done_with (ap₂ ◌++◌ rows (memories_alike p.trace q.trace p.run q.run)) ∙ sym q.outcome
 
   pub means_once : (o o' : Outcome) → Means d o → Means d o' → o ≡ o'
   means_once o o' (inl p) (inl q) = two_conflicts o o' p q

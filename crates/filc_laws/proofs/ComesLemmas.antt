@@ -7,6 +7,7 @@ use Rattle.fil_ast.specs.Top.{IsTop}
 use Rattle.fil_ast.specs.Tree.{Component, Design}
 use Rattle.cal_net.specs.Face.{face}
 use Rattle.filc_calyx.specs.Means as calyx
+use Rattle.filc_calyx.specs.Scheduled.{Schedules}
 use Rattle.net_core.specs.Netlist.{Netlist}
 use Rattle.stim_read.specs.CycleRun.{Run}
 use Rattle.stim_read.specs.TxRun.{Transaction, TxRun}
@@ -38,6 +39,7 @@ use Rattle.filc_laws.proofs.CalRunLemmas.{end_alike, means_once}
 use Rattle.filc_laws.proofs.FilSourceLemmas.{top_once}
 use Rattle.filc_laws.proofs.LineLemmas.{along_lines}
 use Rattle.filc_laws.proofs.ReportLemmas.{comes_once}
+use Rattle.filc_laws.proofs.ScheduleLemmas.{schedules_once}
 use Rattle.filc_laws.proofs.SourceLemmas.{net_is_given_once, fil_is_given_once, source_is_refused_once, refused_source_is_not_accepted}
 use Rattle.filc_laws.proofs.StimulusLemmas.{refused_by_once, not_refused}
 use Rattle.filc_laws.proofs.TraceLemmas.{plain_shows, stimulus_shows, traces_report}
@@ -293,6 +295,17 @@ module _ (words : List Text) (contents : Contents) (made made' : Text) (o o' : O
     pub sim_cal_once : IsRefusedForSource contents Calyx c.file o ⊎ cal_run.IsRefusedWithTop c contents o ⊎ cal_run.Runs c Meant contents made o
         → IsRefusedForSource contents Calyx c.file o' ⊎ cal_run.IsRefusedWithTop c contents o' ⊎ cal_run.Runs c Meant contents made' o' → One
     sim_cal_once p q = cal_run_once (cal_run.Runs c Meant contents made o) (cal_run.Runs c Meant contents made' o') (cal_grants Meant made o) (cal_grants Meant made' o') two_meant p q
+
+    abbrev Scheduled : calyx.Driven → Text → Outcome → Type 0
+    Scheduled d text x = Schedules d x
+
+    two_schedules : cal_run.Runs c Scheduled contents made o → cal_run.Runs c Scheduled contents made' o' → One
+    two_schedules a b = same_outcome (schedules_once a.top contents c.file a.gives.gives_top a.run o o' a.comes (along Scheduled a b))
+
+    pub sched_cal_once : IsRefusedForSource contents Calyx c.file o ⊎ cal_run.IsRefusedWithTop c contents o ⊎ cal_run.Runs c Scheduled contents made o
+        → IsRefusedForSource contents Calyx c.file o' ⊎ cal_run.IsRefusedWithTop c contents o' ⊎ cal_run.Runs c Scheduled contents made' o' → One
+    sched_cal_once p q =
+        cal_run_once (cal_run.Runs c Scheduled contents made o) (cal_run.Runs c Scheduled contents made' o') (cal_grants Scheduled made o) (cal_grants Scheduled made' o') two_schedules p q
 
     module _ (asks : Asks words (OfTraceCal c)) where
       two_cal_traces : cal_run.Runs c calyx.Traces contents made o → cal_run.Runs c calyx.Traces contents made' o' → One

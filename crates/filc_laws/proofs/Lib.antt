@@ -22,6 +22,7 @@ pub mod CalSourceLemmas
 pub mod StimulusLemmas
 pub mod SourceLemmas
 pub mod CalRunLemmas
+pub mod ScheduleLemmas
 pub mod ComesLemmas
 pub mod VerdictLemmas
 pub mod AnswerLemmas

@@ -5,14 +5,14 @@ use Rattle.hw_names.specs.Name.{Text}
 use Rattle.net_text.specs.Layout.{net_text}
 use Rattle.filc_stop.specs.Outcome.{Contents, Outcome, done_with}
 use Rattle.filc_core.proofs.AskLemmas.{asks_once}
-use Rattle.filc_core.specs.Request.{Request, OfCheck, OfRows, OfSimNet, OfTraceNet, OfFlow, OfTimeline, OfSimFil, OfTraceFil, OfSimCal, OfTraceCal, OfMaking, command_of, Asks}
+use Rattle.filc_core.specs.Request.{Request, OfCheck, OfRows, OfSimNet, OfTraceNet, OfFlow, OfTimeline, OfSimFil, OfTraceFil, OfSimCal, OfTraceCal, OfSchedCal, OfMaking, command_of, Asks}
 use Rattle.filc_core.specs.Verdict.{Verdict, NotAsked, Asked}
 use Rattle.filc_core.specs.commands.Flow.{flow_of_top}
 use Rattle.filc_core.specs.commands.SimFil.{rows_of_top}
 use Rattle.filc_core.specs.commands.Timeline.{holds_in_top}
 use Rattle.filc_core.proofs.CalRunLemmas.{driven_of}
 use Rattle.filc_laws.proofs.CalRunLemmas.{cal_traces_once}
-use Rattle.filc_laws.proofs.ComesLemmas.{same_outcome, check_once, rows_once, net_run_once, transactions_once, trace_fil_once, sim_cal_once, trace_cal_once, made_once}
+use Rattle.filc_laws.proofs.ComesLemmas.{same_outcome, check_once, rows_once, net_run_once, transactions_once, trace_fil_once, sim_cal_once, trace_cal_once, sched_cal_once, made_once}
 use Rattle.filc_laws.proofs.TraceLemmas.{traces_once}
 use Rattle.filc_laws.specs.OneVerdict.{IsSameReport, AreOne, OneVerdict, OneReport}
 
@@ -28,6 +28,7 @@ comes_one words contents made made' o o' (OfSimFil c) asks p q = transactions_on
 comes_one words contents made made' o o' (OfTraceFil c) asks p q = trace_fil_once words contents made made' o o' c asks p q
 comes_one words contents made made' o o' (OfSimCal c) asks p q = sim_cal_once words contents made made' o o' c p q
 comes_one words contents made made' o o' (OfTraceCal c) asks p q = trace_cal_once words contents made made' o o' c asks p q
+comes_one words contents made made' o o' (OfSchedCal c) asks p q = sched_cal_once words contents made made' o o' c p q
 comes_one words contents made made' o o' (OfMaking c) asks p q = made_once words contents made made' o o' c asks p q
 
 verdicts_one : (words : List Text) (contents : Contents) (made made' : Text) (o o' : Outcome) → Verdict words contents made o → Verdict words contents made' o' → AreOne words contents made made' o o'

@@ -1,4 +1,4 @@
--- A Calyx design's run under a stimulus: what `sim` and `trace` share. This project's.
+-- A Calyx design's run under a stimulus: what `sim`, `trace` and `sched` share. This project's.
 use Rattle.std.specs.Prelude.{◌≡◌, ◌⊎◌, ℕ, Some, slice_get}
 use Rattle.hw_names.specs.Name.{Text}
 use Rattle.cal_ast.specs.Top.{IsTop}

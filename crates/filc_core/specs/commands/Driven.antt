@@ -1,4 +1,4 @@
--- A run under a stimulus: the words of `sim` and `trace` for netlists and for Calyx designs. This project's.
+-- A run under a stimulus: the words of `sim` and `trace` for netlists and for Calyx designs, and of `sched`. This project's.
 use Rattle.std.specs.Prelude.{◌≡◌, List, [], ◌∷◌}
 use Rattle.hw_names.specs.Name.{Text}
 use Rattle.filc_stop.specs.declared.language.Language.{Language}

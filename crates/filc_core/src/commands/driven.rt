@@ -1,4 +1,4 @@
-//! A run under a stimulus: the words of `sim` and `trace` for netlists and for Calyx designs.
+//! A run under a stimulus: the words of `sim` and `trace` for netlists and for Calyx designs, and of `sched`.
 ghost use Rattle.std.specs.Prelude.{map, MatchOption};
 
 use crate::words::{is_file_in, is_stimulus_name};

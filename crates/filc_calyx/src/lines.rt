@@ -1,0 +1,84 @@
+//! The lines of a schedule, put last in a text.
+ghost use Rattle.std.specs.Prelude.{◌≡◌, ◌++◌, ◌<◌, Bool, List, OnOk, codes, decimal, flat_map, length, map};
+ghost use Rattle.hw_prims.specs.Row.{Row};
+ghost use Rattle.net_core.specs.Netlist.{netlist_of};
+ghost use Rattle.net_core.specs.Numbers.{HasNumbers};
+ghost use Rattle.net_sim.specs.Layout.{port_names};
+ghost use Rattle.cal_ast.specs.Actors.{Actor};
+ghost use Rattle.filc_report.specs.Rows.{outputs_of_net, port_text};
+ghost use Rattle.filc_calyx.specs.Scheduling.{AreLabelsOf, Tells, TellsActing, label_if};
+
+use cal_sched::Walker;
+use hw_bits::Memory;
+use itoa::Buffer;
+use net_core::Net;
+use net_sim::Sim;
+
+pub(crate) fn push_text(text: &mut Vec<u8>, more: &[u8]) -> Result<(), Memory>
+    ensures { OnOk result (text.new.items ≡ text.old.items ++ more.now) }
+{
+    text.extend_from_slice(more)?;
+    Ok(())
+}
+
+pub(crate) fn push_number(text: &mut Vec<u8>, number: u128) -> Result<(), Memory>
+    ensures { OnOk result (text.new.items ≡ text.old.items ++ decimal number) }
+{
+    let mut digits = Buffer::new();
+    push_text(text, digits.format(number).as_bytes())
+}
+
+/// A port with its value.
+fn push_port(text: &mut Vec<u8>, port: &[u8], value: u128) -> Result<(), Memory>
+    ensures { OnOk result (text.new.items ≡ text.old.items ++ port_text port.now value) }
+{
+    push_text(text, b" ")?;
+    push_text(text, port)?;
+    push_text(text, b"=")?;
+    push_number(text, value)
+}
+
+/// The outputs of a netlist, each with its value in the row that was evaluated.
+pub(crate) fn push_outputs(text: &mut Vec<u8>, sim: &Sim, net: &Net) -> Result<(), Memory>
+    requires numbers { HasNumbers net.now }
+    requires evaluated { length sim.now.values ≡ length (port_names (netlist_of net.now)) }
+    ensures { (row : Row) → sim.now.values ≡ map row (port_names (netlist_of net.now))
+        → OnOk result (text.new.items ≡ text.old.items ++ flat_map (λ port. port_text port (row port)) (outputs_of_net (netlist_of net.now))) }
+{
+    let first = net.ins.len();
+    for (at, output) in net.outs.iter().enumerate() {
+        let value = sim.value(first + at).value();
+        push_port(text, net.names.text(output.name), value)?;
+    }
+    Ok(())
+}
+
+/// The labels of the actors that act in the row that the walker went over last.
+fn push_labels(text: &mut Vec<u8>, labels: &[Vec<u8>], walker: &Walker) -> Result<(), Memory>
+    requires { (actors : List Actor) × (acts : Actor → Bool) × AreLabelsOf actors labels.now × TellsActing actors acts walker.now }
+    ensures { (actors : List Actor) (acts : Actor → Bool) → AreLabelsOf actors labels.now → TellsActing actors acts walker.now
+        → OnOk result (text.new.items ≡ text.old.items ++ flat_map (label_if acts) actors) }
+{
+    for (actor, label) in labels.iter().enumerate() {
+        if walker.acts(actor) {
+            push_text(text, label)?;
+        }
+    }
+    Ok(())
+}
+
+/// The same; without a walker no actor acts.
+pub(crate) fn push_acting(
+    text: &mut Vec<u8>,
+    labels: &[Vec<u8>],
+    walker: &Option<Walker>,
+) -> Result<(), Memory>
+    requires { (actors : List Actor) × (acts : Actor → Bool) × AreLabelsOf actors labels.now × Tells actors acts walker.now }
+    ensures { (actors : List Actor) (acts : Actor → Bool) → AreLabelsOf actors labels.now → Tells actors acts walker.now
+        → OnOk result (text.new.items ≡ text.old.items ++ flat_map (label_if acts) actors) }
+{
+    match walker {
+        None => Ok(()),
+        Some(walker) => push_labels(text, labels, walker),
+    }
+}
