@@ -11,7 +11,7 @@ use std::process::Abort;
 use std::test::Fail;
 
 /// Memories of the top component and of another, with the mark and without.
-const MEMORIES: &str = r#"component store() -> () {
+pub(crate) const MEMORIES: &str = r#"component store() -> () {
   cells { @external hidden = std_mem_d1(8, 2, 1); }
   wires { group put { hidden.addr0 = 1'd1; hidden.write_data = 8'd9; hidden.write_en = 1'd1; put[done] = hidden.done; } }
   control { put; }
@@ -28,7 +28,7 @@ component main() -> (v: 8) {
 "#;
 
 /// A component whose go and done are written, beside a clock and a reset.
-const WRITTEN: &str = "component main(a: 8, go: 1, clk: 1, reset: 1) -> (done: 1, v: 8) {
+pub(crate) const WRITTEN: &str = "component main(a: 8, go: 1, clk: 1, reset: 1) -> (done: 1, v: 8) {
   cells { r = std_reg(8); }
   wires { group set { r.in = a; r.write_en = go; set[done] = r.done; } v = r.out; }
   control { set; }
@@ -36,7 +36,7 @@ const WRITTEN: &str = "component main(a: 8, go: 1, clk: 1, reset: 1) -> (done: 1
 ";
 
 /// A component that invokes another twice, and is invoked itself.
-const NESTED: &str = "component step(n: 8) -> (o: 8) {
+pub(crate) const NESTED: &str = "component step(n: 8) -> (o: 8) {
   cells { r = std_reg(8); a = std_add(8); }
   wires { group add { a.left = n; a.right = 8'd1; r.in = a.out; r.write_en = 1'd1; add[done] = r.done; } o = r.out; }
   control { add; }
@@ -48,6 +48,40 @@ component twice() -> (o: 8) {
   control { invoke c(n = 8'd1)(); invoke c(n = c.o)(); }
 }
 ";
+
+/// The product of two lists of eight numbers.
+pub(crate) const DOT: &str = r#"import "primitives/core.futil";
+component main<"toplevel"=1>(@go go: 1, @clk clk: 1, @reset reset: 1) -> (@done done: 1) {
+  cells {
+    @external(1) a = comb_mem_d1(32, 8, 3);
+    @external(1) b = comb_mem_d1(32, 8, 3);
+    @external(1) o = comb_mem_d1(32, 1, 1);
+    i = std_reg(4); s = std_reg(32); lt = std_lt(4); ad = std_add(4);
+    sum = std_add(32); sl = std_slice(4, 3); mu = std_mult_pipe(32);
+  }
+  wires {
+    comb group cond { lt.left = i.out; lt.right = 4'd8; }
+    group mul {
+      sl.in = i.out; a.addr0 = sl.out; b.addr0 = sl.out;
+      mu.left = a.read_data; mu.right = b.read_data;
+      mu.go = !mu.done ? 1'd1; mul[done] = mu.done;
+    }
+    group acc { sum.left = s.out; sum.right = mu.out; s.in = sum.out; s.write_en = 1'd1; acc[done] = s.done; }
+    group up { ad.left = i.out; ad.right = 4'd1; i.in = ad.out; i.write_en = 1'd1; up[done] = i.done; }
+    group fin { o.addr0 = 1'd0; o.write_data = s.out; o.write_en = 1'd1; fin[done] = o.done; }
+  }
+  control {
+    @NODE_ID(0) seq {
+      while lt.out with cond { seq { mul; par { acc; up; } } }
+      fin;
+    }
+  }
+}
+"#;
+
+/// Sixty rows with go, and the lists.
+pub(crate) const LISTS: &str =
+    r#"{"version":1,"cycles":60,"inputs":[{"from":0,"set":{"go":1}}],"memories":{"a":[1,2,3,4,5,6,7,8],"b":[8,7,6,5,4,3,2,1]}}"#;
 
 const DESIGNS: &[StimulusCase] = &[
     StimulusCase {
@@ -203,35 +237,8 @@ mem m 5 6 0 0
     },
     StimulusCase {
         name: "the product of two lists",
-        text: r#"import "primitives/core.futil";
-component main<"toplevel"=1>(@go go: 1, @clk clk: 1, @reset reset: 1) -> (@done done: 1) {
-  cells {
-    @external(1) a = comb_mem_d1(32, 8, 3);
-    @external(1) b = comb_mem_d1(32, 8, 3);
-    @external(1) o = comb_mem_d1(32, 1, 1);
-    i = std_reg(4); s = std_reg(32); lt = std_lt(4); ad = std_add(4);
-    sum = std_add(32); sl = std_slice(4, 3); mu = std_mult_pipe(32);
-  }
-  wires {
-    comb group cond { lt.left = i.out; lt.right = 4'd8; }
-    group mul {
-      sl.in = i.out; a.addr0 = sl.out; b.addr0 = sl.out;
-      mu.left = a.read_data; mu.right = b.read_data;
-      mu.go = !mu.done ? 1'd1; mul[done] = mu.done;
-    }
-    group acc { sum.left = s.out; sum.right = mu.out; s.in = sum.out; s.write_en = 1'd1; acc[done] = s.done; }
-    group up { ad.left = i.out; ad.right = 4'd1; i.in = ad.out; i.write_en = 1'd1; up[done] = i.done; }
-    group fin { o.addr0 = 1'd0; o.write_data = s.out; o.write_en = 1'd1; fin[done] = o.done; }
-  }
-  control {
-    @NODE_ID(0) seq {
-      while lt.out with cond { seq { mul; par { acc; up; } } }
-      fin;
-    }
-  }
-}
-"#,
-        stimulus: r#"{"version":1,"cycles":60,"inputs":[{"from":0,"set":{"go":1}}],"memories":{"a":[1,2,3,4,5,6,7,8],"b":[8,7,6,5,4,3,2,1]}}"#,
+        text: DOT,
+        stimulus: LISTS,
         report: "0 done=0
 1 done=0
 2 done=0

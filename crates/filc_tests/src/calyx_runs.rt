@@ -29,7 +29,7 @@ pub(crate) struct Frame {
 pub(crate) const WHOLE: Frame = Frame { head: "", tail: "" };
 
 /// Groups that write two registers.
-const REGISTERS: Frame = Frame {
+pub(crate) const REGISTERS: Frame = Frame {
     head: "component main(p: 1) -> (x: 8, y: 8) {
   cells {
     r = std_reg(8);
@@ -91,7 +91,7 @@ const REGISTERS: Frame = Frame {
 };
 
 /// Two instances, each of which gives the number after its input, and a group that starts one of them for a single row.
-const INSTANCES: Frame = Frame {
+pub(crate) const INSTANCES: Frame = Frame {
     head: "component step(n: 8) -> (o: 8) {
   cells {
     r = std_reg(8);
@@ -481,8 +481,13 @@ const INVOKES: &[StimulusCase] = &[
     },
 ];
 
+/// The text of a design, of which this stands in the frame.
+pub(crate) fn framed(alloc: Global, frame: Frame, text: &str) -> Result<String, Fail> {
+    Ok(format!(in alloc; "{}{}{}", frame.head, text, frame.tail)?)
+}
+
 /// What is run says what the case tells.
-fn try_run(
+pub(crate) fn try_run(
     rt: &impl Abort,
     alloc: Global,
     words: &[&str],
@@ -557,7 +562,7 @@ pub(crate) fn try_designs(
     cases: &[StimulusCase],
 ) -> Result<(), Fail> {
     for case in cases {
-        let text = format!(in alloc; "{}{}{}", frame.head, case.text, frame.tail)?;
+        let text = framed(alloc, frame, case.text)?;
         try_design(rt, alloc, text.as_str(), case)?;
     }
     Ok(())

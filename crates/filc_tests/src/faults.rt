@@ -1,5 +1,6 @@
 //! Files and sinks that fail in mid-stream: each call in its turn.
 use crate::calyx::{CHECK_CALYX, DOUBLE, LOOPED, REPEATS};
+use crate::calyx_schedule::{FOUR, MEETING, SCHED};
 use crate::case::{CHECK, ROWS, Said, ask, files};
 use crate::counter::COUNTER;
 use crate::nets::NET;
@@ -72,6 +73,7 @@ const ASKED: &[(&[&str], &str, &str)] = &[
     (NET, SUM, ""),
     (SIM_FIL, SUM, SUM_STIMULUS),
     (TRACE_FIL, SUM, SUM_STIMULUS),
+    (SCHED, MEETING, FOUR),
     (FLOW, SUM, "{"),
     (
         TRACE,
@@ -143,6 +145,7 @@ const READ: &[(&[&str], &str, &str, &str)] = &[
     (TIMELINE, SUM, SUM_STIMULUS, "read fault: f.fil\n"),
     (SIM_FIL, SUM, SUM_STIMULUS, "read fault: f.fil\n"),
     (TRACE_FIL, SUM, SUM_STIMULUS, "read fault: f.fil\n"),
+    (SCHED, MEETING, FOUR, "read fault: f.futil\n"),
 ];
 
 // The design's two pieces come first, then the stimulus's.

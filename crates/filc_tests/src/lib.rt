@@ -8,6 +8,8 @@ mod calyx_designs;
 #[cfg(test)]
 mod calyx_runs;
 #[cfg(test)]
+mod calyx_schedule;
+#[cfg(test)]
 mod case;
 #[cfg(test)]
 mod counter;

@@ -273,7 +273,7 @@ pub(crate) fn report_of(
 }
 
 /// The words of one row of `sim` stand in a row of `trace`, but for the dashes.
-fn try_row(rt: &impl Abort, shown: &str, traced: &str) {
+pub(crate) fn try_row(rt: &impl Abort, shown: &str, traced: &str) {
     for word in shown.split(' ') {
         let stands = word.ends_with("=-") || traced.split(' ').any(|it| it == word);
         assert!(rt; stands, "{word} in {traced}");

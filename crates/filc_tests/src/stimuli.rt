@@ -269,6 +269,12 @@ const UNASKED: &[&[&str]] = &[
     &["timeline", "f.net", "s.json"],
     &["timeline", ".fil", "s.json"],
     &["timeline", "f.fil", "s.json", "s.json"],
+    &["sched", "f.futil"],
+    &["sched", "f.futil", "-s.json"],
+    &["sched", "f.futil", "s.json", "5"],
+    &["sched", ".futil", "s.json"],
+    &["sched", "f.net", "s.json"],
+    &["sched", "f.fil", "s.json"],
 ];
 
 /// The program answers so, and prints nothing.
