@@ -3,19 +3,24 @@
 use Rattle.std.specs.Prelude.{◌≡◌, ℕ, zero, suc, Bool, true, false, ◌||◌, cond, List, [], ◌∷◌, map, Option, Some, None}
 use Rattle.hw_names.specs.Name.{Text, text_of}
 use Rattle.hw_grammar.specs.declared.sort.Sort.{Sort}
-use Rattle.hw_grammar.specs.declared.sort.Sort.TheVariants.{Name, Import, Component, Cells, Wires, Control, Group, Comb, Seq, Par, If, Else, While, With, Invoke, At, LeftBracket, RightBracket, LeftParen, RightParen, LeftAngle, RightAngle, LeftBrace, RightBrace, Comma, Colon, Semicolon, Equals, Dot, Arrow, Question, Not, And, Or, EqualsEquals, NotEquals, AtMost, AtLeast}
+use Rattle.hw_grammar.specs.declared.sort.Sort.TheVariants.{Name, Import, Component, Cells, Wires, Control, Group, Comb, Seq, Par, If, Else, While, With}
+use Rattle.hw_grammar.specs.declared.sort.Sort.TheVariants.{Invoke, At, LeftBracket, RightBracket, LeftParen, RightParen, LeftAngle, RightAngle, LeftBrace}
+use Rattle.hw_grammar.specs.declared.sort.Sort.TheVariants.{RightBrace, Comma, Colon, Semicolon, Equals, Dot, Arrow, Question, Not, And, Or, EqualsEquals}
+use Rattle.hw_grammar.specs.declared.sort.Sort.TheVariants.{NotEquals, AtMost, AtLeast}
 use Rattle.hw_grammar.specs.declared.sort.Sort.TheVariants as sorts
 use Rattle.hw_grammar.specs.declared.terminal.Special.{Special}
 use Rattle.hw_grammar.specs.declared.terminal.Special.TheVariants.{External, Clock, Reset, Done, Plain}
 use Rattle.hw_grammar.specs.declared.terminal.Terminal.{Terminal}
-use Rattle.hw_grammar.specs.Grammar.{Lang, One, OneSpecial, Empty, Mapped, AnyWord, AnyNumber, AnyLiteral, Then, Either, Optional, After, Closed, Between, Many, Separated, Listed}
+use Rattle.hw_grammar.specs.Grammar.{Lang, One, OneSpecial, Empty, Mapped, AnyWord, AnyNumber, AnyLiteral, Then, Either, Optional, After, Closed, Between}
+use Rattle.hw_grammar.specs.Grammar.{Many, Separated, Listed}
 use Rattle.hw_prims.specs.Table.{Pin}
 use Rattle.net_core.specs.declared.net.Src.{Src}
 use Rattle.net_core.specs.declared.net.Src.TheVariants.{Port, Lit}
 use Rattle.net_core.specs.declared.net.Cmp.{Cmp}
 use Rattle.net_core.specs.declared.net.Cmp.TheVariants.{Eq, Neq, Lt, Gt, Le, Ge}
 use Rattle.net_core.specs.Guard.{GuardTree, Reads, Compares, Negates, AllOf, AnyOf, guards_of}
-use Rattle.cal_ast.specs.Tree.{PortName, own, port_of, CellDef, Assignment, DoneLine, GroupDef, InBinding, OutBinding, Statement, Statements, NoStatements, MoreStatements, ControlSection, Design}
+use Rattle.cal_ast.specs.Tree.{PortName, own, port_of, CellDef, Assignment, DoneLine, GroupDef, InBinding, OutBinding, Statement, Statements, NoStatements}
+use Rattle.cal_ast.specs.Tree.{MoreStatements, ControlSection, Design}
 use Rattle.cal_ast.specs.Tree as tree
 
 -- P, which leaves no trace, then Q

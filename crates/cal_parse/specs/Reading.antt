@@ -2,20 +2,28 @@
 use Rattle.std.specs.Prelude.{ℕ, zero, suc, Bool, true, false, cond, List, [], ◌∷◌, length, Option, Some, None, Result, Err}
 use Rattle.hw_names.specs.Name.{Text}
 use Rattle.hw_grammar.specs.declared.sort.Sort.{Sort}
-use Rattle.hw_grammar.specs.declared.sort.Sort.TheVariants.{Name, Number, Literal, Import, Component, Cells, Wires, Control, Group, Comb, Seq, Par, If, Else, While, With, Invoke, At, LeftBracket, RightBracket, LeftParen, RightParen, LeftAngle, RightAngle, LeftBrace, RightBrace, Comma, Colon, Semicolon, Equals, Dot, Arrow, Question, Not, And, Or, EqualsEquals, NotEquals, AtMost, AtLeast}
+use Rattle.hw_grammar.specs.declared.sort.Sort.TheVariants.{Name, Number, Literal, Import, Component, Cells, Wires, Control, Group, Comb, Seq, Par, If}
+use Rattle.hw_grammar.specs.declared.sort.Sort.TheVariants.{Else, While, With, Invoke, At, LeftBracket, RightBracket, LeftParen, RightParen, LeftAngle}
+use Rattle.hw_grammar.specs.declared.sort.Sort.TheVariants.{RightAngle, LeftBrace, RightBrace, Comma, Colon, Semicolon, Equals, Dot, Arrow, Question, Not}
+use Rattle.hw_grammar.specs.declared.sort.Sort.TheVariants.{And, Or, EqualsEquals, NotEquals, AtMost, AtLeast}
 use Rattle.hw_grammar.specs.declared.sort.Sort.TheVariants as sorts
 use Rattle.hw_grammar.specs.declared.terminal.Special.TheVariants.{Done}
 use Rattle.hw_grammar.specs.declared.terminal.Terminal.{Terminal}
 use Rattle.hw_grammar.specs.declared.end.ReadEnd.{ReadEnd}
 use Rattle.hw_grammar.specs.Sort.{same_sort, has}
-use Rattle.hw_grammar.specs.Reading.{Gives, Reader, one, one_special, empty, mapped, any_word, any_number, any_literal, then, then_by, either, optional, after, closed, between, many, separated, listed}
+use Rattle.hw_grammar.specs.Reading.{Gives, Reader, one, one_special, empty, mapped, any_word, any_number, any_literal, then, then_by, either, optional}
+use Rattle.hw_grammar.specs.Reading.{after, closed, between, many, separated, listed}
 use Rattle.hw_prims.specs.Table.{Pin}
 use Rattle.net_core.specs.declared.net.Cmp.{Cmp}
 use Rattle.net_core.specs.declared.net.Cmp.TheVariants.{Eq, Neq, Lt, Gt, Le, Ge}
 use Rattle.net_core.specs.Guard.{GuardTree, Reads, Compares, Negates, AllOf, AnyOf}
 use Rattle.cal_ast.specs.Tree.{PortName, CellDef, Assignment, DoneLine, GroupDef, InBinding, OutBinding, Statement, ControlSection, Design}
 use Rattle.cal_ast.specs.Tree as tree
-use Rattle.cal_parse.specs.Grammar.{port_from, Source, port_source, literal_from, Guard, read_from, negated_from, test_from, all_from, any_from, is_external, is_some_true, either_from, meant_from, MeantPin, pin_from, inputs_from, outputs_from, cell_from, assignment_from, done_from, GroupLine, AssignmentLine, LineOfDone, lines_from, group_from, Wire, GroupWire, AssignmentWire, wires_from, in_from, out_from, seq_from, par_from, branch_from, if_from, while_from, invoke_from, control_from, component_from, design_from}
+use Rattle.cal_parse.specs.Grammar.{port_from, Source, port_source, literal_from, Guard, read_from, negated_from, test_from, all_from, any_from}
+use Rattle.cal_parse.specs.Grammar.{is_external, is_some_true, either_from, meant_from, MeantPin, pin_from, inputs_from, outputs_from, cell_from}
+use Rattle.cal_parse.specs.Grammar.{assignment_from, done_from, GroupLine, AssignmentLine, LineOfDone, lines_from, group_from, Wire, GroupWire}
+use Rattle.cal_parse.specs.Grammar.{AssignmentWire, wires_from, in_from, out_from, seq_from, par_from, branch_from, if_from, while_from, invoke_from}
+use Rattle.cal_parse.specs.Grammar.{control_from, component_from, design_from}
 
 -- what a function returned is what reading gives, with whatever names
 abbrev pub GivesNamed : {X Y : Type 0} → (List Text → X → Y) → Result X ReadEnd → (List Text → Result Y (List Terminal)) → Type 0

@@ -9,7 +9,8 @@ use Rattle.hw_prims.specs.Table.{Pin}
 use Rattle.net_core.specs.declared.net.Src.{Src}
 use Rattle.net_core.specs.declared.net.Src.TheVariants.{Port, Lit}
 use Rattle.net_core.specs.Guard.{GuardTree, Reads, Compares, Negates, AllOf, AnyOf, GuardTrees, NoGuards, MoreGuards}
-use Rattle.cal_ast.specs.Tree.{PortName, CellDef, Assignment, DoneLine, GroupDef, InBinding, OutBinding, Statement, Enable, Seq, Par, If, While, Invoke, Statements, NoStatements, MoreStatements, ControlSection, Absent, Empty, Body, Component, Design}
+use Rattle.cal_ast.specs.Tree.{PortName, CellDef, Assignment, DoneLine, GroupDef, InBinding, OutBinding, Statement, Enable, Seq, Par, If, While, Invoke}
+use Rattle.cal_ast.specs.Tree.{Statements, NoStatements, MoreStatements, ControlSection, Absent, Empty, Body, Component, Design}
 
 abbrev pub IsCalName : Text → Type 0
 IsCalName = IsNameOf Cal

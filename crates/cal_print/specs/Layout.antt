@@ -8,7 +8,8 @@ use Rattle.net_core.specs.declared.net.Src.TheVariants.{Port, Lit}
 use Rattle.net_core.specs.declared.net.Cmp.{Cmp}
 use Rattle.net_core.specs.declared.net.Cmp.TheVariants.{Eq, Neq, Lt, Gt, Le, Ge}
 use Rattle.net_core.specs.Guard.{GuardTree, Reads, Compares, Negates, AllOf, AnyOf, GuardTrees, NoGuards, MoreGuards}
-use Rattle.cal_ast.specs.Tree.{PortName, CellDef, Assignment, DoneLine, GroupDef, InBinding, OutBinding, Statement, Enable, Seq, Par, If, While, Invoke, Statements, NoStatements, MoreStatements, ControlSection, Absent, Empty, Body, Component, Design}
+use Rattle.cal_ast.specs.Tree.{PortName, CellDef, Assignment, DoneLine, GroupDef, InBinding, OutBinding, Statement, Enable, Seq, Par, If, While, Invoke}
+use Rattle.cal_ast.specs.Tree.{Statements, NoStatements, MoreStatements, ControlSection, Absent, Empty, Body, Component, Design}
 
 -- ---- lists, lines and blocks
 

@@ -17,7 +17,8 @@ IsDuring o event offset = (i : Interval) × (o ≡ Some i) × IsIn i event offse
 
 -- available exactly in the interval, if there is one
 abbrev pub ShowsDuring : List Text → Option Interval → Available → Type 0
-ShowsDuring events o available = (event : ℕ) (name : Text) (offset : ℕ) → slice_get events event ≡ Some name → IsAt available event offset ↔ IsDuring o name offset
+ShowsDuring events o available = (event : ℕ) (name : Text) (offset : ℕ) → slice_get events event ≡ Some name →
+    IsAt available event offset ↔ IsDuring o name offset
 
 -- the least offset of the interval at which the value is not available
 pub record IsMissingIn (scope : Scope) (value : ValueTree) (interval : Option Interval) (offset : ℕ) : Type 0 where

@@ -10,4 +10,5 @@ use Rattle.fil_sig.specs.declared.time_sig.SigPort.{SigPort}
 -- each argument that has a port has its width
 abbrev pub AreWide : Scope → List Text → List SigPort → List Value → Type 0
 AreWide scope names ports args =
-    (k : ℕ) (arg : Value) (port : SigPort) → slice_get args k ≡ Some arg → slice_get ports k ≡ Some port → value_width scope (value_tree names arg) ≡ Some port.width
+    (k : ℕ) (arg : Value) (port : SigPort) → slice_get args k ≡ Some arg → slice_get ports k ≡ Some port →
+    value_width scope (value_tree names arg) ≡ Some port.width

@@ -19,8 +19,10 @@ pub record KeepsTimes (scope : Scope) (sig : Signature) (inst : Text) (gives : G
 -- the least of the three rules that the invocation breaks, with its evidence
 pub data IsBroken (scope : Scope) (sig : Signature) (inst : Text) (gives : Giving) (rule : ℕ) (evidence : shown.Evidence) : Type 0 where
   HoldsNone : ¬ HoldsSome sig gives.times → rule ≡ 7 → evidence ≡ shown.Nothing → IsBroken scope sig inst gives rule evidence
-  Misses : HoldsSome sig gives.times → (offset : ℕ) → IsMissingOffset scope sig gives offset → rule ≡ 8 → evidence ≡ shown.AnOffset offset → IsBroken scope sig inst gives rule evidence
-  Outlasts : HoldsSome sig gives.times → ReadsAvailable scope sig gives → ¬ KeepsDelays scope sig inst gives → rule ≡ 10 → evidence ≡ shown.Nothing → IsBroken scope sig inst gives rule evidence
+  Misses : HoldsSome sig gives.times → (offset : ℕ) → IsMissingOffset scope sig gives offset → rule ≡ 8 → evidence ≡ shown.AnOffset offset →
+      IsBroken scope sig inst gives rule evidence
+  Outlasts : HoldsSome sig gives.times → ReadsAvailable scope sig gives → ¬ KeepsDelays scope sig inst gives → rule ≡ 10 → evidence ≡ shown.Nothing →
+      IsBroken scope sig inst gives rule evidence
 
 abbrev pub TellsTimes : Scope → Signature → Text → Giving → ItemEnd → Type 0
 TellsTimes scope sig inst gives (Broken broken) = IsBroken scope sig inst gives broken.rule (evidence_of broken.evidence)

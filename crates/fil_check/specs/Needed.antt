@@ -67,7 +67,8 @@ MeetingIsReal =
 -- twice in the row that is told, where they start as far apart as is told
 abbrev pub GapIsReal : Type 0
 GapIsReal =
-    (scope : Scope) (v : Invocation) (gap cycle : ℕ) → AreHeld (with_invocation scope v) → AreDistinct (event_names scope.comp) → HasShape scope.comp → KeepsApart scope v →
+    (scope : Scope) (v : Invocation) (gap cycle : ℕ) → AreHeld (with_invocation scope v) → AreDistinct (event_names scope.comp) → HasShape scope.comp →
+    KeepsApart scope v →
     (first : IsGap scope v gap cycle) →
     Collide (with_invocation scope v) (gap_starts first.first.at.event gap) v.inst first.event cycle
 

@@ -24,7 +24,8 @@ pub record AreShared (scope : Scope) (u w : Use) : Type 0 where
 -- so do all uses by two invocations of one instance
 abbrev pub SharesWell : Scope → Type 0
 SharesWell scope =
-    (i j : ℕ) (v w : Invocation) (u x : Use) → i < j → slice_get scope.invocations i ≡ Some v → slice_get scope.invocations j ≡ Some w → IsUseOf scope v u → IsUseOf scope w x → u.inst ≡ x.inst → u.event ≡ x.event → AreShared scope u x
+    (i j : ℕ) (v w : Invocation) (u x : Use) → i < j → slice_get scope.invocations i ≡ Some v → slice_get scope.invocations j ≡ Some w → IsUseOf scope v u →
+    IsUseOf scope w x → u.inst ≡ x.inst → u.event ≡ x.event → AreShared scope u x
 
 pub record StandsAt (names : List Text) (earlier : Earlier) (comp : FilComp) (tables : Tables) (scope : Scope) (before : List Statement) : Type 0 where
   pub place : IsPlace names earlier comp tables scope

@@ -31,4 +31,5 @@ ReachesInputs names ports reads comp output numbers =
 -- so of each output
 abbrev pub AreReached : List Text → List Text → List (List ℕ) → FilComp → Vec (Vec ℕ Global) Global → Type 0
 AreReached names ports reads comp inputs =
-    (o : ℕ) (output : FilPort) (numbers : Vec ℕ Global) → slice_get comp.outs.items o ≡ Some output → slice_get inputs.items o ≡ Some numbers → ReachesInputs names ports reads comp output numbers
+    (o : ℕ) (output : FilPort) (numbers : Vec ℕ Global) → slice_get comp.outs.items o ≡ Some output → slice_get inputs.items o ≡ Some numbers →
+    ReachesInputs names ports reads comp output numbers

@@ -20,7 +20,8 @@ use Rattle.fil_check.specs.declared.tables.Tables.{Tables}
 use Rattle.fil_check.specs.declared.times.Offset.{Offset}
 
 -- the invocation stands at these times, after those with these numbers of its instance, in a scope that keeps the rules
-pub record IsInvoked (names : List Text) (comp : FilComp) (tables : Tables) (calls : List ℕ) (sig : Signature) (at : List Offset) (with : Scope) (v : Invocation) : Type 0 where
+pub record IsInvoked (names : List Text) (comp : FilComp) (tables : Tables) (calls : List ℕ) (sig : Signature) (at : List Offset) (with : Scope)
+    (v : Invocation) : Type 0 where
   pub is_comp : with.comp ≡ component_tree names comp
   pub events : tables.events ≡ event_names with.comp
   pub distinct : AreDistinct tables.events
@@ -41,7 +42,8 @@ pub record KeepsSharing (with : Scope) (v : Invocation) : Type 0 where
 -- the least of the three rules that the invocation breaks, with what it shows
 pub data IsUnshared (with : Scope) (v : Invocation) (rule : ℕ) (evidence : shown.Evidence) : Type 0 where
   Meets : ¬ KeepsApart with v → (cycle : ℕ) → IsMeetingCycle with v cycle → rule ≡ 11 → evidence ≡ shown.ACycle cycle → IsUnshared with v rule evidence
-  Overruns : KeepsApart with v → ¬ EndsInTime with v → (gap cycle : ℕ) → IsGap with v gap cycle → rule ≡ 12 → evidence ≡ shown.AGap gap cycle → IsUnshared with v rule evidence
+  Overruns : KeepsApart with v → ¬ EndsInTime with v → (gap cycle : ℕ) → IsGap with v gap cycle → rule ≡ 12 → evidence ≡ shown.AGap gap cycle →
+      IsUnshared with v rule evidence
   Unmarked : KeepsApart with v → EndsInTime with v → ¬ TriggersWithInterface with v → rule ≡ 13 → evidence ≡ shown.Nothing → IsUnshared with v rule evidence
 
 abbrev pub TellsSharing : Scope → Invocation → ItemEnd → Type 0

@@ -44,4 +44,5 @@ TellsFrom keeps shows from Memory = Unit {0}
 -- each use by the statement's invocation, if it has one, is held for a row or more
 abbrev pub HoldsUses : Scope → Statement → Type 0
 HoldsUses scope s =
-    (v : Invocation) (sig : Signature) (u : Use) → Contains (invocations_at s) v → signature_at scope s ≡ Some sig → IsUse sig v.inst v.gives.times u → 0 < u.hold
+    (v : Invocation) (sig : Signature) (u : Use) → Contains (invocations_at s) v → signature_at scope s ≡ Some sig → IsUse sig v.inst v.gives.times u →
+    0 < u.hold

@@ -1,5 +1,6 @@
 -- That the tables of a place show what its names mean. This project's.
-use Rattle.std.specs.Prelude.{◌≡◌, ℕ, suc, List, [], ◌∷◌, ◌++◌, map, length, slice_get, slice_set, slice_index_or, if◌then◌else◌, bytes_eq, Option, Some, None, Vec, option_and_then}
+use Rattle.std.specs.Prelude.{◌≡◌, ℕ, suc, List, [], ◌∷◌, ◌++◌, map, length, slice_get, slice_set, slice_index_or, if◌then◌else◌, bytes_eq, Option, Some}
+use Rattle.std.specs.Prelude.{None, Vec, option_and_then}
 use Rattle.std.specs.declared.alloc.Global.{Global}
 use Rattle.hw_names.specs.Name.{Text, AreDistinct}
 use Rattle.fil_ast.specs.Naming.{component_names, event_names, port_names, instance_names, invocation_names}

@@ -31,4 +31,5 @@ HoldsAt delay times k = delay ≡ Gap → (s t : TimeAt) → slice_get times k �
 
 -- F10 of event k of a callee
 abbrev pub KeepsDelayAt : Component → Delay → List TimeAt → ℕ → Type 0
-KeepsDelayAt c delay times k = (time : TimeAt) (hold : ℕ) → IsUseAt delay times k time hold → (e : Event) → Contains c.events e → e.name ≡ time.event → hold ≤ e.delay
+KeepsDelayAt c delay times k = (time : TimeAt) (hold : ℕ) → IsUseAt delay times k time hold → (e : Event) → Contains c.events e → e.name ≡ time.event →
+    hold ≤ e.delay

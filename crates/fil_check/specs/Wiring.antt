@@ -11,7 +11,8 @@ use Rattle.fil_check.specs.declared.wires.WireEnd.TheVariants.{Loop, Memory}
 -- for each output of the component, by its number, the numbers of the inputs on which it depends
 pub record DependsOn (earlier : Design) (c : Component) (wires : Wires) : Type 0 where
   pub all : length wires.inputs.items ≡ length c.outs
-  pub each : (o i : ℕ) (output input : DataPort) (inputs : Vec ℕ Global) → slice_get c.outs o ≡ Some output → slice_get c.ins i ≡ Some input → slice_get wires.inputs.items o ≡ Some inputs
+  pub each : (o i : ℕ) (output input : DataPort) (inputs : Vec ℕ Global) → slice_get c.outs o ≡ Some output → slice_get c.ins i ≡ Some input →
+      slice_get wires.inputs.items o ≡ Some inputs
       → Contains inputs.items i ↔ Reaches (through_before earlier) (whole_scope earlier c) input.name output.name
 
 -- this of each of the components

@@ -1,6 +1,7 @@
 -- How transactions drive the inputs of their component's netlist: interface ports are 1 in the rows of starts, data inputs have their values in their
 -- intervals, and the low bits of the idle number elsewhere. This project's, after Filament, PLDI 2023.
-use Rattle.std.specs.Prelude.{◌≡◌, ℕ, suc, ◌+◌, ◌%◌, ◌^◌, ◌==◌, ◌&&◌, nat_le, nat_lt, Bool, false, List, [], ◌∷◌, ◌++◌, map, find, bytes_eq, if◌then◌else◌, Option, Some, None, IsSome, All}
+use Rattle.std.specs.Prelude.{◌≡◌, ℕ, suc, ◌+◌, ◌%◌, ◌^◌, ◌==◌, ◌&&◌, nat_le, nat_lt, Bool, false, List, [], ◌∷◌, ◌++◌, map, find, bytes_eq, if◌then◌else◌}
+use Rattle.std.specs.Prelude.{Option, Some, None, IsSome, All}
 use Rattle.std.specs.List.{list_any}
 use Rattle.std.specs.Option.{option_map_or}
 use Rattle.hw_names.specs.Name.{Text}

@@ -63,7 +63,8 @@ pub record IsBody (earlier : Earlier) (scope : Scope) (held : List ValueTree) (b
   pub invocations : body.invocations ≡ invocation_names scope.invocations
   pub invoked : AllZip (Calls earlier scope.instances) scope.invocations body.invoked.items
   pub input_places : (place : ℕ) (name : Text) → slice_get body.inputs place ≡ Some name → slice_get held place ≡ Some (InputValue name)
-  pub output_places : (n k : ℕ) (invocation port : Text) (v : Invoked) → slice_get body.invocations n ≡ Some invocation → slice_get body.invoked.items n ≡ Some v
+  pub output_places : (n k : ℕ) (invocation port : Text) (v : Invoked) → slice_get body.invocations n ≡ Some invocation →
+      slice_get body.invoked.items n ≡ Some v
       → slice_get (outputs_of earlier v.callee) k ≡ Some port → slice_get held (v.first + k) ≡ Some (OutputValue invocation port)
   pub places : body.places ≡ length held
   -- an invocation has fewer than 2 ^ 32 outputs, and a place is a number of 64 bits

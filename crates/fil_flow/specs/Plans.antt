@@ -1,5 +1,6 @@
 -- What a plan gives on values, and that the widths in it fit. This project's.
-use Rattle.std.specs.Prelude.{◌≡◌, ℕ, ◌+◌, List, [], ◌∷◌, ◌++◌, ◌==◌, map, filter, take, slice_index, slice_get, length, Option, Some, true, Bool, if◌then◌else◌}
+use Rattle.std.specs.Prelude.{◌≡◌, ℕ, ◌+◌, List, [], ◌∷◌, ◌++◌, ◌==◌, map, filter, take, slice_index, slice_get, length, Option, Some, true, Bool}
+use Rattle.std.specs.Prelude.{if◌then◌else◌}
 use Rattle.std.specs.List.{sum_by}
 use Rattle.hw_prims.specs.Filament.{is_data_pin, primitive_flow}
 use Rattle.hw_prims.specs.Meaning.{is_stateless}

@@ -27,8 +27,11 @@ outputs_of c = map (λ (p : DataPort). pin p.name p.width) c.outs
 
 -- the instance at a path below component n
 pub data IsInstanceAt (comps : Design) (i : Instance) : ℕ → Path → Type 0 where
-  Own : (n : ℕ) (c : Component) (inst : Text) → slice_get comps n ≡ Some c → instance_named (whole_scope (take n comps) c).instances inst ≡ Some i → IsInstanceAt comps i n (inst ∷ [])
-  Below : (n m : ℕ) (c d : Component) (inst : Text) (j : Instance) (path : Path) → slice_get comps n ≡ Some c → instance_named (whole_scope (take n comps) c).instances inst ≡ Some j → is_filament_primitive j.made ≡ false → m < n → slice_get comps m ≡ Some d → d.name ≡ j.made → IsInstanceAt comps i m path → IsInstanceAt comps i n (inst ∷ path)
+  Own : (n : ℕ) (c : Component) (inst : Text) → slice_get comps n ≡ Some c → instance_named (whole_scope (take n comps) c).instances inst ≡ Some i →
+      IsInstanceAt comps i n (inst ∷ [])
+  Below : (n m : ℕ) (c d : Component) (inst : Text) (j : Instance) (path : Path) → slice_get comps n ≡ Some c →
+      instance_named (whole_scope (take n comps) c).instances inst ≡ Some j → is_filament_primitive j.made ≡ false → m < n → slice_get comps m ≡ Some d →
+      d.name ≡ j.made → IsInstanceAt comps i m path → IsInstanceAt comps i n (inst ∷ path)
 
 -- the names of a path, joined by dots
 abbrev pub joined : Path → Text
@@ -50,7 +53,8 @@ IsInstanceCell comps number line =
 
 -- each primitive instance, at each path, is a cell of its dotted name, and each other cell has a name that lowering makes
 pub record HasInstanceCells (comps : Design) (number : ℕ) (n : Netlist) : Type 0 where
-  pub all : (path : Path) (i : Instance) (table : Text) → IsInstanceAt comps i number path → table_name i.made ≡ Some table → Contains n.cells (instance_cell path table i)
+  pub all : (path : Path) (i : Instance) (table : Text) → IsInstanceAt comps i number path → table_name i.made ≡ Some table →
+      Contains n.cells (instance_cell path table i)
   pub only : (line : CellLine) → Contains n.cells line → IsInstanceCell comps number line ⊎ IsMadeByLowering line.name
 
 -- the rows carry the transactions at the inputs and the outputs of the instance at the path
@@ -72,7 +76,8 @@ pub record CarriesList (comps : Design) (number : ℕ) (circuit : Circuit) (txs 
 -- so does each run of the circuit whose inputs carry a legal list of transactions of component `number`
 abbrev pub CarriesLists : Design → ℕ → Component → Circuit → Type 0
 CarriesLists comps number c circuit =
-    (txs : List Transaction) → IsLegal (component_behaviour (take number comps) c).sig txs → All (HasOwnValues (component_behaviour (take number comps) c)) txs →
+    (txs : List Transaction) → IsLegal (component_behaviour (take number comps) c).sig txs →
+    All (HasOwnValues (component_behaviour (take number comps) c)) txs →
     (asked : ℕ) (inputs : Trace) (loads : Text → List ℕ) (height : ℕ) (trace : Trace) → IsRun circuit asked inputs loads height trace →
     GiveInputs (component_behaviour (take number comps) c) asked inputs txs → CarriesList comps number circuit txs asked height trace
 

@@ -45,15 +45,19 @@ pub record IsLowered (plan : Plan) (run : LoweredRun) : Type 0 where
       run.trace r (run.cell inst p.name)
       ≡ settled (values_where (drives run inst p.name r) (λ (call : Use). source_in run (run.trace r) (call.args p.name)) plan.uses)
   -- an argument on an event with an interface port drives exactly in the rows of the input's interval after a start
-  pub fed : (r : ℕ) → r < run.height → (call : Use) → Contains plan.uses call → (slot : Slot) → Contains call.slots slot → (p : TimedPort) → Contains (plan.callee call.inst).sig.ins p → p.event ≡ slot.target →
+  pub fed : (r : ℕ) → r < run.height → (call : Use) → Contains plan.uses call → (slot : Slot) → Contains call.slots slot → (p : TimedPort) →
+      Contains (plan.callee call.inst).sig.ins p → p.event ≡ slot.target →
       (event : TimedEvent) (go : Text) → IsEvent plan.sig slot.event event → event.go ≡ Some go →
       (run.feeds call p.name r ≡ true) ↔ ((u : ℕ) × StartsIn plan run slot.event u × (u + slot.plus + p.from ≤ r) × (r < u + slot.plus + end_of p slot.hold))
   -- and on an event without one in all rows
-  pub always : (r : ℕ) → r < run.height → (call : Use) → Contains plan.uses call → (slot : Slot) → Contains call.slots slot → (p : TimedPort) → Contains (plan.callee call.inst).sig.ins p → p.event ≡ slot.target →
+  pub always : (r : ℕ) → r < run.height → (call : Use) → Contains plan.uses call → (slot : Slot) → Contains call.slots slot → (p : TimedPort) →
+      Contains (plan.callee call.inst).sig.ins p → p.event ≡ slot.target →
       (event : TimedEvent) → IsEvent plan.sig slot.event event → event.go ≡ None → run.feeds call p.name r ≡ true
   -- an interface port of an instance is 1 exactly where an invocation starts its event
-  pub started : (r : ℕ) → r < run.height → (inst : Text) (n : ℕ) (event : TimedEvent) (go : Text) → IsEvent (plan.callee inst).sig n event → event.go ≡ Some go →
+  pub started : (r : ℕ) → r < run.height → (inst : Text) (n : ℕ) (event : TimedEvent) (go : Text) → IsEvent (plan.callee inst).sig n event →
+      event.go ≡ Some go →
       (run.trace r (run.cell inst go) ≡ 1)
       ↔ ((call : Use) × Contains plan.uses call × (call.inst ≡ inst) × (slot : Slot) × Contains call.slots slot × (slot.target ≡ n) × (u : ℕ) × (u + slot.plus ≡ r) × StartsIn plan run slot.event u)
   -- an output has the value that it is connected to
-  pub connected : (r : ℕ) → r < run.height → (p : TimedPort) → Contains plan.sig.outs p → run.trace r (run.own p.name) ≡ source_in run (run.trace r) (plan.outputs p.name)
+  pub connected : (r : ℕ) → r < run.height → (p : TimedPort) → Contains plan.sig.outs p →
+      run.trace r (run.own p.name) ≡ source_in run (run.trace r) (plan.outputs p.name)

@@ -19,7 +19,9 @@ use Rattle.fil_lower.specs.PlanOf.{plan_of}
 -- with component `top` at the empty path, component n stands at this path
 pub data Stands (comps : Design) (top : ℕ) : ℕ → Path → Type 0 where
   AtTop : Stands comps top top []
-  Within : (n m : ℕ) (path : Path) (c d : Component) (inst : Text) (i : Instance) → Stands comps top n path → slice_get comps n ≡ Some c → instance_named (whole_scope (take n comps) c).instances inst ≡ Some i → is_filament_primitive i.made ≡ false → m < n → slice_get comps m ≡ Some d → d.name ≡ i.made → Stands comps top m (path ++ inst ∷ [])
+  Within : (n m : ℕ) (path : Path) (c d : Component) (inst : Text) (i : Instance) → Stands comps top n path → slice_get comps n ≡ Some c →
+      instance_named (whole_scope (take n comps) c).instances inst ≡ Some i → is_filament_primitive i.made ≡ false → m < n → slice_get comps m ≡ Some d →
+      d.name ≡ i.made → Stands comps top m (path ++ inst ∷ [])
 
 -- the rows of the component at a path
 abbrev pub run_at : Path → (Use → Text → ℕ → Bool) → ℕ → Trace → LoweredRun
@@ -29,8 +31,10 @@ run_at path feeds height trace = record { own = full_name path; cell = λ inst. 
 pub record IsLoweredDesign (comps : Design) (top height : ℕ) (trace : Trace) : Type 0 where
   pub components : (n : ℕ) (path : Path) (c : Component) → Stands comps top n path → slice_get comps n ≡ Some c →
       (feeds : Use → Text → ℕ → Bool) × IsLowered (plan_of (take n comps) c) (run_at path feeds height trace)
-  pub primitives : (n : ℕ) (path : Path) (c : Component) (inst : Text) (i : Instance) (prim : Primitive) → Stands comps top n path → slice_get comps n ≡ Some c →
-      instance_named (whole_scope (take n comps) c).instances inst ≡ Some i → filament_primitive i.made i.params ≡ Some prim → IsCell prim (full_name (path ++ inst ∷ [])) height trace
+  pub primitives : (n : ℕ) (path : Path) (c : Component) (inst : Text) (i : Instance) (prim : Primitive) → Stands comps top n path →
+      slice_get comps n ≡ Some c →
+      instance_named (whole_scope (take n comps) c).instances inst ≡ Some i → filament_primitive i.made i.params ≡ Some prim →
+      IsCell prim (full_name (path ++ inst ∷ [])) height trace
 
 -- in a lowered design that keeps the rules, each component is timed, wherever it stands
 abbrev pub ComponentsAreTimed : Type 0

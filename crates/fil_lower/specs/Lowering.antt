@@ -1,6 +1,7 @@
 -- What a Filament component is lowered to: a bare Calyx component, with a cell for each instance, a shift register for each event with an interface port,
 -- and arguments under guards of its bits. Filament, PLDI 2023; the form is this project's.
-use Rattle.std.specs.Prelude.{◌≡◌, ℕ, zero, suc, ◌-◌, ◌==◌, ◌&&◌, false, List, [], ◌∷◌, ◌++◌, length, map, flat_map, filter, max, take, slice_get, slice_index_or, bytes_eq, Option, Some, None, option_map, option_and_then, unwrap_or, if◌then◌else◌, All, Contains}
+use Rattle.std.specs.Prelude.{◌≡◌, ℕ, zero, suc, ◌-◌, ◌==◌, ◌&&◌, false, List, [], ◌∷◌, ◌++◌, length, map, flat_map, filter, max, take, slice_get}
+use Rattle.std.specs.Prelude.{slice_index_or, bytes_eq, Option, Some, None, option_map, option_and_then, unwrap_or, if◌then◌else◌, All, Contains}
 use Rattle.std.specs.List.{fold}
 use Rattle.std.specs.Option.{option_map_or}
 use Rattle.hw_names.specs.Name.{Text, IsPlain, AreDistinct}
@@ -190,4 +191,5 @@ pub record IsLoweredTo (earlier : Design) (c : Component) (low : calyx.Component
 -- the design is lowered component by component, in their order
 pub record IsLoweringOf (comps : Design) (design : calyx.Design) : Type 0 where
   pub count : length design ≡ length comps
-  pub components : (n : ℕ) (c : Component) (low : calyx.Component) → slice_get comps n ≡ Some c → slice_get design n ≡ Some low → IsLoweredTo (take n comps) c low
+  pub components : (n : ℕ) (c : Component) (low : calyx.Component) → slice_get comps n ≡ Some c → slice_get design n ≡ Some low →
+      IsLoweredTo (take n comps) c low

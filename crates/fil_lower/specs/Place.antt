@@ -1,5 +1,6 @@
 -- That tables show what the body of a component says, and the ports of its bits. This project's.
-use Rattle.std.specs.Prelude.{◌≡◌, ◌≢◌, ℕ, ◌+◌, ◌<◌, ◌≤◌, ◌==◌, List, [], ◌∷◌, ◌++◌, length, map, filter, flat_map, fold, max, take, slice_get, bytes_eq, Bool, Option, Some, None, All, Contains, Vec}
+use Rattle.std.specs.Prelude.{◌≡◌, ◌≢◌, ℕ, ◌+◌, ◌<◌, ◌≤◌, ◌==◌, List, [], ◌∷◌, ◌++◌, length, map, filter, flat_map, fold, max, take, slice_get, bytes_eq}
+use Rattle.std.specs.Prelude.{Bool, Option, Some, None, All, Contains, Vec}
 use Rattle.std.specs.declared.alloc.Global.{Global}
 use Rattle.std.specs.Option.{option_map_or}
 use Rattle.hw_names.specs.Name.{Text, IsPlain, AreDistinct, KeepsTexts, text_of}

@@ -4,7 +4,8 @@ use Rattle.std.specs.Prelude.{ℕ, List}
 use Rattle.hw_prims.specs.Row.{Text}
 use Rattle.hw_prims.specs.Timed.{Behaviour, TimedSignature, Values}
 
--- what an invocation puts in the place of the callee's event `target`: it starts it `plus` rows after the component's event `event`, and holds it for `hold` rows
+-- what an invocation puts in the place of the callee's event `target`: it starts it `plus` rows after the component's event `event`, and holds it for
+-- `hold` rows
 pub record Slot : Type 0 where
   pub target : ℕ
   pub event : ℕ

@@ -1,5 +1,6 @@
 -- What a component keeps, over its resolved form, and the transactions that it gives its instances. Filament, PLDI 2023; the laws are this project's.
-use Rattle.std.specs.Prelude.{◌≡◌, ◌≢◌, ◌⊎◌, ℕ, ◌+◌, ◌≤◌, ◌<◌, ◌==◌, false, List, [], ◌∷◌, flat_map, slice_get, if◌then◌else◌, bytes_eq, Some, AllPairs, Contains}
+use Rattle.std.specs.Prelude.{◌≡◌, ◌≢◌, ◌⊎◌, ℕ, ◌+◌, ◌≤◌, ◌<◌, ◌==◌, false, List, [], ◌∷◌, flat_map, slice_get, if◌then◌else◌, bytes_eq, Some, AllPairs}
+use Rattle.std.specs.Prelude.{Contains}
 use Rattle.hw_prims.specs.Row.{Text}
 use Rattle.hw_prims.specs.Timed.{Fixed, TimedEvent, TimedPort, TimedSignature, Transaction, HasDelay, end_of}
 use Rattle.fil_lower.specs.Plan.{Slot, Source, Input, Literal, Output, Use, Plan, value_of}
@@ -63,12 +64,14 @@ pub record IsWellTimed (plan : Plan) : Type 0 where
   pub short : (call : Use) → Contains plan.uses call → IsShort (plan.callee call.inst).sig
   -- an invocation starts each event that an input of its callee goes by, and no event twice
   pub triggered : (call : Use) → Contains plan.uses call → (slot : Slot) → Contains call.slots slot → IsTriggered plan (plan.callee call.inst).sig slot
-  pub each : (call : Use) → Contains plan.uses call → (p : TimedPort) → Contains (plan.callee call.inst).sig.ins p → (slot : Slot) × Contains call.slots slot × (slot.target ≡ p.event)
+  pub each : (call : Use) → Contains plan.uses call → (p : TimedPort) → Contains (plan.callee call.inst).sig.ins p →
+      (slot : Slot) × Contains call.slots slot × (slot.target ≡ p.event)
   pub once : (call : Use) → Contains plan.uses call → AllPairs (λ (s t : Slot). s.target ≢ t.target) call.slots
   pub shared : AllPairs (AreShared plan) plan.uses
   -- an argument is there in each row in which its callee needs it
   pub scoped : (call : Use) → Contains plan.uses call → (port : Text) → IsOfUse plan (call.args port)
-  pub needs : (call : Use) → Contains plan.uses call → (slot : Slot) → Contains call.slots slot → (p : TimedPort) → Contains (plan.callee call.inst).sig.ins p → p.event ≡ slot.target →
+  pub needs : (call : Use) → Contains plan.uses call → (slot : Slot) → Contains call.slots slot → (p : TimedPort) →
+      Contains (plan.callee call.inst).sig.ins p → p.event ≡ slot.target →
       (i : ℕ) → slot.plus + p.from ≤ i → i < slot.plus + end_of p slot.hold → IsAvailable plan (call.args p.name) slot.event i
   -- what an output is connected to is there in each row in which the output is promised
   pub outputs_scoped : (port : Text) → IsOfUse plan (plan.outputs port)

@@ -77,7 +77,8 @@ pub record IsLineCutShort (words : List Text) (contents : Contents) (out out' er
   pub part : AppendsPrefix err err' (as_line outcome.line)
 
 -- the line of a read fault was cut short
-pub record IsReadFaultCutShort (words : List Text) (contents : Contents) (names : List Text) (before after : Text → ℕ) (out out' err err' : Option Text) : Type 0 where
+pub record IsReadFaultCutShort (words : List Text) (contents : Contents) (names : List Text) (before after : Text → ℕ) (out out' err err' : Option Text)
+    : Type 0 where
   pub r : Request
   pub asks : Asks words r
   pub file : Text
@@ -86,10 +87,13 @@ pub record IsReadFaultCutShort (words : List Text) (contents : Contents) (names 
   pub part : AppendsPrefix err err' (as_line (read_fault_line file))
 
 -- writing failed: in the report, in the line of an outcome, or in the line of a read fault; the sink that failed is the one whose count rose
-pub data HasWriteFault (words : List Text) (contents : Contents) (names : List Text) (before after : Text → ℕ) (out out' err err' : Option Text) (out_rose err_rose : Type 0) : Type 0 where
-  InReport : out_rose → HasPartOfReport words contents out out' → Keeps err err' → HasWriteFault words contents names before after out out' err err' out_rose err_rose
+pub data HasWriteFault (words : List Text) (contents : Contents) (names : List Text) (before after : Text → ℕ) (out out' err err' : Option Text)
+    (out_rose err_rose : Type 0) : Type 0 where
+  InReport : out_rose → HasPartOfReport words contents out out' → Keeps err err' →
+      HasWriteFault words contents names before after out out' err err' out_rose err_rose
   InLine : err_rose → IsLineCutShort words contents out out' err err' → HasWriteFault words contents names before after out out' err err' out_rose err_rose
-  InReadFault : err_rose → IsReadFaultCutShort words contents names before after out out' err err' → HasWriteFault words contents names before after out out' err err' out_rose err_rose
+  InReadFault : err_rose → IsReadFaultCutShort words contents names before after out out' err err' →
+      HasWriteFault words contents names before after out out' err err' out_rose err_rose
 
 -- ---- completeness
 

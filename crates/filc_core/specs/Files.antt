@@ -42,7 +42,8 @@ pub record HasReadCause (r : Request) (contents : Contents) (names : List Text) 
   pub fault : IsReadFault names file (before file) (after file)
 
 -- Nothing of the files changes but the counts of faults of the files that are read, and these don't fall.
-pub record KeepsFilesBut {F : Type 0} (is_read : Text → Type 0) (names : F → List Text) (contents : F → Contents) (faults : F → Text → ℕ) (old new : F) : Type 0 where
+pub record KeepsFilesBut {F : Type 0} (is_read : Text → Type 0) (names : F → List Text) (contents : F → Contents) (faults : F → Text → ℕ) (old new : F)
+    : Type 0 where
   pub names_kept : names new ≡ names old
   pub contents_kept : (file : Text) → contents new file ≡ contents old file
   pub others_kept : (file : Text) → (is_read file → ⊥) → faults new file ≡ faults old file

@@ -20,13 +20,15 @@ HasReadStimulus contents r (Err (Refused why)) = IsDesignAccepted contents r ⊎
 HasReadStimulus contents r (Err why) = ⊥
 
 -- the files before and after, what is told of them; the result; and the sink of the report before and after, what was written and its count
-pub record Performs {F : Type 0} (r : Request) (names : F → List Text) (contents : F → Contents) (faults : F → Text → ℕ) (old new : F) (result : Result (Unit {0}) Stop) (out out' : Option Text) (before after : ℕ) : Type 0 where
+pub record Performs {F : Type 0} (r : Request) (names : F → List Text) (contents : F → Contents) (faults : F → Text → ℕ) (old new : F)
+    (result : Result (Unit {0}) Stop) (out out' : Option Text) (before after : ℕ) : Type 0 where
   pub files : KeepsFilesBut (MayBeRead (contents old) r) names contents faults old new
   pub leaves : IsToldFor (contents old) r → Leaves ((command_of r).makes (contents old)) ((command_of r).comes (contents old)) result out out'
   pub stops : IfErr result (command_of r).stops
   pub known : (file : Text) → IsDesignOf r file → KnowsFile (names old) file result
   pub known_stimulus : (file : Text) → IsStimulusOf r file → HasReadStimulus (contents old) r result → Contains (names old) file
   pub read_fault : IsErrOf result ReadFault → HasReadCause r (contents old) (names old) (faults old) (faults new) (design_name r) × Keeps out out'
-  pub stimulus_read_fault : IsErrOf result StimulusReadFault → HasReadCause r (contents old) (names old) (faults old) (faults new) (stimulus_name r) × Keeps out out'
+  pub stimulus_read_fault : IsErrOf result StimulusReadFault →
+      HasReadCause r (contents old) (names old) (faults old) (faults new) (stimulus_name r) × Keeps out out'
   pub write_fault : IsErrOf result WriteFault → Rose before after
   pub never_falls : before ≤ after

@@ -49,8 +49,13 @@ pub record GivesFil (text : Text) (design : Design) : Type 0 where
 -- why a text gives no design: the first of these causes, with its answer and its line
 pub data IsRefused (text : Text) (ended : Ended) (line : Text) : Type 0 where
   HasNoTokens : (at : ℕ) → FaultsAt Fil text at → ended ≡ Refused → line ≡ token_line at → IsRefused text ended line
-  NestsTooDeep : (depth : ℕ) → IsNested text depth → MOST_NESTING < depth → ended ≡ Limit → line ≡ limit_line (codes "nesting") depth MOST_NESTING → IsRefused text ended line
+  NestsTooDeep : (depth : ℕ) → IsNested text depth → MOST_NESTING < depth → ended ≡ Limit → line ≡ limit_line (codes "nesting") depth MOST_NESTING →
+      IsRefused text ended line
   HasNoGrammar : (at : ℕ) → KeepsNesting text → IsRefusedAt text at → ended ≡ Refused → line ≡ grammar_line at → IsRefused text ended line
-  HasLargeOffset : (design : Design) (offset : ℕ) → KeepsNesting text → SpellsDesign text design → first_large design ≡ Some offset → ended ≡ Limit → line ≡ limit_line (codes "offset") offset MOST_OFFSET → IsRefused text ended line
-  BreaksRule : (design : Design) (rule : ℕ) (name : Text) (item : ℕ) (evidence : Evidence) → IsFilTextOf design text → IsRefusal design name item evidence rule → ended ≡ Refused → line ≡ rule_line (rule_name Filament rule) name item evidence → IsRefused text ended line
-  IsTooHeavy : (design : Design) (number : ℕ) (top : Component) → IsAcceptedFilTextOf design text → HasTop design number top → MOST_WEIGHT < told_weight design top → ended ≡ Limit → line ≡ limit_line (codes "weight") (told_weight design top) MOST_WEIGHT → IsRefused text ended line
+  HasLargeOffset : (design : Design) (offset : ℕ) → KeepsNesting text → SpellsDesign text design → first_large design ≡ Some offset → ended ≡ Limit →
+      line ≡ limit_line (codes "offset") offset MOST_OFFSET → IsRefused text ended line
+  BreaksRule : (design : Design) (rule : ℕ) (name : Text) (item : ℕ) (evidence : Evidence) → IsFilTextOf design text →
+      IsRefusal design name item evidence rule → ended ≡ Refused → line ≡ rule_line (rule_name Filament rule) name item evidence → IsRefused text ended line
+  IsTooHeavy : (design : Design) (number : ℕ) (top : Component) → IsAcceptedFilTextOf design text → HasTop design number top →
+      MOST_WEIGHT < told_weight design top → ended ≡ Limit → line ≡ limit_line (codes "weight") (told_weight design top) MOST_WEIGHT →
+      IsRefused text ended line

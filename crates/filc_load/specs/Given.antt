@@ -1,6 +1,7 @@
 -- What a stimulus gives to the run of a netlist: the values of its inputs, row by row, and the words that are loaded into
 -- its shown memories. This project's.
-use Rattle.std.specs.Prelude.{◌≡◌, ◌<◌, ◌≤◌, All, ℕ, Bool, nat_le, List, [], ◌∷◌, ◌++◌, length, map, filter, drop, replicate, slice_set, slice_index_or, bytes_eq, if◌then◌else◌}
+use Rattle.std.specs.Prelude.{◌≡◌, ◌<◌, ◌≤◌, All, ℕ, Bool, nat_le, List, [], ◌∷◌, ◌++◌, length, map, filter, drop, replicate, slice_set, slice_index_or}
+use Rattle.std.specs.Prelude.{bytes_eq, if◌then◌else◌}
 use Rattle.hw_bits.specs.Values.{widths_of}
 use Rattle.hw_names.specs.Name.{Text}
 use Rattle.hw_prims.specs.Memory.{word_count, word_width}

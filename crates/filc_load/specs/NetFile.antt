@@ -38,9 +38,15 @@ pub record GivesNet (text : Text) (n : Netlist) : Type 0 where
 
 -- why a text gives no netlist to run: the first of these causes, with its answer and its line
 pub data IsRefused (text : Text) (ended : Ended) (line : Text) : Type 0 where
-  NestsTooDeep : MOST_NET_NESTING < net_nesting text → ended ≡ Limit → line ≡ limit_line (codes "nesting") (net_nesting text) MOST_NET_NESTING → IsRefused text ended line
-  HasNoGrammar : (place : ℕ) → net_nesting text ≤ MOST_NET_NESTING → IsRefusedAt text place → ended ≡ Refused → line ≡ grammar_line place → IsRefused text ended line
-  BreaksRule : (n : Netlist) (rule item : ℕ) → IsTextOf n text → FirstBroken n rule item → ended ≡ Refused → line ≡ rule_line (rule_name Netlists rule) n.name item Nothing → IsRefused text ended line
-  HasLoop : (n : Netlist) (first : Text) (others : List Text) → IsTextOf n text → IsValid n → IsLeastLoop n first others → ended ≡ Refused → line ≡ rule_line (rule_name Netlists 6) n.name 0 (ALoop (first ∷ others)) → IsRefused text ended line
-  IsTooHeavy : (n : Netlist) → IsAcceptedTextOf n text → MOST_WEIGHT < weight_of n → ended ≡ Limit → line ≡ limit_line (codes "weight") (saturated (weight_of n)) MOST_WEIGHT → IsRefused text ended line
-  HasTooManyWords : (n : Netlist) → IsAcceptedTextOf n text → weight_of n ≤ MOST_WEIGHT → MOST_WORDS < words_of n → ended ≡ Limit → line ≡ limit_line (codes "words") (saturated (words_of n)) MOST_WORDS → IsRefused text ended line
+  NestsTooDeep : MOST_NET_NESTING < net_nesting text → ended ≡ Limit → line ≡ limit_line (codes "nesting") (net_nesting text) MOST_NET_NESTING →
+      IsRefused text ended line
+  HasNoGrammar : (place : ℕ) → net_nesting text ≤ MOST_NET_NESTING → IsRefusedAt text place → ended ≡ Refused → line ≡ grammar_line place →
+      IsRefused text ended line
+  BreaksRule : (n : Netlist) (rule item : ℕ) → IsTextOf n text → FirstBroken n rule item → ended ≡ Refused →
+      line ≡ rule_line (rule_name Netlists rule) n.name item Nothing → IsRefused text ended line
+  HasLoop : (n : Netlist) (first : Text) (others : List Text) → IsTextOf n text → IsValid n → IsLeastLoop n first others → ended ≡ Refused →
+      line ≡ rule_line (rule_name Netlists 6) n.name 0 (ALoop (first ∷ others)) → IsRefused text ended line
+  IsTooHeavy : (n : Netlist) → IsAcceptedTextOf n text → MOST_WEIGHT < weight_of n → ended ≡ Limit →
+      line ≡ limit_line (codes "weight") (saturated (weight_of n)) MOST_WEIGHT → IsRefused text ended line
+  HasTooManyWords : (n : Netlist) → IsAcceptedTextOf n text → weight_of n ≤ MOST_WEIGHT → MOST_WORDS < words_of n → ended ≡ Limit →
+      line ≡ limit_line (codes "words") (saturated (words_of n)) MOST_WORDS → IsRefused text ended line

@@ -38,9 +38,12 @@ pub record GivesTransactions (text : Text) (c : Component) (run : TxRun) : Type 
 -- why a text gives nothing: the first of these causes, with its answer and its line; the last two are of those that stand
 -- against what a text says
 pub data IsRefusedBy (causes : StimEnd → Type 0) (text : Text) (ended : Ended) (line : Text) : Type 0 where
-  TooLong : MOST_STIMULUS_BYTES < length text → ended ≡ Limit → line ≡ limit_line (codes "stimulus") (MOST_STIMULUS_BYTES + 1) MOST_STIMULUS_BYTES → IsRefusedBy causes text ended line
-  BreaksRule : (rule entry first second delay : ℕ) → length text ≤ MOST_STIMULUS_BYTES → causes (stim.Refused rule entry first second delay) → ended ≡ Stimulus → line ≡ stimulus_line rule entry first second delay → IsRefusedBy causes text ended line
-  IsTooLarge : (count limit : ℕ) (cycles : Bool) → length text ≤ MOST_STIMULUS_BYTES → causes (stim.Limit count limit cycles) → ended ≡ Limit → line ≡ limit_line (counted_name cycles) count limit → IsRefusedBy causes text ended line
+  TooLong : MOST_STIMULUS_BYTES < length text → ended ≡ Limit → line ≡ limit_line (codes "stimulus") (MOST_STIMULUS_BYTES + 1) MOST_STIMULUS_BYTES →
+      IsRefusedBy causes text ended line
+  BreaksRule : (rule entry first second delay : ℕ) → length text ≤ MOST_STIMULUS_BYTES → causes (stim.Refused rule entry first second delay) →
+      ended ≡ Stimulus → line ≡ stimulus_line rule entry first second delay → IsRefusedBy causes text ended line
+  IsTooLarge : (count limit : ℕ) (cycles : Bool) → length text ≤ MOST_STIMULUS_BYTES → causes (stim.Limit count limit cycles) → ended ≡ Limit →
+      line ≡ limit_line (counted_name cycles) count limit → IsRefusedBy causes text ended line
 
 -- what stands against a text that is to drive a netlist
 abbrev pub run_causes : Text → Netlist → StimEnd → Type 0

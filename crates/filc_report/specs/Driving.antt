@@ -1,5 +1,6 @@
 -- What drives the inputs of a netlist, row by row, and how the inputs stand before a row. This project's.
-use Rattle.std.specs.Prelude.{◌≡◌, ℕ, ◌<◌, ◌≤◌, ◌%◌, ◌^◌, List, [], ◌++◌, length, map, replicate, take, slice_get, slice_index_or, Option, None, Some, IsSome, All}
+use Rattle.std.specs.Prelude.{◌≡◌, ℕ, ◌<◌, ◌≤◌, ◌%◌, ◌^◌, List, [], ◌++◌, length, map, replicate, take, slice_get, slice_index_or, Option, None, Some}
+use Rattle.std.specs.Prelude.{IsSome, All}
 use Rattle.hw_bits.specs.Values.{values_of, widths_of}
 use Rattle.hw_bits.specs.declared.bits.Bits.{Bits}
 use Rattle.hw_names.specs.Name.{Text, AreDistinct}

@@ -1,5 +1,6 @@
 -- Intervals of rows after the starts of an event, and which of the transactions before a row are over. This project's.
-use Rattle.std.specs.Prelude.{◌≡◌, ℕ, ◌+◌, ◌<◌, ◌≤◌, ◌==◌, ◌&&◌, nat_le, nat_lt, Bool, List, length, map, find, slice_get, slice_index_or, Option, Some, AllPairs}
+use Rattle.std.specs.Prelude.{◌≡◌, ℕ, ◌+◌, ◌<◌, ◌≤◌, ◌==◌, ◌&&◌, nat_le, nat_lt, Bool, List, length, map, find, slice_get, slice_index_or, Option, Some}
+use Rattle.std.specs.Prelude.{AllPairs}
 use Rattle.std.specs.List.{AllWithin}
 use Rattle.fil_ast.specs.Signature.{SigPort}
 use Rattle.fil_ast.specs.declared.tx.Tx.{Tx}

@@ -36,13 +36,15 @@ pub record RunsIntoConflict (n : Netlist) (asked : ℕ) (inputs : Trace) (loads 
   pub reported : IsReported (net_circuit n) t (trace t) port
 
 -- no row has a Conflict, and all rows were passed on
-pub record StreamsAll (n : Netlist) (line : ℕ → Row → Text) (rows : ℕ) (inputs : Trace) (loads : Text → List ℕ) (out : Option Text) (held : Text) (out' : Option Text) (held' : Text) : Type 0 where
+pub record StreamsAll (n : Netlist) (line : ℕ → Row → Text) (rows : ℕ) (inputs : Trace) (loads : Text → List ℕ) (out : Option Text) (held : Text)
+    (out' : Option Text) (held' : Text) : Type 0 where
   pub trace : Trace
   pub runs : RunsCleanly n rows inputs loads trace
   pub passed : Passes out held out' held' (lines_text line trace rows)
 
 -- a row has a Conflict at the port with this number, and the rows before it were passed on
-pub record StreamsToConflict (n : Netlist) (line : ℕ → Row → Text) (rows : ℕ) (inputs : Trace) (loads : Text → List ℕ) (cycle port : ℕ) (out : Option Text) (held : Text) (out' : Option Text) (held' : Text) : Type 0 where
+pub record StreamsToConflict (n : Netlist) (line : ℕ → Row → Text) (rows : ℕ) (inputs : Trace) (loads : Text → List ℕ) (cycle port : ℕ) (out : Option Text)
+    (held : Text) (out' : Option Text) (held' : Text) : Type 0 where
   pub trace : Trace
   pub name : Text
   pub named : IsNamed n port name
@@ -50,7 +52,8 @@ pub record StreamsToConflict (n : Netlist) (line : ℕ → Row → Text) (rows :
   pub passed : Passes out held out' held' (lines_text line trace cycle)
 
 -- the sink gained a prefix of what was held and of some first rows; nothing is held
-pub record StreamsPart (n : Netlist) (line : ℕ → Row → Text) (rows : ℕ) (inputs : Trace) (loads : Text → List ℕ) (out : Option Text) (held : Text) (out' : Option Text) (held' : Text) : Type 0 where
+pub record StreamsPart (n : Netlist) (line : ℕ → Row → Text) (rows : ℕ) (inputs : Trace) (loads : Text → List ℕ) (out : Option Text) (held : Text)
+    (out' : Option Text) (held' : Text) : Type 0 where
   pub trace : Trace
   pub t : ℕ
   pub within : t ≤ rows
@@ -65,20 +68,23 @@ IsStreamed n line rows inputs loads (ends.Conflict cycle port) out held out' hel
 IsStreamed n line rows inputs loads ends.WriteFault out held out' held' = StreamsPart n line rows inputs loads out held out' held'
 
 -- a row without a Conflict was evaluated and passed on, and the edge after it was made
-pub record PassesRow (n : Netlist) (line : ℕ → Row → Text) (cycle : ℕ) (inputs : List ℕ) (old new : SimValue) (out : Option Text) (held : Text) (out' : Option Text) (held' : Text) : Type 0 where
+pub record PassesRow (n : Netlist) (line : ℕ → Row → Text) (cycle : ℕ) (inputs : List ℕ) (old new : SimValue) (out : Option Text) (held : Text)
+    (out' : Option Text) (held' : Text) : Type 0 where
   pub between : SimValue
   pub row : IsRowOfSim old inputs between None
   pub edge : IsEdgeOfSim between new
   pub passed : Passes out held out' held' (line cycle (port_row n between.values))
 
 -- the row has a Conflict, and nothing was passed on
-pub record FindsConflict (cycle port this : ℕ) (inputs : List ℕ) (old new : SimValue) (out : Option Text) (held : Text) (out' : Option Text) (held' : Text) : Type 0 where
+pub record FindsConflict (cycle port this : ℕ) (inputs : List ℕ) (old new : SimValue) (out : Option Text) (held : Text) (out' : Option Text) (held' : Text)
+    : Type 0 where
   pub at : cycle ≡ this
   pub row : IsRowOfSim old inputs new (Some port)
   pub passed : Passes out held out' held' []
 
 -- a row without a Conflict was evaluated, and the sink gained a prefix of what was held and of its line
-pub record FailsInRow (n : Netlist) (line : ℕ → Row → Text) (cycle : ℕ) (inputs : List ℕ) (old new : SimValue) (out : Option Text) (held : Text) (out' : Option Text) (held' : Text) : Type 0 where
+pub record FailsInRow (n : Netlist) (line : ℕ → Row → Text) (cycle : ℕ) (inputs : List ℕ) (old new : SimValue) (out : Option Text) (held : Text)
+    (out' : Option Text) (held' : Text) : Type 0 where
   pub row : IsRowOfSim old inputs new None
   pub emptied : held' ≡ []
   pub prefix : AppendsPrefix out out' (held ++ line cycle (port_row n new.values))

@@ -17,7 +17,8 @@ use Rattle.filc_report.specs.Streams.{shown_ports}
 use Rattle.filc_stop.specs.Outcome.{Outcome, done_with}
 use Rattle.filc_run.specs.Meant.{rows_taken}
 
--- the text spells a netlist with folded guards that keeps what the design promises: for every legal list of transactions, overlapping as it may, each instance at each path
+-- the text spells a netlist with folded guards that keeps what the design promises: for every legal list of transactions, overlapping as it may, each
+-- instance at each path
 -- carries what the list gives it
 pub record IsNetOf (design : Design) (net : Netlist) (made : Text) : Type 0 where
   pub refines : Refines design net

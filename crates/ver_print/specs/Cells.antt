@@ -4,7 +4,9 @@ use Rattle.std.specs.List.{flat_map}
 use Rattle.hw_names.specs.Name.{Text}
 use Rattle.hw_prims.specs.Table.{prim_of}
 use Rattle.hw_prims.specs.declared.prim.Primitive.{Primitive}
-use Rattle.hw_prims.specs.declared.prim.Primitive.TheVariants.{StdConst, StdWire, StdAdd, StdSub, StdAnd, StdOr, StdXor, StdNot, StdEq, StdNeq, StdLt, StdGt, StdLe, StdGe, StdLsh, StdRsh, StdSlice, StdPad, FilMux, FilSlice, FilConcat, StdReg, StdMemD1, StdMemD2, StdMultPipe, FilDelay, FilFastMult, FilSeqMult}
+use Rattle.hw_prims.specs.declared.prim.Primitive.TheVariants.{StdConst, StdWire, StdAdd, StdSub, StdAnd, StdOr, StdXor, StdNot, StdEq, StdNeq, StdLt}
+use Rattle.hw_prims.specs.declared.prim.Primitive.TheVariants.{StdGt, StdLe, StdGe, StdLsh, StdRsh, StdSlice, StdPad, FilMux, FilSlice, FilConcat, StdReg}
+use Rattle.hw_prims.specs.declared.prim.Primitive.TheVariants.{StdMemD1, StdMemD2, StdMultPipe, FilDelay, FilFastMult, FilSeqMult}
 use Rattle.net_core.specs.Netlist.{CellLine}
 use Rattle.ver_print.specs.Words.{assignment, clock, inner_line, joined, literal, part, range, zeros}
 
