@@ -14,6 +14,7 @@ use itoa::Buffer;
 use net_core::Net;
 use net_sim::Sim;
 
+/// Puts more text last.
 pub(crate) fn push_text(text: &mut Vec<u8>, more: &[u8]) -> Result<(), Memory>
     ensures { OnOk result (text.new.items ≡ text.old.items ++ more.now) }
 {
@@ -21,6 +22,7 @@ pub(crate) fn push_text(text: &mut Vec<u8>, more: &[u8]) -> Result<(), Memory>
     Ok(())
 }
 
+/// Puts a number last, in decimal.
 pub(crate) fn push_number(text: &mut Vec<u8>, number: u128) -> Result<(), Memory>
     ensures { OnOk result (text.new.items ≡ text.old.items ++ decimal number) }
 {
@@ -28,7 +30,7 @@ pub(crate) fn push_number(text: &mut Vec<u8>, number: u128) -> Result<(), Memory
     push_text(text, digits.format(number).as_bytes())
 }
 
-/// A port with its value.
+/// Puts a port with its value last.
 fn push_port(text: &mut Vec<u8>, port: &[u8], value: u128) -> Result<(), Memory>
     ensures { OnOk result (text.new.items ≡ text.old.items ++ port_text port.now value) }
 {
@@ -38,7 +40,7 @@ fn push_port(text: &mut Vec<u8>, port: &[u8], value: u128) -> Result<(), Memory>
     push_number(text, value)
 }
 
-/// The outputs of a netlist, each with its value in the row that was evaluated.
+/// Puts the outputs of a netlist last, each with its value in the row that was evaluated.
 pub(crate) fn push_outputs(text: &mut Vec<u8>, sim: &Sim, net: &Net) -> Result<(), Memory>
     requires numbers { HasNumbers net.now }
     requires evaluated { length sim.now.values ≡ length (port_names (netlist_of net.now)) }
@@ -53,7 +55,7 @@ pub(crate) fn push_outputs(text: &mut Vec<u8>, sim: &Sim, net: &Net) -> Result<(
     Ok(())
 }
 
-/// The labels of the actors that act in the row that the walker went over last.
+/// Puts the labels of the actors last that act in the row that the walker has gone over.
 fn push_labels(text: &mut Vec<u8>, labels: &[Vec<u8>], walker: &Walker) -> Result<(), Memory>
     requires { (actors : List Actor) × (acts : Actor → Bool) × AreLabelsOf actors labels.now × TellsActing actors acts walker.now }
     ensures { (actors : List Actor) (acts : Actor → Bool) → AreLabelsOf actors labels.now → TellsActing actors acts walker.now

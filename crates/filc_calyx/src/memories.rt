@@ -15,7 +15,7 @@ use hw_bits::Memory;
 use net_core::Net;
 use net_sim::Sim;
 
-/// The line of a shown memory: its name, then its words in order. The shown memories are counted in the order of the cells.
+/// Puts the line of a shown memory last: its name, then its words in order. The shown memories are counted in the order of the cells.
 fn push_memory(text: &mut Vec<u8>, sim: &Sim, mem: usize, name: &[u8]) -> Result<(), Memory>
     requires shown { mem < length (shown_cells (netlist_of sim.now.net)) }
     ensures { (cell : Text) (prim : Primitive) → IsShown (netlist_of sim.now.net) mem cell prim
@@ -31,7 +31,7 @@ fn push_memory(text: &mut Vec<u8>, sim: &Sim, mem: usize, name: &[u8]) -> Result
     push_text(text, b"\n")
 }
 
-/// The lines of the shown memories, in the order of the cells.
+/// Puts the lines of the shown memories last, in the order of the cells.
 pub(crate) fn push_memories(text: &mut Vec<u8>, sim: &Sim, net: &Net) -> Result<(), Memory>
     requires net { netlist_of sim.now.net ≡ netlist_of net.now }
     requires valid { IsValid (netlist_of net.now) }

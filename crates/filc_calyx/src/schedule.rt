@@ -50,7 +50,8 @@ fn schedule_top(
     requires fits { FitsNet (netlist_of built.now.net) list.now }
     requires can { (design : Design) × (top : Component) × CanSchedule design top names.now (netlist_of built.now.net) control.now }
     ensures { (design : Design) (top : Component) → CanSchedule design top names.now (netlist_of built.now.net) control.now
-        → IfOk result (λ s. IsScheduleOf (subject_of design top names.now (netlist_of built.now.net) (run_seen list.now)) list.now.cycles s.clash s.text.items) }
+        → IfOk result (λ s. IsScheduleOf (subject_of design top names.now (netlist_of built.now.net) (run_seen list.now)) list.now.cycles
+        s.clash s.text.items) }
 {
     let mut scheduler = Scheduler::new(alloc, names, control, built, list)?;
     let clash = scheduler.go_through(alloc, list)?;

@@ -12,7 +12,8 @@ ghost use Rattle.stim_read.specs.CycleRun.{run_seen};
 ghost use Rattle.filc_load.specs.Built.{FitsNet, IsReady};
 ghost use Rattle.filc_load.specs.Inputs.{driven};
 ghost use Rattle.filc_calyx.specs.Scheduled.{schedule_line};
-ghost use Rattle.filc_calyx.specs.Scheduling.{AreInputsIn, CanSchedule, IsAfterRow, IsBefore, IsScheduleOf, IsSchedulerOf, Subject, Tells, Walks, WalksOver, subject_of};
+ghost use Rattle.filc_calyx.specs.Scheduling.{AreInputsIn, CanSchedule, IsAfterRow, IsBefore, IsScheduleOf, IsSchedulerOf, Subject};
+ghost use Rattle.filc_calyx.specs.Scheduling.{Tells, Walks, WalksOver, subject_of};
 
 use crate::labels::labels_of;
 use crate::lines::{push_acting, push_number, push_outputs, push_text};
@@ -48,7 +49,8 @@ fn walker_of<'a>(
     ports: &Names,
     control: &'a Controlled<'a>,
 ) -> Result<Option<Walker<'a>>, Memory>
-    requires { (design : Design) × (top : Component) × (control.now.bare ≡ is_bare top) × (is_bare top ≡ false → CanWalk design top names.now ports.now control.now) }
+    requires { (design : Design) × (top : Component) × (control.now.bare ≡ is_bare top)
+        × (is_bare top ≡ false → CanWalk design top names.now ports.now control.now) }
     ensures { (design : Design) (top : Component) (trace : Trace) → control.now.bare ≡ is_bare top
         → (is_bare top ≡ false → CanWalk design top names.now ports.now control.now)
         → IfOk result (Walks design top names.now ports.now trace 0) }
