@@ -17,3 +17,4 @@ pub mod GivenLemmas
 pub mod PassingLemmas
 pub mod FlowLemmas
 pub mod HoldLemmas
+pub mod SumLemmas

@@ -41,7 +41,7 @@ streamed_none n line sim inputs loads out held stands = record { trace = stands.
 pub streamed_stands : (n : Netlist) (line : ℕ → Row → Text) (sim : SimValue) (t : ℕ) (inputs : Trace) (loads : Text → List ℕ) (out : Option Text) (held : Text) (out' : Option Text) (held' : Text) → StreamedTo n line sim t inputs loads out held out' held' → StandsAt n sim t inputs loads
 streamed_stands n line sim t inputs loads out held out' held' so_far = (so_far.trace, so_far.stands)
 
-runs_to : (n : Netlist) (sim : SimValue) (t : ℕ) (inputs : Trace) (loads : Text → List ℕ) (trace : Trace) → StandsOn n sim t inputs loads trace → RunsCleanly n t inputs loads trace
+pub runs_to : (n : Netlist) (sim : SimValue) (t : ℕ) (inputs : Trace) (loads : Text → List ℕ) (trace : Trace) → StandsOn n sim t inputs loads trace → RunsCleanly n t inputs loads trace
 runs_to n sim t inputs loads trace stands = record {
   run = record { rows = stands.rows; goes_on = λ u more port has. stands.clean u (omega (arith, more)) port has; ends = inl refl };
   clean = λ u port within has. stands.clean u within port has;

@@ -7,5 +7,6 @@ pub mod Intervals
 pub mod Driving
 pub mod Streams
 pub mod Views
+pub mod Sums
 pub mod Runs
 pub mod Transactions

@@ -10,6 +10,8 @@ mod memories;
 mod net_run;
 mod report;
 mod stream;
+mod summary;
+mod sums;
 mod tx_inputs;
 mod view;
 
@@ -20,4 +22,6 @@ pub use inputs::Inputs;
 pub use net_run::{Transactions, make_sim, run, run_transactions};
 pub use report::{write_accepted, write_text};
 pub use stream::{RowEnd, stream_rows};
+pub use summary::write_summary;
+pub use sums::{Sums, sum_transactions};
 pub use view::View;

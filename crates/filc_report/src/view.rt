@@ -8,7 +8,7 @@ ghost use Rattle.fil_sig.specs.Seen.{seen_port};
 ghost use Rattle.filc_report.specs.Driving.{txs_of, FitsDrive};
 ghost use Rattle.filc_report.specs.Intervals.{port_interval, holding, ArePassedBy, RiseByEvent};
 ghost use Rattle.filc_report.specs.Streams.{shown_ports};
-ghost use Rattle.filc_report.specs.Views.{line_of, line_seen, marks_in, output_intervals, IsViewAt};
+ghost use Rattle.filc_report.specs.Views.{line_of, line_seen, marks_in, output_intervals, ports_seen, IsViewAt};
 
 use crate::drive::Drive;
 use crate::intervals::Interval;
@@ -89,6 +89,8 @@ impl View {
         ensures distinct { AreDistinct table.now.names }
         ensures at { IfOk result (λ view. IsViewAt view (txs_of drive.entry) 0) }
         ensures within { IfOk result (λ view. view.ports.end ≤ length table.now.names) }
+        ensures ports { IfOk result (λ view. ports_seen table.now.names view ≡ shown_ports (netlist_of net.now) all) }
+        ensures intervals { IfOk result (λ view. view.intervals.items ≡ output_intervals drive.entry all) }
         ensures line { IfOk result (λ view. line_seen table.now.names (txs_of drive.entry) view ≡ line_of (netlist_of net.now) drive.entry all) }
     {
         let ports = shown(net, table, all);
