@@ -15,9 +15,14 @@ mod shown;
 mod sim;
 mod wires;
 
+pub use cells::{CellPorts, cell_ports};
+pub use flatten::flatten;
+pub use guards::{FALSE, FIRST, FlatGuards, TRUE, Test};
 pub use hw_graph::OrderEnd;
 pub use laws::{
     ends_after_all, ends_in_its_conflict, loads_one_word, one_run, stands_at_next, stands_at_start,
 };
+pub use plan::{Giver, Source, givers, sources};
 pub use port_order::{PortOrder, order};
+pub use shown::shown_cells;
 pub use sim::{Conflict, Phase, Sim};
