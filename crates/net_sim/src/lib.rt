@@ -16,7 +16,7 @@ mod sim;
 mod wires;
 
 pub use cells::{CellPorts, cell_ports};
-pub use flatten::flatten;
+pub use flatten::flatten as flat_guards;
 pub use guards::{FALSE, FIRST, FlatGuards, TRUE, Test};
 pub use hw_graph::OrderEnd;
 pub use laws::{
