@@ -1,0 +1,214 @@
+#!/usr/bin/env python3
+"""Texts at each limit and one over it, and texts that are as deep or as large as the limits let them be.
+
+usage: sizes.py PROGRAM FOLDER [NAMES]      NAMES has names whose hashes meet (meeting.c)
+
+Each run has to give its answer within 10 s of processor time and 4 GB, with the stack that the caller gives it. A run that makes
+no netlist and no design has to do with 100 times the bytes that it reads, where these are 500,000 or more. Where a run takes
+more than half a second, one of half the size has to take a 2.6th of it or more; a netlist whose instances stand deep in one
+another may take the square, since its names, and so its text, grow so.
+
+Prints a line for each run, then what the program is known not to keep, and the status is 0 where all else held."""
+import os, pathlib, subprocess, sys, typing
+
+import shapes
+from asking import Said, not_allowed
+
+SECONDS, MEMORY, TIMES, RATIO = 10, 4_000_000_000, 100, 2.6
+WEIGHT, FULL = "limit weight {} over 1000000", 2**64 - 1
+
+
+class Row(typing.NamedTuple):
+    """A shape at a size: its commands, what each has to say, and what one over the size says, where that is said."""
+
+    shape: typing.Callable
+    size: int
+    commands: str
+    at: typing.Callable
+    over: str = ""
+    makes: bool = False  # The commands make a netlist or a design.
+    deep: bool = False  # Its instances stand deep in one another.
+
+
+def accepted(said, size):
+    return said.out == b"accepted\n"
+
+
+def done(said, size):
+    return said.status == 0
+
+
+def refused(said, size):
+    return said.status == 1
+
+
+def lines(said, size):
+    return said.status == 0 and said.out.count(b"\n") == size
+
+
+def ends(line):
+    """Says this line, in which `{}` is the size."""
+    return lambda said, size: said.err.decode() == line.format(size) + "\n"
+
+
+def begins(line):
+    return lambda said, size: said.err.decode().startswith(line)
+
+
+def limit(name, most):
+    return f"limit {name} {most + 1} over {most}"
+
+
+NET, FIL, CAL = 16_777_216, 1_048_576, 1_048_576
+TABLE = [
+    Row(shapes.bytes_of_netlist, NET, "check f.net|sim f.net s.json|trace f.net s.json|verilog f.net", done, limit("source", NET)),
+    Row(shapes.nots, 256, "check f.net|rows f.net 1|verilog f.net", done, limit("nesting", 256)),
+    Row(shapes.brackets, 256, "check f.net|rows f.net 1|verilog f.net", done, limit("nesting", 256)),
+    Row(shapes.long_list, 1_000_000, "check f.net|rows f.net 1|verilog f.net", done, WEIGHT.format(1_000_001)),
+    Row(shapes.many_sets, 1_000_000, "check f.net|verilog f.net", done, WEIGHT.format(1_000_001)),
+    Row(shapes.many_sets, 1_000_000, "sim f.net s.json", ends("conflict cycle 0 port q")),
+    Row(shapes.long_loop, 400_000, "check f.net", begins("refused N6 n item 0 loop w000000 w000001 w000002 ")),
+    Row(shapes.loops, 100_000, "check f.net", ends("refused N6 n item 0 loop b000000 c000000")),
+    Row(shapes.number, 16_000_000, "check f.net", refused),
+    Row(shapes.memories, 1_048_576, "check f.net|rows f.net 1|verilog f.net", done, limit("words", 1_048_576)),
+    Row(shapes.cycles, 1_000_000, "sim f.net s.json", lines, limit("cycles", 1_000_000)),
+    Row(shapes.entries, 100_000, "sim f.net s.json", done, limit("transactions", 100_000)),
+    Row(shapes.bytes_of_stimulus, 16_777_216, "sim f.net s.json", done, limit("stimulus", 16_777_216)),
+    Row(shapes.lists, 127, "sim f.net s.json", ends("stimulus S2"), "stimulus S1"),
+    Row(shapes.lists, 8_000_000, "sim f.net s.json", ends("stimulus S1")),
+    Row(shapes.keys, 900_000, "sim f.net s.json", ends("stimulus S2")),
+    Row(shapes.same_keys, 90_000, "sim f.net s.json", ends("stimulus S5 entry 1 starts 1 1 delay 1")),
+    Row(shapes.digits, 16_000_000, "sim f.net s.json", ends("stimulus S1")),
+    Row(shapes.wide_value, 16_000_000, "sim f.net s.json", ends("stimulus S2")),
+    Row(shapes.bytes_of_fil, FIL, "check f.fil", accepted, limit("source", FIL)),
+    Row(shapes.fil_brackets, 64, "check f.fil", ends("refused grammar at byte 0"), limit("nesting", 64)),
+    Row(shapes.fil_brackets, FIL, "check f.fil", ends("limit nesting {} over 64")),
+    Row(shapes.delay, 4096, "check f.fil", accepted, limit("offset", 4096)),
+    Row(shapes.far, 1_000_000, "check f.fil", ends("refused token at byte 10")),
+    Row(shapes.offset, 4096, "check f.fil|net f.fil", done, limit("offset", 4096), makes=True),
+    Row(shapes.events, 16, "check f.fil", accepted, "refused F5 A item 0"),
+    Row(shapes.fil_weight, 1_000_000, "check f.fil|net f.fil|lower f.fil|verilog f.fil", done, WEIGHT.format(1_000_001), makes=True),
+    Row(shapes.fil_doubling, 64, "check f.fil", ends(WEIGHT.format(FULL))),
+    Row(shapes.fil_chain, 9_000, "check f.fil|flow f.fil s.json", done),
+    Row(shapes.fil_chain, 9_000, "lower f.fil", done, makes=True),
+    Row(shapes.fil_chain, 6_000, "net f.fil|sim f.fil s.json|verilog f.fil", done, makes=True, deep=True),
+    Row(shapes.shared, 12, "check f.fil|net f.fil|flow f.fil s.json|timeline f.fil s.json", done, limit("offset", 4096).replace("4097", "8192")),
+    Row(shapes.fil_ports, 15_000, "check f.fil|net f.fil", done, makes=True),
+    Row(shapes.one_instance, 4096, "check f.fil|net f.fil", done, makes=True),
+    Row(shapes.rows_of_mac, 1_000_000, "sim f.fil s.json", lines, limit("cycles", 1_000_000)),
+    Row(shapes.repeated, 100_000, "flow f.fil s.json", lines, limit("transactions", 100_000)),
+    Row(shapes.repeated, 100_000, "timeline f.fil s.json|sim f.fil s.json|trace f.fil s.json", done),
+    Row(shapes.repeated, FULL, "flow f.fil s.json", ends("limit transactions {} over 100000")),
+    Row(shapes.one_by_one, 100_000, "flow f.fil s.json|timeline f.fil s.json", done, limit("transactions", 100_000)),
+    Row(shapes.bytes_of_transactions, 16_777_216, "sim f.fil s.json", done, limit("stimulus", 16_777_216)),
+    Row(shapes.bytes_of_cal, CAL, "check f.futil|net f.futil", done, limit("source", CAL)),
+    Row(shapes.cal_parentheses, 64, "check f.futil|net f.futil", done, limit("nesting", 64)),
+    Row(shapes.cal_nots, 64, "check f.futil|net f.futil", done, limit("nesting", 64)),
+    Row(shapes.cal_control, 64, "check f.futil|net f.futil|lower f.futil|sim f.futil s.json|sched f.futil s.json", done, limit("nesting", 64)),
+    Row(shapes.cal_weight, 1_000_000, "check f.futil|net f.futil|lower f.futil", done, WEIGHT.format(1_000_001), makes=True),
+    Row(shapes.cal_doubling, 64, "check f.futil", ends(WEIGHT.format(FULL))),
+    Row(shapes.cal_chain, 15_000, "check f.futil", accepted),
+    Row(shapes.cal_chain, 15_000, "net f.futil", done, makes=True, deep=True),
+    Row(shapes.cal_memories, 1_048_576, "check f.futil|sim f.futil s.json", done, limit("words", 1_048_576)),
+    Row(shapes.enables, 300_000, "check f.futil", accepted),
+    Row(shapes.cal_cycles, 1_000_000, "sim f.futil s.json|sched f.futil s.json", lines, limit("cycles", 1_000_000)),
+    Row(shapes.enables, 40_000, "net f.futil|lower f.futil|verilog f.futil|sim f.futil s.json|sched f.futil s.json", done, makes=True),
+    Row(shapes.together, 9_000, "check f.futil|net f.futil", done, makes=True),
+    Row(shapes.cal_loop, 20_000, "check f.futil", begins("refused C12 main item 0 loop w00000.in w00001.out w00001.in ")),
+]
+
+# What the program does not keep, as is known.
+KNOWN = [
+    Row(shapes.bottomless, 480, "check f.net", ends("limit weight 15913920 over 1000000")),
+    Row(shapes.cal_many_nots, 12_000, "check f.futil", accepted),
+    Row(shapes.enables, 500_000, "net f.futil", done, makes=True),
+    Row(shapes.cal_reach, 8_000, "check f.futil", accepted),
+    Row(shapes.cal_reach_cells, 400, "check f.futil", accepted),
+    Row(shapes.fil_reach, 8_000, "check f.fil", accepted),
+    Row(shapes.long_names, 16_000, "check f.futil", accepted),
+    Row(shapes.fil_long_names, 10_000, "check f.fil", accepted),
+    Row(shapes.many_cells, 20_000, "check f.futil", begins("limit weight ")),
+    Row(shapes.many_instances, 14_000, "check f.fil", begins("limit weight ")),
+    Row(shapes.meeting_wires, 50_000, "check f.net", accepted),
+    Row(shapes.meeting_instances, 40_000, "check f.fil", accepted),
+]
+
+
+class Cost(typing.NamedTuple):
+    seconds: float
+    memory: int
+    read: int
+
+
+def write(folder, files):
+    for name, text in files.items():
+        (folder / name).write_text(text)
+
+
+def measure(program, words, folder):
+    """What came of a run, its processor seconds, its memory, and the bytes of the files that it was given."""
+    cost = [sys.executable, pathlib.Path(__file__).with_name("cost.py"), folder, str(3 * SECONDS), program, *words]
+    status, seconds, memory = subprocess.run(cost, stdout=subprocess.PIPE, check=True).stdout.split()
+    said = Said(int(status), (folder / "out").read_bytes(), (folder / "err").read_bytes())
+    read = sum(os.path.getsize(folder / word) for word in words[1:] if (folder / word).exists())
+    return said, Cost(float(seconds), int(memory), read)
+
+
+def too_much(row, cost, half):
+    """What is too much of a run, in words; None where nothing is."""
+    if cost.seconds > SECONDS:
+        return f"it takes {cost.seconds:.1f} s"
+    if cost.memory > MEMORY or not row.makes and cost.read >= 500_000 and cost.memory > TIMES * cost.read:
+        return f"it takes {cost.memory // 10**6} MB for {cost.read} bytes"
+    if half and not row.deep and cost.seconds > 0.5 and cost.seconds > RATIO * half.seconds:
+        return f"it takes {cost.seconds:.2f} s, and {half.seconds:.2f} s at half the size"
+    return None
+
+
+def try_over(program, folder, row):
+    """The faults one over the size of a row."""
+    write(folder, row.shape(row.size + 1))
+    for command in row.commands.split("|"):
+        said, cost = measure(program, command.split(), folder)
+        wrong = not_allowed(said, command.split()[0]) or too_much(row, cost, None)
+        if wrong or said.err.decode() != f"{row.over}\n":
+            yield f"{row.shape.__name__} {row.size + 1}, {command}: {wrong or said}"[:300]
+
+
+def try_row(program, folder, row, halved=True):
+    """The faults at the size of a row, and, if it is also halved, in growth. What a run costs is printed."""
+    halves = {}
+    if halved and row.size > 1000 and row.size != FULL:
+        write(folder, row.shape(row.size // 2))
+        halves = {command: measure(program, command.split(), folder)[1] for command in row.commands.split("|")}
+    write(folder, row.shape(row.size))
+    for command in row.commands.split("|"):
+        said, cost = measure(program, command.split(), folder)
+        told = f"{row.shape.__name__} {row.size}, {command}: status {said.status}, {cost.seconds:.2f} s, {cost.memory // 10**6} MB for {cost.read} bytes"
+        print(told + (f"; one over: {row.over}" if row.over else ""), flush=True)
+        wrong = not_allowed(said, command.split()[0]) or too_much(row, cost, halves.get(command))
+        if wrong or not row.at(said, row.size):
+            short = said._replace(out=said.out[-80:], err=said.err[-200:])
+            yield f"{row.shape.__name__} {row.size}, {command}: {wrong or short}"
+
+
+def main():
+    program, folder = (pathlib.Path(word).resolve() for word in sys.argv[1:3])
+    shapes.MEETING[:] = pathlib.Path(sys.argv[3]).read_text().split() if len(sys.argv) > 3 else []
+    (folder / "counter.net").write_text(shapes.COUNTER)
+    faults = []
+    for row in TABLE:
+        faults += [*try_row(program, folder, row), *(try_over(program, folder, row) if row.over else ())]
+    print("what is known not to be kept:")
+    for row in KNOWN:
+        if row.shape in (shapes.meeting_wires, shapes.meeting_instances) and not shapes.MEETING:
+            print(f"skipped: {row.shape.__name__}, since there are no such names")
+            continue
+        wrong = [*try_row(program, folder, row, halved=False)]
+        print(*[f"known: {it}" for it in wrong] or [f"kept by now: {row.shape.__name__} {row.size}, {row.commands}"], sep="\n", flush=True)
+    print(*[f"fault: {it}" for it in faults], f"faults: {len(faults)}", sep="\n")
+    return 1 if faults else 0
+
+
+if __name__ == "__main__":
+    sys.exit(main())
