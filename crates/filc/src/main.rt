@@ -3,7 +3,7 @@
 
 use filc_core::{Ended, filc};
 use hw_bits::Memory;
-use hw_io::{DiskFiles, StdSink};
+use hw_io::{DiskFiles, StdSink, write_whole};
 use std::alloc::Global;
 use std::env;
 use std::env::Args;
@@ -27,10 +27,20 @@ fn run(rt: &HostRuntime, args: Args) -> Result<Ended, Memory> {
     Ok(filc(alloc, &words, &mut files, &mut out, &mut err))
 }
 
+/// Tells that there is no memory for the words. The answer stays where the line can't be written.
+fn tell_memory(rt: &HostRuntime) -> Ended {
+    let mut err = StdSink::new(rt.stderr());
+    let _told = write_whole(&mut err, b"out of memory\n");
+    Ended::Memory
+}
+
 fn main(rt: HostRuntime) -> ExitCode {
     let ended = match env::args(&rt) {
-        Ok(args) => run(&rt, args).unwrap_or(Ended::Memory),
-        Err(error) if error.kind() == ErrorKind::OutOfMemory => Ended::Memory,
+        Ok(args) => match run(&rt, args) {
+            Ok(ended) => ended,
+            Err(Memory) => tell_memory(&rt),
+        },
+        Err(error) if error.kind() == ErrorKind::OutOfMemory => tell_memory(&rt),
         Err(_) => return ExitCode::from(NO_WORDS),
     };
     ExitCode::from(ended.status())
