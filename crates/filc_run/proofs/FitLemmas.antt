@@ -1,5 +1,5 @@
 -- The netlist of a design may be driven by transactions of the design's top component.
-use Rattle.std.proofs.Common.{◌≡◌, ℕ, List, Bool, Option, Result, get_or, length, map, sym, ap, subst, ◌∙◌, arith}
+use Rattle.std.proofs.Common.{◌≡◌, ℕ, Bool, Option, Result, get_or, sym, ap, subst, ◌∙◌, arith}
 use Rattle.std.specs.Prelude.{slice_get, Some}
 use Rattle.std.proofs.lemmas.List.{length-map}
 use Rattle.hw_names.specs.Name.{Text}

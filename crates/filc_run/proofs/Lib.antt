@@ -2,3 +2,12 @@ pub mod TextLemmas
 pub mod FitLemmas
 pub mod MeantLemmas
 pub mod TraceLemmas
+pub mod DueLemmas
+pub mod SoakListLemmas
+pub mod SoakRuleLemmas
+pub mod SoakDesignLemmas
+pub mod SoakLoopLemmas
+pub mod SoakNestLemmas
+pub mod SoakTextLemmas
+pub mod SoakSumLemmas
+pub mod SoakLemmas

@@ -1,5 +1,5 @@
 -- A run of a design's netlist that transactions drive shows what the source means.
-use Rattle.std.proofs.Common.{◌≡◌, ℕ, zero, suc, ◌+◌, ◌-◌, ◌<◌, ◌≤◌, List, [], ◌++◌, Bool, true, false, Option, Result, Ok, Err, map, refl, sym, ap, ap₂, subst, ◌∙◌, arith, add-zero, add-suc, append_assoc, inl, inr}
+use Rattle.std.proofs.Common.{◌≡◌, ℕ, zero, suc, ◌+◌, ◌-◌, ◌≤◌, List, [], ◌++◌, Bool, false, Option, Result, Ok, Err, map, refl, sym, ap, ap₂, subst, ◌∙◌, arith, add-zero, add-suc, append_assoc, inl, inr}
 use Rattle.std.specs.Prelude.{IfErr, OnOk, OnErr}
 use Rattle.std.specs.Io.KnownBytes.{Appends}
 use Rattle.std.proofs.lemmas.List.{append-nil}
@@ -24,13 +24,12 @@ use Rattle.stim_read.specs.TxRun.{Transaction, transaction_seen, tx_run_seen}
 use Rattle.filc_stop.proofs.SinkLemmas.{none_prefix, whole_prefix}
 use Rattle.filc_stop.specs.Outcome.{Outcome, done_with}
 use Rattle.filc_stop.specs.Stops.{IsOfRun, IsWritingStop}
-use Rattle.filc_stop.specs.declared.ended.Ended.{Ended}
 use Rattle.filc_stop.specs.declared.ended.Ended.TheVariants as ended
 use Rattle.filc_stop.specs.declared.refusal.Refusal.TheVariants as refusal
 use Rattle.filc_stop.specs.declared.stop.Stop.{Stop}
 use Rattle.filc_stop.specs.declared.stop.Stop.TheVariants as stop
 use Rattle.filc_report.specs.Rows.{lines_text}
-use Rattle.filc_report.specs.Runs.{PrintedRun, IsRunOf, EndsInConflict, RunComes, RunLeaves, RunLeavesAt, IsRunCutShort, run_text, transactions_run, no_loads}
+use Rattle.filc_report.specs.Runs.{PrintedRun, IsRunOf, EndsInConflict, RunComes, RunLeaves, IsRunCutShort, run_text, transactions_run, no_loads}
 use Rattle.filc_run.specs.Meant.{rows_taken, meant_lines, meant_text}
 
 -- ---- lines that the source means

@@ -3,3 +3,5 @@ pub use Rattle.filc_report.specs.Runs
 pub mod Meant
 pub mod Traced
 pub mod Verilog
+pub mod Soaked
+pub mod Soaking

@@ -1,4 +1,4 @@
-use Rattle.std.proofs.Common.{rules, ◌≡◌, [], List, false, map, refl, sym, ap, subst, ◌∙◌}
+use Rattle.std.proofs.Common.{rules, [], List, false, map, refl, ap, subst, ◌∙◌}
 use Rattle.std.specs.Prelude.{OnOk, OnErr}
 use Rattle.std.specs.Io.KnownBytes.{Appends}
 use Rattle.hw_io.specs.Writing.{AppendsPrefix}

@@ -1,4 +1,4 @@
-use Rattle.std.proofs.Common.{rules, ◌≡◌, List, [], ◌∷◌, ◌++◌, true, map, refl, sym, ap, subst, ◌∙◌, inl}
+use Rattle.std.proofs.Common.{rules, List, [], ◌∷◌, ◌++◌, true, map, ap, subst, ◌∙◌, inl}
 use Rattle.net_core.specs.Netlist.{netlist_of}
 use Rattle.net_text.specs.Layout.{net_text}
 use Rattle.fil_ast.specs.Signature.{component_signature}
