@@ -6,13 +6,14 @@ use Rattle.std.specs.Prelude.{reverse, bytes_eq}
 use Rattle.hw_names.specs.Name.{Text}
 use Rattle.filc_stop.specs.declared.language.Language.{Language}
 use Rattle.filc_stop.specs.declared.language.Language.TheVariants.{Netlists, Filament, Calyx}
-use Rattle.filc_core.specs.Request.{Request, OfCheck, OfRows, OfSimNet, OfTraceNet, OfFlow, OfTimeline, OfSimFil, OfTraceFil, OfSimCal, OfTraceCal, OfSchedCal, OfMaking, command_of, Asks, AskNothing}
+use Rattle.filc_core.specs.Request.{Request, OfCheck, OfRows, OfSimNet, OfTraceNet, OfFlow, OfTimeline, OfSimFil, OfTraceFil, OfSimCal, OfTraceCal, OfSchedCal, OfSoak, OfMaking, command_of, Asks, AskNothing}
 use Rattle.filc_core.specs.Words.{IsFileIn}
 use Rattle.filc_core.specs.commands.Check.{Check}
 use Rattle.filc_core.specs.commands.Driven as driven
 use Rattle.filc_core.specs.commands.Driven.{Driven}
 use Rattle.filc_core.specs.commands.Making.{Making, word_of}
 use Rattle.filc_core.specs.commands.Rows.{Rows}
+use Rattle.filc_core.specs.commands.Soak.{Soak}
 use Rattle.filc_core.specs.commands.Transactions as transactions
 use Rattle.filc_core.specs.commands.Transactions.{Started}
 use Rattle.filc_core.specs.declared.commands.making.Product.{Product}
@@ -54,9 +55,9 @@ no_other_file words language other file file' apart second second' named named' 
 
 -- which kind of request has such a first word
 abbrev kind_of_product : Product → ℕ
-kind_of_product Net = 7
-kind_of_product Lower = 8
-kind_of_product Verilog = 9
+kind_of_product Net = 8
+kind_of_product Lower = 9
+kind_of_product Verilog = 10
 
 abbrev kind_of : Request → ℕ
 kind_of (OfCheck c) = 0
@@ -70,6 +71,7 @@ kind_of (OfTraceFil c) = 3
 kind_of (OfSimCal c) = 2
 kind_of (OfTraceCal c) = 3
 kind_of (OfSchedCal c) = 6
+kind_of (OfSoak c) = 7
 kind_of (OfMaking c) = kind_of_product c.product
 
 abbrev kind_by_word : Text → ℕ
@@ -77,8 +79,8 @@ kind_by_word word =
     if bytes_eq word (codes "check") then 0 else if bytes_eq word (codes "rows") then 1
     else if bytes_eq word (codes "sim") then 2 else if bytes_eq word (codes "trace") then 3
     else if bytes_eq word (codes "flow") then 4 else if bytes_eq word (codes "timeline") then 5
-    else if bytes_eq word (codes "sched") then 6
-    else if bytes_eq word (codes "net") then 7 else if bytes_eq word (codes "lower") then 8 else 9
+    else if bytes_eq word (codes "sched") then 6 else if bytes_eq word (codes "soak") then 7
+    else if bytes_eq word (codes "net") then 8 else if bytes_eq word (codes "lower") then 9 else 10
 
 product_tells : (p : Product) → kind_by_word (word_of p) ≡ kind_of_product p
 product_tells Net = refl
@@ -101,7 +103,7 @@ same_product Verilog Verilog same = refl
 pub product_of_word : (p q : Product) → word_of p ≡ word_of q → p ≡ q
 product_of_word p q same = same_product p q (sym (product_tells p) ∙ ap kind_by_word same ∙ product_tells q)
 
-product_is_late : (p : Product) → 7 ≤ kind_of_product p
+product_is_late : (p : Product) → 8 ≤ kind_of_product p
 product_is_late Net = omega arith
 product_is_late Lower = omega arith
 product_is_late Verilog = omega arith
@@ -118,6 +120,7 @@ word_tells (OfTraceFil c) = refl
 word_tells (OfSimCal c) = refl
 word_tells (OfTraceCal c) = refl
 word_tells (OfSchedCal c) = refl
+word_tells (OfSoak c) = refl
 word_tells (OfMaking c) = product_tells c.product
 
 same_kind : (words : List Text) (r r' : Request) → Asks words r → Asks words r' → kind_of r ≡ kind_of r'
@@ -135,7 +138,7 @@ same_started words word c d are are' =
     λ k. record { file = get_or (same k) 1 []; stimulus = get_or (same k) 2 [] }
 
 -- words that ask for a product ask for nothing of an earlier kind
-no_product : (words : List Text) (c : Making) (r : Request) → Asks words (OfMaking c) → Asks words r → kind_of r < 7 → ⊥
+no_product : (words : List Text) (c : Making) (r : Request) → Asks words (OfMaking c) → Asks words r → kind_of r < 8 → ⊥
 no_product words c r asks asks' early =
     let same = same_kind words (OfMaking c) r asks asks' in let late = product_is_late c.product in omega (arith, same, late, early)
 
@@ -159,6 +162,8 @@ asks_once words (OfTraceFil c) (OfTraceFil d) asks asks' = ap OfTraceFil (same_s
 asks_once words (OfSimCal c) (OfSimCal d) asks asks' = ap OfSimCal (same_driven words (codes "sim") c d asks.0 asks'.0)
 asks_once words (OfTraceCal c) (OfTraceCal d) asks asks' = ap OfTraceCal (same_driven words (codes "trace") c d asks.0 asks'.0)
 asks_once words (OfSchedCal c) (OfSchedCal d) asks asks' = ap OfSchedCal (same_driven words (codes "sched") c d asks.0 asks'.0)
+asks_once words (OfSoak c) (OfSoak d) asks asks' =
+    let count = decimal_injective c.transactions d.transactions asks.1 asks'.1 (ap second_of (sym asks.0 ∙ asks'.0)) in λ k. OfSoak (record { transactions = count k })
 asks_once words (OfMaking c) (OfMaking d) asks asks' =
     let file : c.file ≡ d.file = ap second_of (sym asks.0 ∙ asks'.0) in
     let language = same_language c.language d.language d.file (subst (IsFileIn c.language) file asks.1.0) asks'.1.0 in
@@ -198,6 +203,8 @@ asks_once words (OfMaking c) (OfTraceCal d) asks asks' = absurd (no_product word
 asks_once words (OfTraceCal d) (OfMaking c) asks asks' = absurd (no_product words c (OfTraceCal d) asks' asks (omega arith))
 asks_once words (OfMaking c) (OfSchedCal d) asks asks' = absurd (no_product words c (OfSchedCal d) asks asks' (omega arith))
 asks_once words (OfSchedCal d) (OfMaking c) asks asks' = absurd (no_product words c (OfSchedCal d) asks' asks (omega arith))
+asks_once words (OfMaking c) (OfSoak d) asks asks' = absurd (no_product words c (OfSoak d) asks asks' (omega arith))
+asks_once words (OfSoak d) (OfMaking c) asks asks' = absurd (no_product words c (OfSoak d) asks' asks (omega arith))
 asks_once words r r' asks asks' = absurd (let apart = same_kind words r r' asks asks' in omega (arith, apart))
 
 -- words that ask for no command of the list ask for nothing
@@ -206,17 +213,18 @@ pub none_asked : (words : List Text) → ((c : Check) → Asks words (OfCheck c)
     → ((c : Started) → Asks words (OfFlow c) → ⊥) → ((c : Started) → Asks words (OfTimeline c) → ⊥)
     → ((c : Started) → Asks words (OfSimFil c) → ⊥) → ((c : Started) → Asks words (OfTraceFil c) → ⊥)
     → ((c : Driven) → Asks words (OfSimCal c) → ⊥) → ((c : Driven) → Asks words (OfTraceCal c) → ⊥)
-    → ((c : Driven) → Asks words (OfSchedCal c) → ⊥)
+    → ((c : Driven) → Asks words (OfSchedCal c) → ⊥) → ((c : Soak) → Asks words (OfSoak c) → ⊥)
     → ((c : Making) → Asks words (OfMaking c) → ⊥) → AskNothing words
-none_asked words check rows sim trace flow timeline sim_fil trace_fil sim_cal trace_cal sched_cal making (OfCheck c) asks = check c asks
-none_asked words check rows sim trace flow timeline sim_fil trace_fil sim_cal trace_cal sched_cal making (OfRows c) asks = rows c asks
-none_asked words check rows sim trace flow timeline sim_fil trace_fil sim_cal trace_cal sched_cal making (OfSimNet c) asks = sim c asks
-none_asked words check rows sim trace flow timeline sim_fil trace_fil sim_cal trace_cal sched_cal making (OfTraceNet c) asks = trace c asks
-none_asked words check rows sim trace flow timeline sim_fil trace_fil sim_cal trace_cal sched_cal making (OfFlow c) asks = flow c asks
-none_asked words check rows sim trace flow timeline sim_fil trace_fil sim_cal trace_cal sched_cal making (OfTimeline c) asks = timeline c asks
-none_asked words check rows sim trace flow timeline sim_fil trace_fil sim_cal trace_cal sched_cal making (OfSimFil c) asks = sim_fil c asks
-none_asked words check rows sim trace flow timeline sim_fil trace_fil sim_cal trace_cal sched_cal making (OfTraceFil c) asks = trace_fil c asks
-none_asked words check rows sim trace flow timeline sim_fil trace_fil sim_cal trace_cal sched_cal making (OfSimCal c) asks = sim_cal c asks
-none_asked words check rows sim trace flow timeline sim_fil trace_fil sim_cal trace_cal sched_cal making (OfTraceCal c) asks = trace_cal c asks
-none_asked words check rows sim trace flow timeline sim_fil trace_fil sim_cal trace_cal sched_cal making (OfSchedCal c) asks = sched_cal c asks
-none_asked words check rows sim trace flow timeline sim_fil trace_fil sim_cal trace_cal sched_cal making (OfMaking c) asks = making c asks
+none_asked words check rows sim trace flow timeline sim_fil trace_fil sim_cal trace_cal sched_cal soak making (OfCheck c) asks = check c asks
+none_asked words check rows sim trace flow timeline sim_fil trace_fil sim_cal trace_cal sched_cal soak making (OfRows c) asks = rows c asks
+none_asked words check rows sim trace flow timeline sim_fil trace_fil sim_cal trace_cal sched_cal soak making (OfSimNet c) asks = sim c asks
+none_asked words check rows sim trace flow timeline sim_fil trace_fil sim_cal trace_cal sched_cal soak making (OfTraceNet c) asks = trace c asks
+none_asked words check rows sim trace flow timeline sim_fil trace_fil sim_cal trace_cal sched_cal soak making (OfFlow c) asks = flow c asks
+none_asked words check rows sim trace flow timeline sim_fil trace_fil sim_cal trace_cal sched_cal soak making (OfTimeline c) asks = timeline c asks
+none_asked words check rows sim trace flow timeline sim_fil trace_fil sim_cal trace_cal sched_cal soak making (OfSimFil c) asks = sim_fil c asks
+none_asked words check rows sim trace flow timeline sim_fil trace_fil sim_cal trace_cal sched_cal soak making (OfTraceFil c) asks = trace_fil c asks
+none_asked words check rows sim trace flow timeline sim_fil trace_fil sim_cal trace_cal sched_cal soak making (OfSimCal c) asks = sim_cal c asks
+none_asked words check rows sim trace flow timeline sim_fil trace_fil sim_cal trace_cal sched_cal soak making (OfTraceCal c) asks = trace_cal c asks
+none_asked words check rows sim trace flow timeline sim_fil trace_fil sim_cal trace_cal sched_cal soak making (OfSchedCal c) asks = sched_cal c asks
+none_asked words check rows sim trace flow timeline sim_fil trace_fil sim_cal trace_cal sched_cal soak making (OfSoak c) asks = soak c asks
+none_asked words check rows sim trace flow timeline sim_fil trace_fil sim_cal trace_cal sched_cal soak making (OfMaking c) asks = making c asks

@@ -17,11 +17,12 @@ use Rattle.filc_core.proofs.MakingLemmas.{making_reads, making_comes}
 use Rattle.filc_core.proofs.NetRunLemmas.{net_run_reads, net_run_comes}
 use Rattle.filc_core.proofs.PerformLemmas.{one_told, both_told}
 use Rattle.filc_core.proofs.RowsLemmas.{rows_reads, rows_comes}
+use Rattle.filc_core.proofs.SoakLemmas.{soak_done, soak_told_all}
 use Rattle.filc_core.proofs.SourceLemmas.{is_told}
 use Rattle.filc_core.proofs.StartedLemmas.{started_reads, started_comes}
 use Rattle.filc_core.proofs.TraceFilLemmas.{trace_fil_reading, trace_fil_done}
 use Rattle.filc_core.specs.Files.{IsToldFor}
-use Rattle.filc_core.specs.Request.{Request, OfCheck, OfRows, OfSimNet, OfTraceNet, OfFlow, OfTimeline, OfSimFil, OfTraceFil, OfSimCal, OfTraceCal, OfSchedCal, OfMaking, command_of}
+use Rattle.filc_core.specs.Request.{Request, OfCheck, OfRows, OfSimNet, OfTraceNet, OfFlow, OfTimeline, OfSimFil, OfTraceFil, OfSimCal, OfTraceCal, OfSchedCal, OfSoak, OfMaking, command_of}
 use Rattle.filc_core.specs.commands.CalRun as cal_run
 use Rattle.filc_core.specs.commands.Driven.{Driven}
 use Rattle.filc_core.specs.commands.NetRun as net_run
@@ -80,6 +81,7 @@ granted_ends (OfTraceFil c) contents made o granted comes = inl (trace_fil_done 
 granted_ends (OfSimCal c) contents made o granted comes = means_ends (driven_of granted.top granted.run) o (sim_cal_comes c contents granted.top granted.run granted.gives made o comes)
 granted_ends (OfTraceCal c) contents made o granted comes = traces_end (driven_of granted.top granted.run) made o (trace_cal_comes c contents granted.top granted.run granted.gives made o comes)
 granted_ends (OfSchedCal c) contents made o granted comes = schedules_end (driven_of granted.top granted.run) o (sched_cal_comes c contents granted.top granted.run granted.gives made o comes)
+granted_ends (OfSoak c) contents made o granted comes = inl (soak_done c contents made o granted comes)
 granted_ends (OfMaking c) contents made o granted comes = inl (ap (λ (x : Outcome). x.ended) (making_comes c contents made o granted comes))
 
 -- and its files are told
@@ -104,4 +106,5 @@ granted_told (OfTraceCal c) contents granted =
     both_told (OfTraceCal c) Calyx c.file (trace_cal_reading c).reads c.stimulus refl contents (granted.top.design, granted.gives.gives_top.gives) (cal_run_is_told c contents granted)
 granted_told (OfSchedCal c) contents granted =
     both_told (OfSchedCal c) Calyx c.file (sched_cal_reading c).reads c.stimulus refl contents (granted.top.design, granted.gives.gives_top.gives) (cal_run_is_told c contents granted)
+granted_told (OfSoak c) contents granted = soak_told_all c contents
 granted_told (OfMaking c) contents granted = one_told (OfMaking c) c.language c.file (making_reads c) contents refl granted

@@ -9,6 +9,7 @@ pub mod CalRunLemmas
 pub mod StartedLemmas
 pub mod MakingLemmas
 pub mod TraceFilLemmas
+pub mod SoakLemmas
 pub mod AskLemmas
 pub mod GrantLemmas
 pub mod EndingLemmas

@@ -12,6 +12,7 @@ use Rattle.filc_core.specs.commands.SchedCal.{sched_cal}
 use Rattle.filc_core.specs.commands.SimCal.{sim_cal}
 use Rattle.filc_core.specs.commands.SimFil.{sim_fil}
 use Rattle.filc_core.specs.commands.SimNet.{sim_net}
+use Rattle.filc_core.specs.commands.Soak.{Soak, soak}
 use Rattle.filc_core.specs.commands.Timeline.{timeline}
 use Rattle.filc_core.specs.commands.TraceCal.{trace_cal}
 use Rattle.filc_core.specs.commands.TraceFil.{trace_fil}
@@ -31,6 +32,7 @@ pub data Request : Type 0 where
   OfSimCal : Driven → Request
   OfTraceCal : Driven → Request
   OfSchedCal : Driven → Request
+  OfSoak : Soak → Request
   OfMaking : Making → Request
 
 abbrev pub command_of : Request → Command
@@ -45,6 +47,7 @@ command_of (OfTraceFil c) = trace_fil c
 command_of (OfSimCal c) = sim_cal c
 command_of (OfTraceCal c) = trace_cal c
 command_of (OfSchedCal c) = sched_cal c
+command_of (OfSoak c) = soak c
 command_of (OfMaking c) = making c
 
 -- the words ask for this, exactly

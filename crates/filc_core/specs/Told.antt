@@ -1,10 +1,10 @@
 -- The program's own values, as what they say.
-use Rattle.filc_core.specs.Request.{Request, OfCheck, OfRows, OfSimNet, OfTraceNet, OfFlow, OfTimeline, OfSimFil, OfTraceFil, OfSimCal, OfTraceCal}
-use Rattle.filc_core.specs.Request.{OfSchedCal, OfMaking}
+use Rattle.filc_core.specs.Request.{Request, OfCheck, OfRows, OfSimNet, OfTraceNet, OfFlow, OfTimeline, OfSimFil, OfTraceFil, OfSimCal, OfTraceCal, OfSchedCal, OfSoak, OfMaking}
 use Rattle.filc_core.specs.commands.Check.{Check}
 use Rattle.filc_core.specs.commands.Driven.{Driven}
 use Rattle.filc_core.specs.commands.Making.{Making}
 use Rattle.filc_core.specs.commands.Rows.{Rows}
+use Rattle.filc_core.specs.commands.Soak.{Soak}
 use Rattle.filc_core.specs.commands.Transactions.{Started}
 use Rattle.filc_core.specs.declared.commands.check.Check.{Check as CheckValue}
 use Rattle.filc_core.specs.declared.commands.flow.Flow.{Flow as FlowValue}
@@ -16,6 +16,7 @@ use Rattle.filc_core.specs.declared.commands.sched_cal.SchedCal.{SchedCal as Sch
 use Rattle.filc_core.specs.declared.commands.rows.Rows.{Rows as RowsValue}
 use Rattle.filc_core.specs.declared.commands.sim_fil.SimFil.{SimFil as SimFilValue}
 use Rattle.filc_core.specs.declared.commands.sim_net.SimNet.{SimNet as SimNetValue}
+use Rattle.filc_core.specs.declared.commands.soak.Soak.{Soak as SoakValue}
 use Rattle.filc_core.specs.declared.commands.timeline.Timeline.{Timeline as TimelineValue}
 use Rattle.filc_core.specs.declared.commands.trace_fil.TraceFil.{TraceFil as TraceFilValue}
 use Rattle.filc_core.specs.declared.commands.trace_net.TraceNet.{TraceNet as TraceNetValue}
@@ -28,6 +29,9 @@ check_told c = record { language = c.language; file = c.file.now }
 
 abbrev pub rows_told : RowsValue → Rows
 rows_told c = record { file = c.file.now; cycles = c.cycles }
+
+abbrev pub soak_told : SoakValue → Soak
+soak_told c = record { transactions = c.transactions }
 
 abbrev pub making_told : MakingValue → Making
 making_told c = record { product = c.product; language = c.language; file = c.file.now }
@@ -77,4 +81,5 @@ request_told (value.TraceFil c) = OfTraceFil (trace_fil_told c)
 request_told (value.SimCal c) = OfSimCal (sim_cal_told c)
 request_told (value.TraceCal c) = OfTraceCal (trace_cal_told c)
 request_told (value.SchedCal c) = OfSchedCal (sched_cal_told c)
+request_told (value.Soak c) = OfSoak (soak_told c)
 request_told (value.Making c) = OfMaking (making_told c)

@@ -15,3 +15,4 @@ pub mod CalRun
 pub mod SimCal
 pub mod TraceCal
 pub mod SchedCal
+pub mod Soak

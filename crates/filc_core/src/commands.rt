@@ -12,6 +12,7 @@ pub(crate) mod sched_cal;
 pub(crate) mod sim_cal;
 pub(crate) mod sim_fil;
 pub(crate) mod sim_net;
+pub(crate) mod soak;
 pub(crate) mod timeline;
 pub(crate) mod trace_cal;
 pub(crate) mod trace_fil;

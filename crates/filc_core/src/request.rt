@@ -12,6 +12,7 @@ use crate::commands::sched_cal::SchedCal;
 use crate::commands::sim_cal::SimCal;
 use crate::commands::sim_fil::SimFil;
 use crate::commands::sim_net::SimNet;
+use crate::commands::soak::Soak;
 use crate::commands::timeline::Timeline;
 use crate::commands::trace_cal::TraceCal;
 use crate::commands::trace_fil::TraceFil;
@@ -34,6 +35,7 @@ pub(crate) enum Request<'a> {
     SimCal(SimCal<'a>),
     TraceCal(TraceCal<'a>),
     SchedCal(SchedCal<'a>),
+    Soak(Soak),
     Making(Making<'a>),
 }
 
@@ -75,6 +77,9 @@ pub(crate) fn asked<'a>(words: &[&'a str]) -> Option<Request<'a>>
     if let Some(sched) = SchedCal::asked(words) {
         return Some(Request::SchedCal(sched));
     }
+    if let Some(soak) = Soak::asked(words) {
+        return Some(Request::Soak(soak));
+    }
     Some(Request::Making(Making::asked(words)?))
 }
 
@@ -96,6 +101,7 @@ impl Command for Request<'_> {
             Request::SimCal(it) => it.design(),
             Request::TraceCal(it) => it.design(),
             Request::SchedCal(it) => it.design(),
+            Request::Soak(it) => it.design(),
             Request::Making(it) => it.design(),
         }
     }
@@ -113,6 +119,7 @@ impl Command for Request<'_> {
             Request::SimCal(it) => it.stimulus(),
             Request::TraceCal(it) => it.stimulus(),
             Request::SchedCal(it) => it.stimulus(),
+            Request::Soak(it) => it.stimulus(),
             Request::Making(it) => it.stimulus(),
         }
     }
@@ -135,6 +142,7 @@ impl Command for Request<'_> {
             Request::SimCal(it) => it.perform(alloc, files, out),
             Request::TraceCal(it) => it.perform(alloc, files, out),
             Request::SchedCal(it) => it.perform(alloc, files, out),
+            Request::Soak(it) => it.perform(alloc, files, out),
             Request::Making(it) => it.perform(alloc, files, out),
         }
     }

@@ -16,6 +16,7 @@ use Rattle.filc_load.specs.Settable.{settable_inputs, settable_memories}
 use Rattle.filc_load.specs.Source.{IsAccepted, IsRefusedForSource}
 use Rattle.filc_load.specs.StimulusFile.{GivesRun, GivesTransactions, FileGivesRun, FileGivesTransactions, IsRefusedBy, IsRefusedForStimulus, run_causes, transaction_causes, component_events}
 use Rattle.filc_report.specs.Runs.{RunComes, plain_run, stimulus_run}
+use Rattle.filc_run.specs.Soaked.{Soaks}
 use Rattle.filc_run.specs.Traced.{Traces}
 use Rattle.filc_stop.specs.Outcome.{Contents, Outcome, done_with, refused_with}
 use Rattle.filc_stop.specs.declared.ended.Ended.{Ended}
@@ -23,7 +24,7 @@ use Rattle.filc_stop.specs.declared.language.Language.{Language}
 use Rattle.filc_stop.specs.declared.language.Language.TheVariants.{Netlists, Filament, Calyx}
 use Rattle.filc_core.proofs.CalRunLemmas as cal_runs
 use Rattle.filc_core.proofs.MakingLemmas.{made_of_accepted}
-use Rattle.filc_core.specs.Request.{OfMaking, OfTraceCal, OfTraceFil, Asks}
+use Rattle.filc_core.specs.Request.{OfMaking, OfSoak, OfTraceCal, OfTraceFil, Asks}
 use Rattle.filc_core.specs.commands.Check.{Check, Accepts}
 use Rattle.filc_core.specs.commands.CalRun as cal_run
 use Rattle.filc_core.specs.commands.Driven.{Driven}
@@ -32,6 +33,8 @@ use Rattle.filc_core.specs.commands.NetRun.{IsRefusedWithNet}
 use Rattle.filc_core.specs.commands.NetRun as net_run
 use Rattle.filc_core.specs.commands.Rows.{Rows, AsksTooMany}
 use Rattle.filc_core.specs.commands.Rows as rows
+use Rattle.filc_core.specs.commands.Soak.{IsSoaked, Soak}
+use Rattle.filc_core.specs.commands.Soak as soak
 use Rattle.filc_core.specs.commands.TraceFil.{PrintsTrace}
 use Rattle.filc_core.specs.commands.Transactions.{Started, Top, GivesTop, IsGranted, IsRefusedWithTop, Prints}
 use Rattle.filc_laws.proofs.CauseLemmas.{run_is_given_once, run_cause_is_one, given_run_has_no_cause, transactions_are_given_once, transaction_cause_is_one, given_transactions_have_no_cause}
@@ -40,6 +43,7 @@ use Rattle.filc_laws.proofs.FilSourceLemmas.{top_once}
 use Rattle.filc_laws.proofs.LineLemmas.{along_lines}
 use Rattle.filc_laws.proofs.ReportLemmas.{comes_once}
 use Rattle.filc_laws.proofs.ScheduleLemmas.{schedules_once}
+use Rattle.filc_laws.proofs.SoakLemmas.{soaks_report}
 use Rattle.filc_laws.proofs.SourceLemmas.{net_is_given_once, fil_is_given_once, source_is_refused_once, refused_source_is_not_accepted}
 use Rattle.filc_laws.proofs.StimulusLemmas.{refused_by_once, not_refused}
 use Rattle.filc_laws.proofs.TraceLemmas.{plain_shows, stimulus_shows, traces_report}
@@ -314,7 +318,7 @@ module _ (words : List Text) (contents : Contents) (made made' : Text) (o o' : O
           let same = end_alike a.top contents c.file a.gives.gives_top a.run made made' o o' a.comes other in
           record {
             ended = same.0;
-            report = inr (inr (inr (record {
+            report = inr (inr (inr (inl (record {
               asked = c;
               asks = asks;
               top = a.top;
@@ -325,7 +329,7 @@ module _ (words : List Text) (contents : Contents) (made made' : Text) (o o' : O
               traces = a.comes;
               traces' =
                   subst₂ (λ (e : Ended) (l : Text). calyx.Traces (cal_runs.driven_of a.top a.run) made' (record { ended = e; report = o'.report; line = l })) (sym same.0) (sym same.1) other;
-            })));
+            }))));
             line = inl same.1;
           }
 
@@ -333,6 +337,27 @@ module _ (words : List Text) (contents : Contents) (made made' : Text) (o o' : O
           → IsRefusedForSource contents Calyx c.file o' ⊎ cal_run.IsRefusedWithTop c contents o' ⊎ cal_run.Runs c calyx.Traces contents made' o' → One
       trace_cal_once p q =
           cal_run_once (cal_run.Runs c calyx.Traces contents made o) (cal_run.Runs c calyx.Traces contents made' o') (cal_grants calyx.Traces made o) (cal_grants calyx.Traces made' o') two_cal_traces p q
+
+  -- ---- a soak
+
+  module _ (c : Soak) (asks : Asks words (OfSoak c)) where
+    two_soaks : Soaks c.transactions made o → Soaks c.transactions made' o' → One
+    two_soaks a b = record {
+      ended = ap (λ (x : Outcome). x.ended) a.outcome ∙ sym (ap (λ (x : Outcome). x.ended) b.outcome);
+      report = inr (inr (inr (inr (record {
+        asked = c;
+        asks = asks;
+        soaks = soaks_report c.transactions made o a;
+        soaks' = soaks_report c.transactions made' o' b;
+      }))));
+      line = inl (ap (λ (x : Outcome). x.line) a.outcome ∙ sym (ap (λ (x : Outcome). x.line) b.outcome));
+    }
+
+    pub soak_once : soak.AsksTooMany c o ⊎ IsSoaked c made o → soak.AsksTooMany c o' ⊎ IsSoaked c made' o' → One
+    soak_once (inl a) (inl b) = same_outcome (a.outcome ∙ sym b.outcome)
+    soak_once (inl a) (inr b) = let over = a.over in let within = b.within in absurd (omega (arith, over, within))
+    soak_once (inr a) (inl b) = let over = b.over in let within = a.within in absurd (omega (arith, over, within))
+    soak_once (inr a) (inr b) = two_soaks a.soaks b.soaks
 
   -- ---- a text that was made of a design
 

@@ -23,6 +23,7 @@ pub mod StimulusLemmas
 pub mod SourceLemmas
 pub mod CalRunLemmas
 pub mod ScheduleLemmas
+pub mod SoakLemmas
 pub mod ComesLemmas
 pub mod VerdictLemmas
 pub mod AnswerLemmas

@@ -18,7 +18,7 @@ use Rattle.filc_stop.specs.declared.ended.Ended.{Ended}
 use Rattle.filc_stop.specs.declared.language.Language.{Language}
 use Rattle.filc_stop.specs.declared.language.Language.TheVariants.{Netlists, Filament, Calyx}
 use Rattle.filc_core.specs.Files.{IsDesignOf, IsStimulusOf}
-use Rattle.filc_core.specs.Request.{Request, OfCheck, OfRows, OfSimNet, OfTraceNet, OfFlow, OfTimeline, OfSimFil, OfTraceFil, OfSimCal, OfTraceCal, OfSchedCal, OfMaking, command_of, Asks}
+use Rattle.filc_core.specs.Request.{Request, OfCheck, OfRows, OfSimNet, OfTraceNet, OfFlow, OfTimeline, OfSimFil, OfTraceFil, OfSimCal, OfTraceCal, OfSchedCal, OfSoak, OfMaking, command_of, Asks}
 use Rattle.filc_core.specs.Verdict.{Verdict, NotAsked, Asked}
 use Rattle.filc_core.specs.commands.Check.{Check, Accepts}
 use Rattle.filc_core.specs.commands.Flow.{flow_of_top}
@@ -159,6 +159,7 @@ module _ (contents other : Contents) where
   comes_too (OfSimCal c) made o same p = cal_run_too c (λ d text x. means.Means d x) made o (same c.file (inl (record { language = Calyx; name = c.file }, refl, refl))) (same c.stimulus (inr refl)) p
   comes_too (OfTraceCal c) made o same p = cal_run_too c means.Traces made o (same c.file (inl (record { language = Calyx; name = c.file }, refl, refl))) (same c.stimulus (inr refl)) p
   comes_too (OfSchedCal c) made o same p = cal_run_too c (λ d text x. Schedules d x) made o (same c.file (inl (record { language = Calyx; name = c.file }, refl, refl))) (same c.stimulus (inr refl)) p
+  comes_too (OfSoak c) made o same p = p
   comes_too (OfMaking c) made o same p = making_too c made o (same c.file (inl (record { language = c.language; name = c.file }, refl, refl))) p
 
 verdict_too : (words : List Text) (contents other : Contents) (made : Text) (o : Outcome) → ((r : Request) → Asks words r → (file : Text) → IsDesignOf r file ⊎ IsStimulusOf r file → contents file ≡ other file) → Verdict words contents made o → Verdict words other made o

@@ -5,14 +5,15 @@ use Rattle.hw_names.specs.Name.{Text}
 use Rattle.net_text.specs.Layout.{net_text}
 use Rattle.filc_stop.specs.Outcome.{Contents, Outcome, done_with}
 use Rattle.filc_core.proofs.AskLemmas.{asks_once}
-use Rattle.filc_core.specs.Request.{Request, OfCheck, OfRows, OfSimNet, OfTraceNet, OfFlow, OfTimeline, OfSimFil, OfTraceFil, OfSimCal, OfTraceCal, OfSchedCal, OfMaking, command_of, Asks}
+use Rattle.filc_core.specs.Request.{Request, OfCheck, OfRows, OfSimNet, OfTraceNet, OfFlow, OfTimeline, OfSimFil, OfTraceFil, OfSimCal, OfTraceCal, OfSchedCal, OfSoak, OfMaking, command_of, Asks}
 use Rattle.filc_core.specs.Verdict.{Verdict, NotAsked, Asked}
 use Rattle.filc_core.specs.commands.Flow.{flow_of_top}
 use Rattle.filc_core.specs.commands.SimFil.{rows_of_top}
 use Rattle.filc_core.specs.commands.Timeline.{holds_in_top}
 use Rattle.filc_core.proofs.CalRunLemmas.{driven_of}
 use Rattle.filc_laws.proofs.CalRunLemmas.{cal_traces_once}
-use Rattle.filc_laws.proofs.ComesLemmas.{same_outcome, check_once, rows_once, net_run_once, transactions_once, trace_fil_once, sim_cal_once, trace_cal_once, sched_cal_once, made_once}
+use Rattle.filc_laws.proofs.ComesLemmas.{same_outcome, check_once, rows_once, net_run_once, transactions_once, trace_fil_once, sim_cal_once, trace_cal_once, sched_cal_once, soak_once, made_once}
+use Rattle.filc_laws.proofs.SoakLemmas.{soaks_once}
 use Rattle.filc_laws.proofs.TraceLemmas.{traces_once}
 use Rattle.filc_laws.specs.OneVerdict.{IsSameReport, AreOne, OneVerdict, OneReport}
 
@@ -29,6 +30,7 @@ comes_one words contents made made' o o' (OfTraceFil c) asks p q = trace_fil_onc
 comes_one words contents made made' o o' (OfSimCal c) asks p q = sim_cal_once words contents made made' o o' c p q
 comes_one words contents made made' o o' (OfTraceCal c) asks p q = trace_cal_once words contents made made' o o' c asks p q
 comes_one words contents made made' o o' (OfSchedCal c) asks p q = sched_cal_once words contents made made' o o' c p q
+comes_one words contents made made' o o' (OfSoak c) asks p q = soak_once words contents made made' o o' c asks p q
 comes_one words contents made made' o o' (OfMaking c) asks p q = made_once words contents made made' o o' c asks p q
 
 verdicts_one : (words : List Text) (contents : Contents) (made made' : Text) (o o' : Outcome) → Verdict words contents made o → Verdict words contents made' o' → AreOne words contents made made' o o'
@@ -46,8 +48,10 @@ same_report words contents made report other (inl same) = same
 same_report words contents made report other (inr (inl texts)) = texts.printed ∙ sym texts.printed'
 same_report words contents made report other (inr (inr (inl two))) =
     ap (λ (x : Outcome). x.report) (traces_once two.top.comp two.run two.top.design made (done_with report) (done_with other) two.traces two.traces')
-same_report words contents made report other (inr (inr (inr two))) =
+same_report words contents made report other (inr (inr (inr (inl two)))) =
     ap (λ (x : Outcome). x.report) (cal_traces_once (driven_of two.top two.run) made (record { ended = two.ended; report = report; line = two.line }) (record { ended = two.ended; report = other; line = two.line }) two.traces two.traces')
+same_report words contents made report other (inr (inr (inr (inr two)))) =
+    ap (λ (x : Outcome). x.report) (soaks_once two.asked.transactions made (done_with report) (done_with other) two.soaks two.soaks')
 
 pub one_report : OneReport
 one_report = λ words contents made o other p q. same_report words contents made o.report other.report (verdicts_one words contents made made o other p q).report

@@ -20,7 +20,8 @@ pub record HoldTextsOfOne (words : List Text) (contents : Contents) (before out 
   pub printed : out ≡ before ++ made
   pub printed' : out' ≡ before ++ made'
 
--- both hold the trace of a netlist that was made, both netlists were made of the design that the words ask for, and the same stimulus drives them
+-- both hold the trace of a netlist that was made, or what its run adds up to; both netlists were made of the design that the words ask for, and the same
+-- stimulus drives them
 pub record HoldTracesOfOne (words : List Text) (contents : Contents) (before out out' : Text) : Type 0 where
   pub made : Text
   pub made' : Text

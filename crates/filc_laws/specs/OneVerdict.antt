@@ -1,6 +1,6 @@
 -- The law of one verdict: for the same words and the same told contents of files there is one answer, one report and one line, but for what
--- is left to a program: which loop it tells (N6, F14 and C12 show one of those from the least port), and which netlist `net`, `trace` and `verilog`,
--- and which Calyx design `lower`, make of a Filament or a Calyx design. This project's.
+-- is left to a program: which loop it tells (N6, F14 and C12 show one of those from the least port), and which netlist `net`, `trace`, `soak` and
+-- `verilog`, and which Calyx design `lower`, make of a Filament or a Calyx design. This project's.
 use Rattle.std.specs.Prelude.{◌≡◌, ◌⊎◌, List}
 use Rattle.hw_names.specs.Name.{Text}
 use Rattle.filc_calyx.specs.Means as calyx
@@ -8,11 +8,13 @@ use Rattle.stim_read.specs.CycleRun.{Run}
 use Rattle.stim_read.specs.TxRun.{TxRun}
 use Rattle.filc_stop.specs.Outcome.{Contents, Outcome, done_with}
 use Rattle.filc_stop.specs.declared.ended.Ended.{Ended}
+use Rattle.filc_run.specs.Soaked.{Soaks}
 use Rattle.filc_run.specs.Traced.{Traces}
-use Rattle.filc_core.specs.Request.{Request, OfTraceCal, OfTraceFil, command_of, Asks}
+use Rattle.filc_core.specs.Request.{Request, OfSoak, OfTraceCal, OfTraceFil, command_of, Asks}
 use Rattle.filc_core.specs.Verdict.{Verdict}
 use Rattle.filc_core.specs.commands.CalRun.{CalTop, GivesRunOf}
 use Rattle.filc_core.specs.commands.Driven.{Driven}
+use Rattle.filc_core.specs.commands.Soak.{Soak}
 use Rattle.filc_core.specs.commands.Transactions.{Started, Top, GivesTransactionsOf}
 use Rattle.filc_laws.specs.OneLine.{IsSameLine}
 
@@ -48,9 +50,16 @@ pub record AreCalTracesOfOne (words : List Text) (contents : Contents) (made mad
   pub traces : calyx.Traces (record { design = top.design; top = top.comp; run = run }) made (record { ended = ended; report = report; line = line })
   pub traces' : calyx.Traces (record { design = top.design; top = top.comp; run = run }) made' (record { ended = ended; report = other; line = line })
 
+-- each report is the text that was made and what the run of its netlist adds up to, and the same transactions drive both
+pub record AreSoaksOfOne (words : List Text) (made made' report other : Text) : Type 0 where
+  pub asked : Soak
+  pub asks : Asks words (OfSoak asked)
+  pub soaks : Soaks asked.transactions made (done_with report)
+  pub soaks' : Soaks asked.transactions made' (done_with other)
+
 abbrev pub AreTracesOfOne : List Text → Contents → Text → Text → Text → Text → Type 0
 AreTracesOfOne words contents made made' report other =
-    AreFilTracesOfOne words contents made made' report other ⊎ AreCalTracesOfOne words contents made made' report other
+    AreFilTracesOfOne words contents made made' report other ⊎ AreCalTracesOfOne words contents made made' report other ⊎ AreSoaksOfOne words made made' report other
 
 -- the same report, but for which netlist or which Calyx design is made
 abbrev pub IsSameReport : List Text → Contents → Text → Text → Text → Text → Type 0
