@@ -40,6 +40,8 @@ mod rules;
 #[cfg(test)]
 mod runs;
 #[cfg(test)]
+mod soak;
+#[cfg(test)]
 mod stimuli;
 #[cfg(test)]
 mod stimulus_rules;
