@@ -11,7 +11,8 @@ use Rattle.cal_check.specs.Tables.{ShowsTables}
 use Rattle.cal_check.specs.declared.first_places.FirstPlaces.{FirstPlaces}
 use Rattle.cal_check.specs.declared.tables.Tables.{Tables}
 
-pub record StandsIn (design : CalDesign) (shown : Tables) (number : ℕ) (comp : CalComp) (cell_places group_places : FirstPlaces) (marks : List Bool) : Type 0 where
+pub record StandsIn (design : CalDesign) (shown : Tables) (number : ℕ) (comp : CalComp) (cell_places group_places : FirstPlaces)
+    (marks : List Bool) : Type 0 where
   pub numbers : HasNumbers design
   pub at : slice_get design.comps.items number ≡ Some comp
   pub tables : ShowsTables (design_of design) shown

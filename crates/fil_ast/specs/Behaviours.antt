@@ -1,5 +1,6 @@
 -- What a component promises, and what it gives its instances. Filament, PLDI 2023.
-use Rattle.std.specs.Prelude.{◌≡◌, ℕ, ◌+◌, ◌<◌, ◌==◌, ◌&&◌, false, List, [], ◌∷◌, map, flat_map, filter, reverse, take, slice_get, if◌then◌else◌, bytes_eq, Some, Contains}
+use Rattle.std.specs.Prelude.{◌≡◌, ℕ, ◌+◌, ◌<◌, ◌==◌, ◌&&◌, false, List, [], ◌∷◌, map, flat_map, filter, reverse, take, slice_get, if◌then◌else◌, bytes_eq}
+use Rattle.std.specs.Prelude.{Some, Contains}
 use Rattle.std.specs.Option.{option_map_or}
 use Rattle.hw_bits.specs.Values.{values_of}
 use Rattle.hw_names.specs.Name.{Text, Path}
@@ -83,8 +84,12 @@ inner_transactions earlier c txs inst = flat_map (λ tx. flat_map (inner_of earl
 -- in transactions of component n, the instance at a path below it promises this behaviour and is given these transactions
 pub data IsGiven (comps : Design) (b : Behaviour) (given : List Transaction) : ℕ → List Transaction → Path → Type 0 where
   Itself : (n : ℕ) (c : Component) → slice_get comps n ≡ Some c → b ≡ component_behaviour (take n comps) c → IsGiven comps b given n given []
-  OfPrimitive : (n : ℕ) (txs : List Transaction) (c : Component) (inst : Text) (i : Instance) (prim : Primitive) → slice_get comps n ≡ Some c → instance_named (whole_scope (take n comps) c).instances inst ≡ Some i → filament_primitive i.made i.params ≡ Some prim → b ≡ behaviour_of prim → given ≡ inner_transactions (take n comps) c txs inst → IsGiven comps b given n txs (inst ∷ [])
-  Below : (n m : ℕ) (txs : List Transaction) (c d : Component) (inst : Text) (i : Instance) (path : Path) → slice_get comps n ≡ Some c → instance_named (whole_scope (take n comps) c).instances inst ≡ Some i → is_filament_primitive i.made ≡ false → m < n → slice_get comps m ≡ Some d → d.name ≡ i.made → IsGiven comps b given m (inner_transactions (take n comps) c txs inst) path → IsGiven comps b given n txs (inst ∷ path)
+  OfPrimitive : (n : ℕ) (txs : List Transaction) (c : Component) (inst : Text) (i : Instance) (prim : Primitive) → slice_get comps n ≡ Some c →
+      instance_named (whole_scope (take n comps) c).instances inst ≡ Some i → filament_primitive i.made i.params ≡ Some prim → b ≡ behaviour_of prim →
+      given ≡ inner_transactions (take n comps) c txs inst → IsGiven comps b given n txs (inst ∷ [])
+  Below : (n m : ℕ) (txs : List Transaction) (c d : Component) (inst : Text) (i : Instance) (path : Path) → slice_get comps n ≡ Some c →
+      instance_named (whole_scope (take n comps) c).instances inst ≡ Some i → is_filament_primitive i.made ≡ false → m < n → slice_get comps m ≡ Some d →
+      d.name ≡ i.made → IsGiven comps b given m (inner_transactions (take n comps) c txs inst) path → IsGiven comps b given n txs (inst ∷ path)
 
 -- the name of the component's event with this number
 abbrev pub event_named : Component → ℕ → Text

@@ -18,7 +18,8 @@ pub data Evidence : Type 0 where
 -- argument k, where it has a port, is available throughout its need
 abbrev pub ReadsArgument : Scope → Signature → Giving → ℕ → Type 0
 ReadsArgument scope sig gives k =
-    (arg : ValueTree) (port : SigPort) → slice_get gives.args k ≡ Some arg → slice_get sig.ins k ≡ Some port → IfSome (interval_at gives.times port) (Covers scope arg)
+    (arg : ValueTree) (port : SigPort) → slice_get gives.args k ≡ Some arg → slice_get sig.ins k ≡ Some port →
+    IfSome (interval_at gives.times port) (Covers scope arg)
 
 -- F8: the least offset that is needed and not available, of the first argument that breaks the rule
 pub record IsMissingOffset (scope : Scope) (sig : Signature) (gives : Giving) (offset : ℕ) : Type 0 where
@@ -98,7 +99,8 @@ abbrev pub MissesAt : Scope → Statement → ℕ → Type 0
 MissesAt scope (New name made params) offset = ⊥
 MissesAt scope (Connect output value) offset = ⊥
 MissesAt scope (Call name inst gives) offset = (sig : Signature) × (instance_signature scope inst ≡ Some sig) × IsMissingOffset scope sig gives offset
-MissesAt scope (Both name made params gives) offset = (sig : Signature) × (signature_in scope.comps made params ≡ Some sig) × IsMissingOffset scope sig gives offset
+MissesAt scope (Both name made params gives) offset =
+    (sig : Signature) × (signature_in scope.comps made params ≡ Some sig) × IsMissingOffset scope sig gives offset
 
 -- F11 and F12 at a statement, in the scope with the instance that it makes
 abbrev pub MeetsAt : Scope → Statement → ℕ → Type 0

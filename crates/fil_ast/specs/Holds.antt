@@ -1,5 +1,6 @@
 -- Transactions, legal lists of them, and what they hold. Filament, PLDI 2023.
-use Rattle.std.specs.Prelude.{◌≡◌, ◌⊎◌, ℕ, suc, ◌+◌, ◌<◌, ◌≤◌, List, [], ◌∷◌, ◌++◌, map, filter, flat_map, slice_get, bytes_eq, Option, Some, None, option_map, option_and_then, AllPairs, Contains}
+use Rattle.std.specs.Prelude.{◌≡◌, ◌⊎◌, ℕ, suc, ◌+◌, ◌<◌, ◌≤◌, List, [], ◌∷◌, ◌++◌, map, filter, flat_map, slice_get, bytes_eq, Option, Some, None, option_map}
+use Rattle.std.specs.Prelude.{option_and_then, AllPairs, Contains}
 use Rattle.hw_names.specs.Name.{Text}
 use Rattle.fil_ast.specs.Scope.{Scope, Invocation, instance_signature}
 use Rattle.fil_ast.specs.Signature.{SigEvent, Signature}
@@ -33,7 +34,8 @@ pub record Hold : Type 0 where
 -- the use of event k of a callee: none where it triggers nothing
 abbrev pub use_of : ℕ → SigEvent → Text → List TimeAt → Option Use
 use_of k e inst times =
-    option_and_then (λ t. option_map (λ rows. record { inst = inst; event = k; go = e.go; at = t; hold = rows }) (hold_of e.delay t (slice_get times (k + 1)))) (slice_get times k)
+    option_and_then (λ t. option_map (λ rows. record { inst = inst; event = k; go = e.go; at = t; hold = rows }) (hold_of e.delay t (slice_get times (k + 1))))
+    (slice_get times k)
 
 abbrev pub listed : Option Use → List Use
 listed None = []

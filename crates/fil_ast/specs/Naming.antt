@@ -3,7 +3,8 @@ use Rattle.std.specs.Prelude.{◌≡◌, ◌⊎◌, ◌++◌, true, false, List,
 use Rattle.hw_names.specs.Name.{Text, AreDistinct}
 use Rattle.fil_ast.specs.Primitives.{is_any_primitive, is_filament_primitive}
 use Rattle.fil_ast.specs.Scope.{Scope, Instance, Invocation, instances_at, invocations_at, instance_named, input_of, output_of, result_of}
-use Rattle.fil_ast.specs.Tree.{TimeAt, Event, Interface, DataPort, Giving, Statement, New, Call, Both, Connect, Component, Design, ValueTree, InputValue, OutputValue, Literal}
+use Rattle.fil_ast.specs.Tree.{TimeAt, Event, Interface, DataPort, Giving, Statement, New, Call, Both, Connect, Component, Design, ValueTree, InputValue}
+use Rattle.fil_ast.specs.Tree.{OutputValue, Literal}
 
 abbrev pub event_names : Component → List Text
 event_names c = map (λ (e : Event). e.name) c.events

@@ -1,5 +1,6 @@
 -- Filament's primitives: which primitive of the table each is, and its signature. Filament, PLDI 2023, in this project's profile.
-use Rattle.std.specs.Prelude.{ℕ, ◌+◌, Bool, ◌||◌, List, [], ◌∷◌, map, filter, codes, if◌then◌else◌, bytes_eq, Option, Some, None, option_map, option_and_then, is_some}
+use Rattle.std.specs.Prelude.{ℕ, ◌+◌, Bool, ◌||◌, List, [], ◌∷◌, map, filter, codes, if◌then◌else◌, bytes_eq, Option, Some, None, option_map, option_and_then}
+use Rattle.std.specs.Prelude.{is_some}
 use Rattle.hw_names.specs.Name.{Text}
 use Rattle.hw_prims.specs.Filament.{is_data_pin}
 use Rattle.hw_prims.specs.Table.{Pin, prim_of, is_primitive, inputs_of, outputs_of}
@@ -13,10 +14,22 @@ named name filament table others = if bytes_eq name filament then Some table els
 -- the table's primitive of a Filament name
 abbrev pub table_name : Text → Option Text
 table_name name =
-    named name (codes "Add") (codes "std_add") (named name (codes "Sub") (codes "std_sub") (named name (codes "And") (codes "std_and") (named name (codes "Or") (codes "std_or")
-    (named name (codes "Xor") (codes "std_xor") (named name (codes "Eq") (codes "std_eq") (named name (codes "Lt") (codes "std_lt") (named name (codes "Not") (codes "std_not")
-    (named name (codes "Mux") (codes "fil_mux") (named name (codes "Slice") (codes "fil_slice") (named name (codes "Extend") (codes "std_pad") (named name (codes "Concat") (codes "fil_concat")
-    (named name (codes "Delay") (codes "fil_delay") (named name (codes "FastMult") (codes "fil_fast_mult") (named name (codes "Reg") (codes "std_reg") (named name (codes "SeqMult") (codes "fil_seq_mult") None)))))))))))))))
+    named name (codes "Add") (codes "std_add")
+    (named name (codes "Sub") (codes "std_sub")
+    (named name (codes "And") (codes "std_and")
+    (named name (codes "Or") (codes "std_or")
+    (named name (codes "Xor") (codes "std_xor")
+    (named name (codes "Eq") (codes "std_eq")
+    (named name (codes "Lt") (codes "std_lt")
+    (named name (codes "Not") (codes "std_not")
+    (named name (codes "Mux") (codes "fil_mux")
+    (named name (codes "Slice") (codes "fil_slice")
+    (named name (codes "Extend") (codes "std_pad")
+    (named name (codes "Concat") (codes "fil_concat")
+    (named name (codes "Delay") (codes "fil_delay")
+    (named name (codes "FastMult") (codes "fil_fast_mult")
+    (named name (codes "Reg") (codes "std_reg")
+    (named name (codes "SeqMult") (codes "fil_seq_mult") None)))))))))))))))
 
 abbrev pub is_filament_primitive : Text → Bool
 is_filament_primitive name = is_some (table_name name)

@@ -22,5 +22,7 @@ Shows earlier c TheEnd rule evidence = evidence ≡ Nothing
 
 -- the first broken rule, by its number, is broken at this item of component n: F1 to F13 in their order, and F14 after them at item 0
 pub data IsRefusal (comps : Design) (name : Text) (item : ℕ) (evidence : Evidence) : ℕ → Type 0 where
-  BreaksRule : (n place : ℕ) (first : IsFirstBroken all_rules comps n item place) → first.c.name ≡ name → Shows (take n comps) first.c first.item first.rule evidence → IsRefusal comps name item evidence (place + 1)
-  HasLoop : (n : ℕ) (port : Text) (others : List Text) (loop : HasFirstLoop comps n port others) → loop.c.name ≡ name → item ≡ 0 → evidence ≡ ALoop (port ∷ others) → IsRefusal comps name item evidence 14
+  BreaksRule : (n place : ℕ) (first : IsFirstBroken all_rules comps n item place) → first.c.name ≡ name →
+      Shows (take n comps) first.c first.item first.rule evidence → IsRefusal comps name item evidence (place + 1)
+  HasLoop : (n : ℕ) (port : Text) (others : List Text) (loop : HasFirstLoop comps n port others) → loop.c.name ≡ name → item ≡ 0 →
+      evidence ≡ ALoop (port ∷ others) → IsRefusal comps name item evidence 14

@@ -1,4 +1,5 @@
--- F11 to F13: an instance that is invoked several times is never held twice, also by transactions that overlap. Filament, PLDI 2023; the numbers are this project's.
+-- F11 to F13: an instance that is invoked several times is never held twice, also by transactions that overlap. Filament, PLDI 2023; the numbers are this
+-- project's.
 use Rattle.std.specs.Prelude.{◌≡◌, ◌⊎◌, ℕ, ◌+◌, ◌≤◌, map, Some, Contains, IsSome}
 use Rattle.hw_names.specs.Name.{Text}
 use Rattle.fil_ast.specs.Scope.{Scope, Invocation, instance_signature}
@@ -44,4 +45,5 @@ HasInterface c event = Contains (map (λ (g : Interface). g.event) c.interfaces)
 -- F13: an event without an interface port triggers none that has one, and no instance is invoked twice by times on it
 pub record TriggersWithInterface (scope : Scope) (v : Invocation) : Type 0 where
   pub triggers : (u : Use) → IsUseOf scope v u → IsSome u.go → HasInterface scope.comp u.at.event
-  pub once : (earlier : Invocation) (u w : Use) → Contains scope.invocations earlier → earlier.inst ≡ v.inst → IsUseOf scope v u → IsUseOf scope earlier w → w.at.event ≡ u.at.event → HasInterface scope.comp u.at.event
+  pub once : (earlier : Invocation) (u w : Use) → Contains scope.invocations earlier → earlier.inst ≡ v.inst → IsUseOf scope v u → IsUseOf scope earlier w →
+      w.at.event ≡ u.at.event → HasInterface scope.comp u.at.event

@@ -1,4 +1,5 @@
--- Signatures: the events of a component or a primitive, with delays and interface ports, and its data ports with events, intervals and widths. Filament, PLDI 2023.
+-- Signatures: the events of a component or a primitive, with delays and interface ports, and its data ports with events, intervals and widths. Filament, PLDI
+-- 2023.
 use Rattle.std.specs.Prelude.{ℕ, suc, List, [], ◌∷◌, map, if◌then◌else◌, bytes_eq, Option, Some, None}
 use Rattle.hw_names.specs.Name.{Text}
 use Rattle.fil_ast.specs.Tree.{TimeAt, Event, Interface, DataPort, Component}

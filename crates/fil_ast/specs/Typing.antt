@@ -4,7 +4,8 @@ use Rattle.hw_names.specs.Name.{Text, AreDistinct}
 use Rattle.hw_bits.specs.declared.bits.TheConstants.{MAX_WIDTH}
 use Rattle.fil_ast.specs.Scope.{Scope, Result, signature_in, instance_signature, input_of, output_of, result_of}
 use Rattle.fil_ast.specs.Signature.{Gap, SigEvent, SigPort, Signature}
-use Rattle.fil_ast.specs.Tree.{TimeAt, Event, Interface, DataPort, Giving, Statement, New, Call, Both, Connect, Component, ValueTree, InputValue, OutputValue, Literal}
+use Rattle.fil_ast.specs.Tree.{TimeAt, Event, Interface, DataPort, Giving, Statement, New, Call, Both, Connect, Component, ValueTree, InputValue, OutputValue}
+use Rattle.fil_ast.specs.Tree.{Literal}
 
 abbrev pub IsWidth : ℕ → Type 0
 IsWidth width = (1 ≤ width) × (width ≤ MAX_WIDTH)
@@ -35,7 +36,8 @@ LiteralFits (Literal width value) = IsWidth width × (value < 2 ^ width)
 -- literals fit, and each argument that has a port has its width
 pub record GivesWidths (scope : Scope) (sig : Signature) (gives : Giving) : Type 0 where
   pub literals : All LiteralFits gives.args
-  pub widths : (k : ℕ) (arg : ValueTree) (port : SigPort) → slice_get gives.args k ≡ Some arg → slice_get sig.ins k ≡ Some port → value_width scope arg ≡ Some port.width
+  pub widths : (k : ℕ) (arg : ValueTree) (port : SigPort) → slice_get gives.args k ≡ Some arg → slice_get sig.ins k ≡ Some port →
+      value_width scope arg ≡ Some port.width
 
 -- parameters have the right number and range
 abbrev pub HasParameters : Scope → Text → List ℕ → Type 0
@@ -44,7 +46,8 @@ HasParameters scope made params = IsSome (signature_in scope.comps made params)
 -- F3 at a statement
 abbrev pub KeepsWidths : Scope → Statement → Type 0
 KeepsWidths scope (New name made params) = HasParameters scope made params
-KeepsWidths scope (Both name made params gives) = HasParameters scope made params × IfSome (signature_in scope.comps made params) (λ sig. GivesWidths scope sig gives)
+KeepsWidths scope (Both name made params gives) =
+    HasParameters scope made params × IfSome (signature_in scope.comps made params) (λ sig. GivesWidths scope sig gives)
 KeepsWidths scope (Call name inst gives) = IfSome (instance_signature scope inst) (λ sig. GivesWidths scope sig gives)
 KeepsWidths scope (Connect output value) = LiteralFits value × IfSome (output_of scope output) (λ port. value_width scope value ≡ Some port.width)
 

@@ -19,7 +19,8 @@ whole_scope earlier c = scope_after earlier c c.body
 -- the port that a value is read from: the component's own, or an output of an instance
 pub data IsPortOf (scope : Scope) : ValueTree → Text → Type 0 where
   OwnInput : (name : Text) → IsPortOf scope (InputValue name) name
-  ByInvocation : (name port : Text) (v : Invocation) → invocation_named scope.invocations name ≡ Some v → IsPortOf scope (OutputValue name port) (dotted v.inst port)
+  ByInvocation : (name port : Text) (v : Invocation) → invocation_named scope.invocations name ≡ Some v →
+      IsPortOf scope (OutputValue name port) (dotted v.inst port)
 
 -- an output of an instance depends on an input of it within a row; `through name output input` says it of a component
 pub data DependsWithin (through : Text → Text → Text → Type 0) (i : Instance) (output input : Text) : Type 0 where
@@ -29,11 +30,15 @@ pub data DependsWithin (through : Text → Text → Text → Type 0) (i : Instan
 -- within a row a port of the component reads another
 pub data ReadsPort (through : Text → Text → Text → Type 0) (scope : Scope) (port other : Text) : Type 0 where
   -- an argument port reads the port of each value that some invocation gives it
-  ByArgument : (v : Invocation) (sig : Signature) (k : ℕ) (arg : ValueTree) (input : SigPort) → Contains scope.invocations v → instance_signature scope v.inst ≡ Some sig → slice_get v.gives.args k ≡ Some arg → slice_get sig.ins k ≡ Some input → dotted v.inst input.name ≡ port → IsPortOf scope arg other → ReadsPort through scope port other
+  ByArgument : (v : Invocation) (sig : Signature) (k : ℕ) (arg : ValueTree) (input : SigPort) → Contains scope.invocations v →
+      instance_signature scope v.inst ≡ Some sig → slice_get v.gives.args k ≡ Some arg → slice_get sig.ins k ≡ Some input → dotted v.inst input.name ≡ port →
+      IsPortOf scope arg other → ReadsPort through scope port other
   -- an output reads what is connected to it
   ByConnection : (value : ValueTree) → Contains scope.comp.body (Connect port value) → IsPortOf scope value other → ReadsPort through scope port other
   -- an output of an instance reads each input on which it depends within a row
-  ByInstance : (i : Instance) (sig : Signature) (input output : SigPort) → Contains scope.instances i → instance_signature scope i.name ≡ Some sig → Contains sig.ins input → Contains sig.outs output → DependsWithin through i output.name input.name → dotted i.name output.name ≡ port → dotted i.name input.name ≡ other → ReadsPort through scope port other
+  ByInstance : (i : Instance) (sig : Signature) (input output : SigPort) → Contains scope.instances i → instance_signature scope i.name ≡ Some sig →
+      Contains sig.ins input → Contains sig.outs output → DependsWithin through i output.name input.name → dotted i.name output.name ≡ port →
+      dotted i.name input.name ≡ other → ReadsPort through scope port other
 
 -- the port reads the other, at once or over ports between
 pub data Reaches (through : Text → Text → Text → Type 0) (scope : Scope) (other : Text) : Text → Type 0 where

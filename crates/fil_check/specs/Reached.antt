@@ -26,7 +26,8 @@ IsReachedFrom reads (Some start) other = graph.Reaches reads start.0 other
 -- by its name among the ports the output reaches those of the first ports, the inputs, that have these numbers
 abbrev pub ReachesInputs : List Text → List Text → List (List ℕ) → FilComp → FilPort → Vec ℕ Global → Type 0
 ReachesInputs names ports reads comp output numbers =
-    (i : ℕ) → Contains numbers.items i ↔ ((i < length comp.ins.items) × ((start : ℕ) × (slice_get ports start ≡ Some (text_of names output.name)) × graph.Reaches reads start i))
+    (i : ℕ) → Contains numbers.items i ↔ ((i < length comp.ins.items) ×
+    ((start : ℕ) × (slice_get ports start ≡ Some (text_of names output.name)) × graph.Reaches reads start i))
 
 -- so of each output
 abbrev pub AreReached : List Text → List Text → List (List ℕ) → FilComp → Vec (Vec ℕ Global) Global → Type 0

@@ -108,7 +108,8 @@ pub record AddsInvocation (old new : Tables) (name : Text) (instance : ℕ) (at 
   pub ports : new.ports ≡ old.ports ++ name ∷ []
   pub invoked : new.invoked.items ≡ old.invoked.items ++ instance ∷ []
   pub times : new.times.items ≡ old.times.items ++ at ∷ []
-  pub calls : map listed new.calls.items ≡ slice_set (map listed old.calls.items) instance (slice_index_or (map listed old.calls.items) instance [] ++ length old.invoked.items ∷ [])
+  pub calls : map listed new.calls.items ≡ slice_set (map listed old.calls.items) instance
+      (slice_index_or (map listed old.calls.items) instance [] ++ length old.invoked.items ∷ [])
   pub events : new.events ≡ old.events
   pub instances : new.instances ≡ old.instances
   pub made : new.made.items ≡ old.made.items

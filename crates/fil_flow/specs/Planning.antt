@@ -36,7 +36,8 @@ pub record ShowsCalls (scope : Scope) (held : List ValueTree) (calls : List Call
   pub fit : CallsFit (map component_shape scope.comps) (port_widths scope.comp.ins) calls widths
   pub held_widths : map (value_width scope) held ≡ map Some widths
   pub held_values : (args : List ℕ) → length args ≡ length scope.comp.ins
-      → values_after (flow_at scope.comps) calls args ≡ map (value_in (with_values scope.comp.ins args) (outcomes_in scope (with_values scope.comp.ins args))) held
+      → values_after (flow_at scope.comps) calls args ≡ map
+      (value_in (with_values scope.comp.ins args) (outcomes_in scope (with_values scope.comp.ins args))) held
 
 -- what an output is connected to by these statements; a zero until it is connected
 abbrev pub connected_or_zero : List Statement → DataPort → ValueTree

@@ -57,7 +57,8 @@ pub record IsLowered (plan : Plan) (run : LoweredRun) : Type 0 where
   pub started : (r : ℕ) → r < run.height → (inst : Text) (n : ℕ) (event : TimedEvent) (go : Text) → IsEvent (plan.callee inst).sig n event →
       event.go ≡ Some go →
       (run.trace r (run.cell inst go) ≡ 1)
-      ↔ ((call : Use) × Contains plan.uses call × (call.inst ≡ inst) × (slot : Slot) × Contains call.slots slot × (slot.target ≡ n) × (u : ℕ) × (u + slot.plus ≡ r) × StartsIn plan run slot.event u)
+      ↔ ((call : Use) × Contains plan.uses call × (call.inst ≡ inst) × (slot : Slot) × Contains call.slots slot × (slot.target ≡ n) × (u : ℕ) ×
+      (u + slot.plus ≡ r) × StartsIn plan run slot.event u)
   -- an output has the value that it is connected to
   pub connected : (r : ℕ) → r < run.height → (p : TimedPort) → Contains plan.sig.outs p →
       run.trace r (run.own p.name) ≡ source_in run (run.trace r) (plan.outputs p.name)

@@ -2,9 +2,11 @@
 -- `{ }` for any number and `[ ]` for what may be missing. `names` are the names that the numbers of terminals stand for.
 use Rattle.std.specs.Prelude.{ℕ, List, [], ◌∷◌, Option, Some, None}
 use Rattle.hw_names.specs.Name.{Text}
-use Rattle.hw_grammar.specs.declared.sort.Sort.TheVariants.{Comp, New, Interface, Import, At, LeftBracket, RightBracket, LeftParen, RightParen, LeftAngle, RightAngle, LeftBrace, RightBrace, Comma, Colon, ColonEquals, Semicolon, Equals, Plus, Dot, Arrow}
+use Rattle.hw_grammar.specs.declared.sort.Sort.TheVariants.{Comp, New, Interface, Import, At, LeftBracket, RightBracket, LeftParen, RightParen, LeftAngle}
+use Rattle.hw_grammar.specs.declared.sort.Sort.TheVariants.{RightAngle, LeftBrace, RightBrace, Comma, Colon, ColonEquals, Semicolon, Equals, Plus, Dot, Arrow}
 use Rattle.hw_grammar.specs.declared.sort.Sort.TheVariants as sorts
-use Rattle.hw_grammar.specs.Grammar.{Lang, One, Empty, Mapped, AnyWord, AnyNumber, AnyLiteral, Then, Either, Optional, After, Closed, Between, Many, Separated, Listed}
+use Rattle.hw_grammar.specs.Grammar.{Lang, One, Empty, Mapped, AnyWord, AnyNumber, AnyLiteral, Then, Either, Optional, After, Closed, Between, Many, Separated}
+use Rattle.hw_grammar.specs.Grammar.{Listed}
 use Rattle.fil_ast.specs.Tree.{TimeAt, Event, DataPort, ValueTree, InputValue, OutputValue, Giving, Statement, Call, Both, Connect, Component, Design}
 use Rattle.fil_ast.specs.Tree as tree
 
@@ -59,7 +61,8 @@ connect_from x = Connect x.0 x.1
 --      | NAME "=" value ";"
 abbrev pub IsStatement : List Text → Lang Statement
 IsStatement names =
-    Either (Mapped new_from (Then (AnyWord names) (After ColonEquals (After New (Then (AnyWord names) (Closed (Then (Either AreParameters (Empty [])) (Optional (IsCall names))) Semicolon))))))
+    Either (Mapped new_from (Then (AnyWord names)
+    (After ColonEquals (After New (Then (AnyWord names) (Closed (Then (Either AreParameters (Empty [])) (Optional (IsCall names))) Semicolon))))))
     (Either (Mapped call_from (Then (AnyWord names) (After ColonEquals (Then (AnyWord names) (Closed (IsCall names) Semicolon)))))
     (Mapped connect_from (Then (AnyWord names) (After Equals (Closed (IsValue names) Semicolon)))))
 
@@ -69,7 +72,8 @@ port_from x = record { from = x.0; to = x.1.0; name = x.1.1.0; width = x.1.1.1 }
 -- "[" time "," time "]" NAME ":" NUMBER
 abbrev pub IsPlacedPort : List Text → Lang DataPort
 IsPlacedPort names =
-    Mapped port_from (After LeftBracket (Then (Closed (IsTime names) Comma) (Then (Closed (IsTime names) RightBracket) (Then (Closed (AnyWord names) Colon) AnyNumber))))
+    Mapped port_from (After LeftBracket (Then (Closed (IsTime names) Comma)
+    (Then (Closed (IsTime names) RightBracket) (Then (Closed (AnyWord names) Colon) AnyNumber))))
 
 -- port = "@" "[" time "," time "]" NAME ":" NUMBER
 abbrev pub IsPort : List Text → Lang DataPort
@@ -133,7 +137,8 @@ IsBody names = Between LeftBrace (Many (IsStatement names)) RightBrace
 --        "->" "(" [port {"," port} [","]] ")" "{" {stmt} "}"
 abbrev pub IsComponent : List Text → Lang Component
 IsComponent names =
-    Mapped component_from (After Comp (Then (AnyWord names) (Then (AreEvents names) (Then (AreInputs names) (Then (After Arrow (AreOutputs names)) (IsBody names))))))
+    Mapped component_from (After Comp (Then (AnyWord names)
+    (Then (AreEvents names) (Then (AreInputs names) (Then (After Arrow (AreOutputs names)) (IsBody names))))))
 
 -- "import" STRING ";"
 abbrev pub IsImport : Lang (Unit {0})

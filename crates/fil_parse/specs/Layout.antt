@@ -2,7 +2,8 @@
 -- decimal digits, no `+0`, and no brackets where there are no parameters. This project's.
 use Rattle.std.specs.Prelude.{ℕ, ◌==◌, if◌then◌else◌, List, [], ◌∷◌, ◌++◌, map, flat_map, codes, decimal}
 use Rattle.hw_names.specs.Name.{Text}
-use Rattle.fil_ast.specs.Tree.{TimeAt, Event, Interface, DataPort, ValueTree, InputValue, OutputValue, Literal, Giving, Statement, New, Call, Both, Connect, Component, Design}
+use Rattle.fil_ast.specs.Tree.{TimeAt, Event, Interface, DataPort, ValueTree, InputValue, OutputValue, Literal, Giving, Statement, New, Call, Both, Connect}
+use Rattle.fil_ast.specs.Tree.{Component, Design}
 use Rattle.fil_parse.specs.Grammar.{Input, InterfacePort, DataInput}
 
 -- the texts of items, with a comma and a space between each two
@@ -61,7 +62,8 @@ inputs_of c = map InterfacePort c.interfaces ++ map DataInput c.ins
 -- a component, without the line feed at its end
 abbrev pub component_text : Component → Text
 component_text c =
-    codes "comp " ++ c.name ++ codes "<" ++ joined event_text c.events ++ codes ">(" ++ joined input_text (inputs_of c) ++ codes ") -> (" ++ joined port_text c.outs
+    codes "comp " ++ c.name ++ codes "<" ++ joined event_text c.events
+    ++ codes ">(" ++ joined input_text (inputs_of c) ++ codes ") -> (" ++ joined port_text c.outs
     ++ codes ") {" ++ flat_map line_text c.body ++ codes "\n}"
 
 abbrev pub fil_text : Design → Text

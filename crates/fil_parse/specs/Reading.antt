@@ -1,12 +1,16 @@
 -- Reading Filament on lists: what the functions of the reader give. That each is exact for its rule of Grammar is proved in proofs/.
 use Rattle.std.specs.Prelude.{ℕ, List, [], ◌∷◌, Option, Some, None}
 use Rattle.hw_names.specs.Name.{Text}
-use Rattle.hw_grammar.specs.declared.sort.Sort.TheVariants.{Name, Literal, Comp, New, Interface, Import, At, LeftBracket, RightBracket, LeftParen, RightParen, LeftAngle, RightAngle, LeftBrace, RightBrace, Comma, Colon, ColonEquals, Semicolon, Equals, Plus, Dot, Arrow}
+use Rattle.hw_grammar.specs.declared.sort.Sort.TheVariants.{Name, Literal, Comp, New, Interface, Import, At, LeftBracket, RightBracket, LeftParen, RightParen}
+use Rattle.hw_grammar.specs.declared.sort.Sort.TheVariants.{LeftAngle, RightAngle, LeftBrace, RightBrace, Comma, Colon, ColonEquals, Semicolon, Equals, Plus}
+use Rattle.hw_grammar.specs.declared.sort.Sort.TheVariants.{Dot, Arrow}
 use Rattle.hw_grammar.specs.declared.sort.Sort.TheVariants as sorts
-use Rattle.hw_grammar.specs.Reading.{Reader, one, empty, mapped, any_word, any_number, any_literal, then, either, optional, after, closed, between, many, separated, listed}
+use Rattle.hw_grammar.specs.Reading.{Reader, one, empty, mapped, any_word, any_number, any_literal, then, either, optional, after, closed, between, many}
+use Rattle.hw_grammar.specs.Reading.{separated, listed}
 use Rattle.fil_ast.specs.Tree.{TimeAt, Event, DataPort, ValueTree, InputValue, OutputValue, Giving, Statement, Call, Both, Connect, Component, Design}
 use Rattle.fil_ast.specs.Tree as tree
-use Rattle.fil_parse.specs.Grammar.{time_from, literal_from, giving_from, made, port_from, interface_from, Input, InterfacePort, DataInput, event_from, component_from, design_from}
+use Rattle.fil_parse.specs.Grammar.{time_from, literal_from, giving_from, made, port_from, interface_from, Input, InterfacePort, DataInput, event_from}
+use Rattle.fil_parse.specs.Grammar.{component_from, design_from}
 
 unfoldable pub time_at : List Text → Reader TimeAt
 time_at names = mapped time_from (then (any_word names) (either (Plus ∷ []) (after Plus any_number) (empty 0)))
@@ -72,7 +76,8 @@ statement_at names =
 -- after `@`
 unfoldable pub placed_at : List Text → Reader DataPort
 placed_at names =
-    mapped port_from (after LeftBracket (then (closed (time_at names) Comma) (then (closed (time_at names) RightBracket) (then (closed (any_word names) Colon) any_number))))
+    mapped port_from (after LeftBracket (then (closed (time_at names) Comma)
+    (then (closed (time_at names) RightBracket) (then (closed (any_word names) Colon) any_number))))
 
 unfoldable pub port_at : List Text → Reader DataPort
 port_at names = after At (placed_at names)
@@ -106,7 +111,8 @@ body_at names = between LeftBrace (many (Name ∷ []) (statement_at names)) Righ
 
 unfoldable pub component_at : List Text → Reader Component
 component_at names =
-    mapped component_from (after Comp (then (any_word names) (then (events_at names) (then (inputs_at names) (then (after Arrow (outputs_at names)) (body_at names))))))
+    mapped component_from (after Comp (then (any_word names)
+    (then (events_at names) (then (inputs_at names) (then (after Arrow (outputs_at names)) (body_at names))))))
 
 unfoldable pub import_at : Reader (Unit {0})
 import_at = after Import (closed (mapped (λ _. tt) (one sorts.Text)) Semicolon)

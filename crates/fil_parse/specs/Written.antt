@@ -5,7 +5,8 @@ use Rattle.std.specs.List.{AllByRecursion}
 use Rattle.hw_names.specs.Name.{Text}
 use Rattle.hw_lex.specs.declared.token.Dialect.TheVariants.{Fil}
 use Rattle.hw_grammar.specs.Words.{IsNameOf, IsWritten}
-use Rattle.fil_ast.specs.Tree.{TimeAt, Event, Interface, DataPort, ValueTree, InputValue, OutputValue, Literal, Giving, Statement, New, Call, Both, Connect, Component, Design}
+use Rattle.fil_ast.specs.Tree.{TimeAt, Event, Interface, DataPort, ValueTree, InputValue, OutputValue, Literal, Giving, Statement, New, Call, Both, Connect}
+use Rattle.fil_ast.specs.Tree.{Component, Design}
 
 abbrev pub IsFilName : Text → Type 0
 IsFilName = IsNameOf Fil

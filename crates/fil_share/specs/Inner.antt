@@ -36,5 +36,6 @@ SpacedHoldsAreApart =
 abbrev pub InnerStartsAreSpaced : Type 0
 InnerStartsAreSpaced =
     (comps : Design) (n : ℕ) (c : Component) (starts : List Start) → FilRules comps → slice_get comps n ≡ Some c → IsSpaced c starts →
-    (inst : Text) (i : Instance) (d : Component) → instance_named (whole_scope (take n comps) c).instances inst ≡ Some i → component_named (take n comps) i.made ≡ Some d →
+    (inst : Text) (i : Instance) (d : Component) → instance_named (whole_scope (take n comps) c).instances inst ≡ Some i →
+    component_named (take n comps) i.made ≡ Some d →
     IsSpaced d (inner_starts d inst (holds_of (whole_scope (take n comps) c) starts))

@@ -31,7 +31,8 @@ FormsAgree = (delay : ℕ) (uses : List Hold) → All IsHeld uses → KeepsApart
 
 abbrev pub SharingKeepsApart : Type 0
 SharingKeepsApart =
-    (delay : ℕ) (uses : List Hold) → KeepsRules delay uses → All (IsShort delay) uses → (starts : List ℕ) → IsLegal delay starts → KeepsApart (uses_from uses starts)
+    (delay : ℕ) (uses : List Hold) → KeepsRules delay uses → All (IsShort delay) uses → (starts : List ℕ) → IsLegal delay starts →
+    KeepsApart (uses_from uses starts)
 
 -- one transaction holds the unit by two uses in the row
 pub record MeetsItself (uses : List Hold) (row : ℕ) : Type 0 where

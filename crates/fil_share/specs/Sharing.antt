@@ -1,4 +1,5 @@
--- F11 and F12 over the uses of one event of a unit by one transaction, and the evidence where they are broken. Filament, PLDI 2023; the evidence is this project's.
+-- F11 and F12 over the uses of one event of a unit by one transaction, and the evidence where they are broken. Filament, PLDI 2023; the evidence is this
+-- project's.
 use Rattle.std.specs.Prelude.{◌≡◌, ◌⊎◌, ℕ, ◌+◌, ◌-◌, ◌<◌, ◌≤◌, max, List, [], ◌∷◌, ◌++◌, take, length, Some, slice_get, All, AllPairs, Contains}
 use Rattle.fil_share.specs.declared.hold.Hold.{Hold}
 use Rattle.fil_share.specs.declared.hold.Meet.{Meet}
@@ -55,7 +56,8 @@ pub record BreaksApart (earlier : List Hold) (use_now : Hold) (meet : Meet) : Ty
   pub gap : meet.gap ≡ 0
   pub cycle : meet.cycle ≡ max overlap.other.from use_now.from
 
--- F12 is broken at a use where F11 holds: the evidence has the delay or what is between the first start and the last, if that is more, and the row that is so far after the first start
+-- F12 is broken at a use where F11 holds: the evidence has the delay or what is between the first start and the last, if that is more, and the row that is so
+-- far after the first start
 pub record BreaksInTime (delay : ℕ) (earlier : List Hold) (use_now : Hold) (meet : Meet) : Type 0 where
   pub apart : All (λ hold. AreApart hold use_now) earlier
   pub several : 0 < length earlier

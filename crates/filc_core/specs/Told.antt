@@ -1,5 +1,6 @@
 -- The program's own values, as what they say.
-use Rattle.filc_core.specs.Request.{Request, OfCheck, OfRows, OfSimNet, OfTraceNet, OfFlow, OfTimeline, OfSimFil, OfTraceFil, OfSimCal, OfTraceCal, OfSchedCal, OfSoak, OfMaking}
+use Rattle.filc_core.specs.Request.{Request, OfCheck, OfRows, OfSimNet, OfTraceNet, OfFlow, OfTimeline, OfSimFil, OfTraceFil, OfSimCal, OfTraceCal, OfSchedCal}
+use Rattle.filc_core.specs.Request.{OfSoak, OfMaking}
 use Rattle.filc_core.specs.commands.Check.{Check}
 use Rattle.filc_core.specs.commands.Driven.{Driven}
 use Rattle.filc_core.specs.commands.Making.{Making}

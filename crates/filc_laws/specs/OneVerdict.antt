@@ -59,7 +59,8 @@ pub record AreSoaksOfOne (words : List Text) (made made' report other : Text) : 
 
 abbrev pub AreTracesOfOne : List Text → Contents → Text → Text → Text → Text → Type 0
 AreTracesOfOne words contents made made' report other =
-    AreFilTracesOfOne words contents made made' report other ⊎ AreCalTracesOfOne words contents made made' report other ⊎ AreSoaksOfOne words made made' report other
+    AreFilTracesOfOne words contents made made' report other ⊎ AreCalTracesOfOne words contents made made' report other ⊎
+    AreSoaksOfOne words made made' report other
 
 -- the same report, but for which netlist or which Calyx design is made
 abbrev pub IsSameReport : List Text → Contents → Text → Text → Text → Text → Type 0

@@ -85,7 +85,8 @@ separated sort p = mapped (λ x. x.0 ∷ x.1) (then p (many (sort ∷ []) (after
 
 abbrev pub list_tail_times : {A : Type 0} → Sort → List Sort → Reader A → ℕ → Reader (List A)
 list_tail_times sort set p zero ts = cond (has (sort ∷ []) ts) (Err ts) (Ok ([], ts))
-list_tail_times sort set p (suc n) ts = cond (has (sort ∷ []) ts) (mapped (λ x. x.1) (then (one sort) (either set (mapped (λ x. x.0 ∷ x.1) (then p (list_tail_times sort set p n))) (empty []))) ts) (Ok ([], ts))
+list_tail_times sort set p (suc n) ts = cond (has (sort ∷ []) ts)
+    (mapped (λ x. x.1) (then (one sort) (either set (mapped (λ x. x.0 ∷ x.1) (then p (list_tail_times sort set p n))) (empty []))) ts) (Ok ([], ts))
 
 abbrev pub list_tail : {A : Type 0} → Sort → List Sort → Reader A → Reader (List A)
 list_tail sort set p ts = list_tail_times sort set p (length ts) ts

@@ -13,7 +13,11 @@ use Rattle.hw_lex.specs.declared.token.Token.{Token}
 use Rattle.hw_lex.specs.Number.{number_of, width_of, value_of}
 use Rattle.hw_lex.specs.Cut.{token_text}
 use Rattle.hw_grammar.specs.declared.sort.Sort.{Sort}
-use Rattle.hw_grammar.specs.declared.sort.Sort.TheVariants.{Name, Number, Literal, Comp, New, Interface, Import, Component, Cells, Wires, Control, Group, Comb, Seq, Par, If, Else, While, With, Invoke, Static, Ref, Repeat, Primitive, Extern, Metadata, At, LeftBracket, RightBracket, LeftParen, RightParen, LeftAngle, RightAngle, LeftBrace, RightBrace, Comma, Colon, ColonEquals, Semicolon, Equals, Plus, Dot, Arrow, Question, Not, And, Or, EqualsEquals, NotEquals, AtMost, AtLeast}
+use Rattle.hw_grammar.specs.declared.sort.Sort.TheVariants.{Name, Number, Literal, Comp, New, Interface, Import, Component, Cells, Wires, Control, Group, Comb}
+use Rattle.hw_grammar.specs.declared.sort.Sort.TheVariants.{Seq, Par, If, Else, While, With, Invoke, Static, Ref, Repeat, Primitive, Extern, Metadata, At}
+use Rattle.hw_grammar.specs.declared.sort.Sort.TheVariants.{LeftBracket, RightBracket, LeftParen, RightParen, LeftAngle, RightAngle, LeftBrace, RightBrace}
+use Rattle.hw_grammar.specs.declared.sort.Sort.TheVariants.{Comma, Colon, ColonEquals, Semicolon, Equals, Plus, Dot, Arrow, Question, Not, And, Or}
+use Rattle.hw_grammar.specs.declared.sort.Sort.TheVariants.{EqualsEquals, NotEquals, AtMost, AtLeast}
 use Rattle.hw_grammar.specs.declared.sort.Sort.TheVariants as sorts
 use Rattle.hw_grammar.specs.declared.terminal.Special.{Special}
 use Rattle.hw_grammar.specs.declared.terminal.Special.TheVariants.{External, Clock, Reset, Done, Plain}
@@ -24,8 +28,10 @@ use Rattle.hw_grammar.specs.Sort.{same_sort}
 abbrev pub keywords : Dialect → List (Text × Sort)
 keywords Fil = (codes "comp", Comp) ∷ (codes "new", New) ∷ (codes "import", Import) ∷ (codes "interface", Interface) ∷ []
 keywords Cal =
-    (codes "component", Component) ∷ (codes "cells", Cells) ∷ (codes "wires", Wires) ∷ (codes "control", Control) ∷ (codes "group", Group) ∷ (codes "comb", Comb)
-    ∷ (codes "seq", Seq) ∷ (codes "par", Par) ∷ (codes "if", If) ∷ (codes "else", Else) ∷ (codes "while", While) ∷ (codes "with", With) ∷ (codes "invoke", Invoke)
+    (codes "component", Component) ∷ (codes "cells", Cells) ∷ (codes "wires", Wires) ∷ (codes "control", Control) ∷ (codes "group", Group)
+    ∷ (codes "comb", Comb)
+    ∷ (codes "seq", Seq) ∷ (codes "par", Par) ∷ (codes "if", If) ∷ (codes "else", Else) ∷ (codes "while", While) ∷ (codes "with", With)
+    ∷ (codes "invoke", Invoke)
     ∷ (codes "import", Import) ∷ (codes "static", Static) ∷ (codes "ref", Ref) ∷ (codes "repeat", Repeat) ∷ (codes "primitive", Primitive)
     ∷ (codes "extern", Extern) ∷ (codes "metadata", Metadata) ∷ []
 

@@ -29,7 +29,8 @@ pub record AreDone (reads : List (List ℕ)) (marks : List Mark) (order : List �
 -- of the ports that a port reads the last ones are looked at: each is done, or stands next on the path
 pub record AreLooked (reads : List (List ℕ)) (marks : List Mark) (left path : List ℕ) : Type 0 where
   pub at_most : (port : ℕ) → port < length reads → slice_index left port ≤ length (slice_index_or reads port [])
-  pub each : (port j : ℕ) → port < length reads → slice_index left port ≤ j → j < length (slice_index_or reads port []) → (mark_of marks (slice_index (slice_index_or reads port []) j) ≡ Done) ⊎ IsNext path port (slice_index (slice_index_or reads port []) j)
+  pub each : (port j : ℕ) → port < length reads → slice_index left port ≤ j → j < length (slice_index_or reads port []) →
+      (mark_of marks (slice_index (slice_index_or reads port []) j) ≡ Done) ⊎ IsNext path port (slice_index (slice_index_or reads port []) j)
 
 pub record IsSearch (reads : List (List ℕ)) (s : Search) : Type 0 where
   pub all_marks : length s.marks.items ≡ length reads

@@ -1,5 +1,6 @@
 -- A walk through a graph, depth first: what it has reached so far. This project's, for private functions alone.
-use Rattle.std.specs.Prelude.{◌≡◌, ℕ, ◌+◌, ◌-◌, ◌*◌, ◌<◌, ◌≤◌, ◌⊎◌, Bool, true, false, List, [], ◌∷◌, ◌++◌, length, take, sum, Option, Some, None, Contains, MatchBool, slice_index, slice_index_or, slice_set}
+use Rattle.std.specs.Prelude.{◌≡◌, ℕ, ◌+◌, ◌-◌, ◌*◌, ◌<◌, ◌≤◌, ◌⊎◌, Bool, true, false, List, [], ◌∷◌, ◌++◌, length, take, sum, Option, Some, None, Contains}
+use Rattle.std.specs.Prelude.{MatchBool, slice_index, slice_index_or, slice_set}
 use Rattle.hw_graph.specs.Graph.{IsTrail}
 use Rattle.hw_graph.specs.Unread.{TakesRead}
 use Rattle.hw_graph.specs.declared.walk.Walk.{Walk}
@@ -15,7 +16,8 @@ pub record HasReached (reads : List (List ℕ)) (seen : List Bool) (left path : 
   pub trail : IsTrail reads path
   pub on_path : (i : ℕ) → i < length path → is_seen seen (slice_index path i) ≡ true
   pub at_most : (port : ℕ) → port < length reads → slice_index left port ≤ length (slice_index_or reads port [])
-  pub reached : (port j : ℕ) → port < length reads → slice_index left port ≤ j → j < length (slice_index_or reads port []) → is_seen seen (slice_index (slice_index_or reads port []) j) ≡ true
+  pub reached : (port j : ℕ) → port < length reads → slice_index left port ≤ j → j < length (slice_index_or reads port []) →
+      is_seen seen (slice_index (slice_index_or reads port []) j) ≡ true
   pub finished : (port : ℕ) → is_seen seen port ≡ true → (slice_index left port ≡ 0) ⊎ Contains path port
 
 abbrev pub IsWalk : List (List ℕ) → Walk → Type 0

@@ -4,7 +4,8 @@ use Rattle.std.specs.Prelude.{◌≡◌, ◌≢◌, ℕ, ◌+◌, ◌<◌, ◌�
 use Rattle.hw_io.specs.Faults.{Rose}
 
 -- A call on one name keeps the names, the contents and the counts of the other names. The count of this name doesn't fall.
-pub record KeepsFiles {F : Type 0} (names : F → List (List ℕ)) (content : F → List ℕ → Option (List ℕ)) (faults : F → List ℕ → ℕ) (name : List ℕ) (old new : F) : Type 0 where
+pub record KeepsFiles {F : Type 0} (names : F → List (List ℕ)) (content : F → List ℕ → Option (List ℕ)) (faults : F → List ℕ → ℕ) (name : List ℕ)
+    (old new : F) : Type 0 where
   pub names_kept : names new ≡ names old
   pub contents_kept : (other : List ℕ) → content new other ≡ content old other
   pub others_kept : (other : List ℕ) → other ≢ name → faults new other ≡ faults old other

@@ -44,7 +44,8 @@ value_in base digits = value_from base 0 digits
 -- the base that a byte names, if it names one
 abbrev pub base_of : ℕ → Option Base
 base_of byte =
-    if byte == 100 then Some Decimal else (if byte == 98 then Some Binary else (if byte == 111 then Some Octal else (if byte == 120 then Some Hexadecimal else None)))
+    if byte == 100 then Some Decimal else (if byte == 98 then Some Binary
+    else (if byte == 111 then Some Octal else (if byte == 120 then Some Hexadecimal else None)))
 
 -- the number of a NUMBER
 abbrev pub number_of : List ℕ → ℕ

@@ -61,7 +61,8 @@ IsStateOf prim state = state ≡ Stateless
 -- what follows from values that fit fits
 pub record KeepsWidths (prim : Primitive) : Type 0 where
   pub opening : IsStateOf prim (opening_state prim [])
-  pub outputs : (state : State) (ins : List ℕ) → IsStateOf prim state → AreValuesOf (inputs_of prim) ins → AreValuesOf (outputs_of prim) (output_values prim state ins)
+  pub outputs : (state : State) (ins : List ℕ) → IsStateOf prim state → AreValuesOf (inputs_of prim) ins →
+      AreValuesOf (outputs_of prim) (output_values prim state ins)
   pub next : (state : State) (ins : List ℕ) → IsStateOf prim state → AreValuesOf (inputs_of prim) ins → IsStateOf prim (next_state prim state ins)
 
 abbrev pub StatesKeepWidths : Type 0

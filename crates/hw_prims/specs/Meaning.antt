@@ -1,14 +1,19 @@
 -- What each primitive computes: its opening state, its outputs, its next state, and which outputs follow which inputs within a row.
 -- Calyx, ASPLOS 2021, and Filament, PLDI 2023, in this project's profile.
-use Rattle.std.specs.Prelude.{ℕ, ◌*◌, ◌==◌, Bool, true, false, not, ◌&&◌, ◌||◌, nat_lt, nat_le, List, [], ◌∷◌, slice_index, codes, bytes_eq, bit_and, bit_or, bit_xor, if◌then◌else◌}
-use Rattle.hw_bits.specs.Width.{low_bits, sum_bits, difference_bits, product_bits, inverted_bits, left_shifted_bits, right_shifted_bits, bits_between, joined_bits}
+use Rattle.std.specs.Prelude.{ℕ, ◌*◌, ◌==◌, Bool, true, false, not, ◌&&◌, ◌||◌, nat_lt, nat_le, List, [], ◌∷◌, slice_index, codes, bytes_eq, bit_and, bit_or}
+use Rattle.std.specs.Prelude.{bit_xor, if◌then◌else◌}
+use Rattle.hw_bits.specs.Width.{low_bits, sum_bits, difference_bits, product_bits, inverted_bits, left_shifted_bits, right_shifted_bits, bits_between}
+use Rattle.hw_bits.specs.Width.{joined_bits}
 use Rattle.hw_prims.specs.Memory.{keeps_words, padded_words, place_of, word_at, words_with}
 use Rattle.hw_prims.specs.Row.{Text}
-use Rattle.hw_prims.specs.State.{State, Stateless, Register, Memory, MultPipe, Delay, FastMult, SeqMult, out_of, done_of, words_of, phase_of, kept_of, first_of, second_of}
+use Rattle.hw_prims.specs.State.{State, Stateless, Register, Memory, MultPipe, Delay, FastMult, SeqMult, out_of, done_of, words_of, phase_of, kept_of, first_of}
+use Rattle.hw_prims.specs.State.{second_of}
 use Rattle.hw_prims.specs.declared.phase.Phase.{Phase}
 use Rattle.hw_prims.specs.declared.phase.Phase.TheVariants.{Idle, First, Second, Third}
 use Rattle.hw_prims.specs.declared.prim.Primitive.{Primitive}
-use Rattle.hw_prims.specs.declared.prim.Primitive.TheVariants.{StdConst, StdWire, StdAdd, StdSub, StdAnd, StdOr, StdXor, StdNot, StdEq, StdNeq, StdLt, StdGt, StdLe, StdGe, StdLsh, StdRsh, StdSlice, StdPad, FilMux, FilSlice, FilConcat, StdReg, StdMemD1, StdMemD2, StdMultPipe, FilDelay, FilFastMult, FilSeqMult}
+use Rattle.hw_prims.specs.declared.prim.Primitive.TheVariants.{StdConst, StdWire, StdAdd, StdSub, StdAnd, StdOr, StdXor, StdNot, StdEq, StdNeq, StdLt, StdGt}
+use Rattle.hw_prims.specs.declared.prim.Primitive.TheVariants.{StdLe, StdGe, StdLsh, StdRsh, StdSlice, StdPad, FilMux, FilSlice, FilConcat, StdReg, StdMemD1}
+use Rattle.hw_prims.specs.declared.prim.Primitive.TheVariants.{StdMemD2, StdMultPipe, FilDelay, FilFastMult, FilSeqMult}
 
 -- the primitives that keep nothing
 unfoldable pub is_stateless : Primitive → Bool

@@ -1,5 +1,6 @@
 -- The table of primitives: names, parameters and ports. Calyx, ASPLOS 2021, and Filament, PLDI 2023, in this project's profile.
-use Rattle.std.specs.Prelude.{ℕ, ◌+◌, ◌-◌, ◌*◌, ◌^◌, Bool, true, false, ◌&&◌, nat_le, nat_lt, IsTrue, List, [], ◌∷◌, ◌++◌, map, codes, slice_index_or, Option, Some, None, option_and_then, is_some, if◌then◌else◌, bytes_eq}
+use Rattle.std.specs.Prelude.{ℕ, ◌+◌, ◌-◌, ◌*◌, ◌^◌, Bool, true, false, ◌&&◌, nat_le, nat_lt, IsTrue, List, [], ◌∷◌, ◌++◌, map, codes, slice_index_or, Option}
+use Rattle.std.specs.Prelude.{Some, None, option_and_then, is_some, if◌then◌else◌, bytes_eq}
 use Rattle.std.specs.Option.{option_map_or}
 use Rattle.hw_bits.specs.declared.bits.TheConstants.{MAX_WIDTH}
 use Rattle.hw_prims.specs.Row.{Text}
@@ -7,7 +8,9 @@ use Rattle.hw_prims.specs.declared.prim.TheConstants.{MAX_WORDS}
 use Rattle.hw_prims.specs.declared.name.PrimName.{PrimName}
 use Rattle.hw_prims.specs.declared.name.PrimName.TheVariants as name
 use Rattle.hw_prims.specs.declared.prim.Primitive.{Primitive}
-use Rattle.hw_prims.specs.declared.prim.Primitive.TheVariants.{StdConst, StdWire, StdAdd, StdSub, StdAnd, StdOr, StdXor, StdNot, StdEq, StdNeq, StdLt, StdGt, StdLe, StdGe, StdLsh, StdRsh, StdSlice, StdPad, FilMux, FilSlice, FilConcat, StdReg, StdMemD1, StdMemD2, StdMultPipe, FilDelay, FilFastMult, FilSeqMult}
+use Rattle.hw_prims.specs.declared.prim.Primitive.TheVariants.{StdConst, StdWire, StdAdd, StdSub, StdAnd, StdOr, StdXor, StdNot, StdEq, StdNeq, StdLt, StdGt}
+use Rattle.hw_prims.specs.declared.prim.Primitive.TheVariants.{StdLe, StdGe, StdLsh, StdRsh, StdSlice, StdPad, FilMux, FilSlice, FilConcat, StdReg, StdMemD1}
+use Rattle.hw_prims.specs.declared.prim.Primitive.TheVariants.{StdMemD2, StdMultPipe, FilDelay, FilFastMult, FilSeqMult}
 
 -- a port of a primitive, or of a component: its name and width in bits
 pub record Pin : Type 0 where
@@ -139,7 +142,8 @@ is_made (FilSlice w hi lo) = is_width w && nat_le lo hi && nat_lt hi w
 is_made (FilConcat a b) = is_width a && is_width b && nat_le (a + b) MAX_WIDTH
 is_made (StdReg w) = is_width w
 is_made (StdMemD1 w size idx) = is_width w && nat_le 1 size && nat_le size MAX_WORDS && is_width idx
-is_made (StdMemD2 w size0 size1 idx0 idx1) = is_width w && nat_le 1 size0 && nat_le 1 size1 && nat_le (size0 * size1) MAX_WORDS && is_width idx0 && is_width idx1
+is_made (StdMemD2 w size0 size1 idx0 idx1) =
+    is_width w && nat_le 1 size0 && nat_le 1 size1 && nat_le (size0 * size1) MAX_WORDS && is_width idx0 && is_width idx1
 is_made (StdMultPipe w) = is_width w
 is_made (FilDelay w) = is_width w
 is_made (FilFastMult w) = is_width w

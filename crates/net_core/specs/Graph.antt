@@ -44,7 +44,9 @@ pub data ReadsPort (n : Netlist) (port other : Text) : Type 0 where
   -- an assignment of the port has the other in its source or guard
   ByAssignment : (k : ℕ) (a : SetLine) → slice_get n.sets k ≡ Some a → a.dst ≡ port → Contains (set_ports a) other → ReadsPort n port other
   -- the port is an output of a cell that depends on the other, an input of it, within a row
-  ByCell : (cell : Text) (prim : Primitive) (input output : Text) → IsNetCell n cell prim → Contains (pin_names (inputs_of prim)) input → Contains (pin_names (outputs_of prim)) output → is_through prim input output ≡ true → dotted cell output ≡ port → dotted cell input ≡ other → ReadsPort n port other
+  ByCell : (cell : Text) (prim : Primitive) (input output : Text) → IsNetCell n cell prim → Contains (pin_names (inputs_of prim)) input →
+      Contains (pin_names (outputs_of prim)) output → is_through prim input output ≡ true → dotted cell output ≡ port → dotted cell input ≡ other →
+      ReadsPort n port other
 
 -- each port of the list reads the next, and the last reads `back`
 abbrev pub ReadsAlong : Netlist → List Text → Text → Type 0

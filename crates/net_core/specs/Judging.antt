@@ -49,7 +49,8 @@ or_later (Some rule) item later = Some (rule, item)
 unfoldable pub first_broken : List PortLine → List PortLine → List Text → ℕ → List Line → Option (ℕ × ℕ)
 first_broken all ports cells item [] = None
 first_broken all ports cells item (line ∷ lines) =
-    or_later (first_not_kept 1 (rules_after all ports cells line)) item (first_broken all (ports ++ ports_at line) (cells ++ cell_names_at line) (item + 1) lines)
+    or_later (first_not_kept 1 (rules_after all ports cells line)) item
+    (first_broken all (ports ++ ports_at line) (cells ++ cell_names_at line) (item + 1) lines)
 
 -- the rule that a cell with new names breaks, by what its name and parameters make, whether it is shown, and whether it is a memory
 abbrev pub made_fault : Result Primitive PrimEnd → Bool → Bool → Option ℕ

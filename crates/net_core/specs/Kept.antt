@@ -3,7 +3,8 @@ use Rattle.std.specs.Prelude.{ℕ, true, false, ◌&&◌, ◌==◌, List, Option
 use Rattle.hw_names.specs.Name.{Text}
 use Rattle.net_core.specs.Guard.{GuardTree, GuardTrees}
 use Rattle.net_core.specs.Netlist.{SetLine, SetOf}
-use Rattle.net_core.specs.Rules.{PortLine, each_read, each_reads, source_exists, literal_fits, source_is_readable, guard_widths_agree, guards_widths_agree, has_known_names, has_good_widths, has_good_sides}
+use Rattle.net_core.specs.Rules.{PortLine, each_read, each_reads, source_exists, literal_fits, source_is_readable, guard_widths_agree, guards_widths_agree}
+use Rattle.net_core.specs.Rules.{has_known_names, has_good_widths, has_good_sides}
 use Rattle.net_core.specs.declared.ports.Port.{Port}
 use Rattle.net_core.specs.declared.sets.Kept.{Kept}
 use Rattle.net_core.specs.declared.sets.Source.{Source}

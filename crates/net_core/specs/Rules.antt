@@ -1,5 +1,6 @@
 -- The rules N1 to N5 of a netlist, line by line, and the first that is broken. This project's.
-use Rattle.std.specs.Prelude.{◌≡◌, ℕ, ◌+◌, ◌^◌, ◌<◌, Bool, true, false, not, ◌&&◌, ◌||◌, ◌==◌, nat_lt, List, [], ◌∷◌, ◌++◌, map, flat_map, take, bytes_eq, slice_get, Option, Some, None, is_some, find}
+use Rattle.std.specs.Prelude.{◌≡◌, ℕ, ◌+◌, ◌^◌, ◌<◌, Bool, true, false, not, ◌&&◌, ◌||◌, ◌==◌, nat_lt, List, [], ◌∷◌, ◌++◌, map, flat_map, take, bytes_eq}
+use Rattle.std.specs.Prelude.{slice_get, Option, Some, None, is_some, find}
 use Rattle.std.specs.List.{list_any, list_all}
 use Rattle.hw_names.specs.Name.{Text, dotted}
 use Rattle.hw_prims.specs.Table.{Pin, prim_of, is_primitive, is_memory, is_width, inputs_of, outputs_of, input_names, output_names}

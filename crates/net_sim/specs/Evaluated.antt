@@ -24,7 +24,8 @@ use Rattle.net_sim.specs.declared.settle.Settled.TheVariants.{Clash}
 pub record IsValueOf (n : Netlist) (inputs : Row) (states : Text → Primitive → State) (row : Row) (port : Text) (value : ℕ) : Type 0 where
   pub given : HasPin n.ins port → value ≡ inputs port
   pub driven : IsWritable n port → value ≡ settled (values_for port row n.sets)
-  pub computed : (cell : Text) (prim : Primitive) (k : ℕ) (output : Text) → IsNetCell n cell prim → slice_get (pin_names (outputs_of prim)) k ≡ Some output → dotted cell output ≡ port → value ≡ slice_index (output_values prim (states cell prim) (values_at row (dotted cell) (pin_names (inputs_of prim)))) k
+  pub computed : (cell : Text) (prim : Primitive) (k : ℕ) (output : Text) → IsNetCell n cell prim → slice_get (pin_names (outputs_of prim)) k ≡ Some output →
+      dotted cell output ≡ port → value ≡ slice_index (output_values prim (states cell prim) (values_at row (dotted cell) (pin_names (inputs_of prim)))) k
 
 -- the port has a Conflict in the row
 abbrev pub Clashes : Netlist → Row → ℕ → Type 0
@@ -55,7 +56,8 @@ moved values cell s = record { prim = s.prim; state = next_state s.prim s.state 
 -- the first cells have moved on, and the others not yet
 pub record AreMoved (cells : List CellPorts) (values : List ℕ) (count : ℕ) (old new : List CellValue) : Type 0 where
   pub all : length new ≡ length old
-  pub first : (k : ℕ) (c : CellPorts) (s : CellValue) → k < count → slice_get cells k ≡ Some c → slice_get old k ≡ Some s → slice_get new k ≡ Some (moved values c s)
+  pub first : (k : ℕ) (c : CellPorts) (s : CellValue) → k < count → slice_get cells k ≡ Some c → slice_get old k ≡ Some s →
+      slice_get new k ≡ Some (moved values c s)
   pub others : (k : ℕ) → count ≤ k → slice_get new k ≡ slice_get old k
 
 -- a source whose slot is one of so many
@@ -71,7 +73,8 @@ IsBitsOf values (Fixed bits) result = result ≡ bits
 -- each cell's inputs are ports of its primitive's widths
 abbrev pub AreCellInputs : List ℕ → List CellPorts → Type 0
 AreCellInputs widths cells =
-    (k : ℕ) (c : CellPorts) → slice_get cells k ≡ Some c → (c.first + length (inputs_of c.prim) ≤ length widths) × (cell_inputs widths c ≡ pin_widths (inputs_of c.prim))
+    (k : ℕ) (c : CellPorts) → slice_get cells k ≡ Some c →
+    (c.first + length (inputs_of c.prim) ≤ length widths) × (cell_inputs widths c ≡ pin_widths (inputs_of c.prim))
 
 -- the Conflict that was found stays, or it is the lesser of it and of a port with one
 abbrev pub IsLeastConflict : List Text → Settled → Option ℕ → ℕ → Option ℕ → Type 0

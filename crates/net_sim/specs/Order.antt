@@ -15,7 +15,8 @@ pub record IsOrderOf (n : Netlist) (ports : List ℕ) : Type 0 where
   pub all : length ports ≡ length (ports_of n)
   pub in_range : (i port : ℕ) → slice_get ports i ≡ Some port → port < length (ports_of n)
   pub once : (i j port : ℕ) → slice_get ports i ≡ Some port → slice_get ports j ≡ Some port → i ≡ j
-  pub after : (i j port other : ℕ) (name read : Text) → slice_get ports i ≡ Some port → slice_get ports j ≡ Some other → IsNamed n port name → IsNamed n other read → ReadsPort n name read → j < i
+  pub after : (i j port other : ℕ) (name read : Text) → slice_get ports i ≡ Some port → slice_get ports j ≡ Some other → IsNamed n port name →
+      IsNamed n other read → ReadsPort n name read → j < i
 
 -- these ports are the least loop
 abbrev pub IsLeastLoopOf : Netlist → List ℕ → Type 0

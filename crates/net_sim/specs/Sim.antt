@@ -94,7 +94,8 @@ pub record IsLoadedSim (net : Net) (loads : Text → List ℕ) (sim : SimValue) 
   pub net_is : sim.net ≡ net
   pub phase : sim.phase ≡ Fresh
   pub values : length sim.values ≡ length (port_names (netlist_of net))
-  pub states : (cell : Text) (prim : Primitive) → IsNetCell (netlist_of net) cell prim → states_of (netlist_of net) sim.states cell prim ≡ opening_state prim (loads cell)
+  pub states : (cell : Text) (prim : Primitive) → IsNetCell (netlist_of net) cell prim →
+      states_of (netlist_of net) sim.states cell prim ≡ opening_state prim (loads cell)
   pub hidden : (cell : Text) → ((mem : ℕ) (prim : Primitive) → IsShown (netlist_of net) mem cell prim → ⊥) → loads cell ≡ []
 
 -- what `new` makes: no word is loaded
@@ -106,18 +107,22 @@ pub record IsLoadOfSim (old : SimValue) (mem at word : ℕ) (new : SimValue) : T
   pub net : new.net ≡ old.net
   pub values : new.values ≡ old.values
   pub phase : new.phase ≡ old.phase
-  pub loaded : (cell : Text) (prim : Primitive) → IsShown (netlist_of old.net) mem cell prim → states_of (netlist_of old.net) new.states cell prim ≡ state_with_word (states_of (netlist_of old.net) old.states cell prim) at word
-  pub others : (cell : Text) (prim : Primitive) → IsNetCell (netlist_of old.net) cell prim → (IsShown (netlist_of old.net) mem cell prim → ⊥) → states_of (netlist_of old.net) new.states cell prim ≡ states_of (netlist_of old.net) old.states cell prim
+  pub loaded : (cell : Text) (prim : Primitive) → IsShown (netlist_of old.net) mem cell prim →
+      states_of (netlist_of old.net) new.states cell prim ≡ state_with_word (states_of (netlist_of old.net) old.states cell prim) at word
+  pub others : (cell : Text) (prim : Primitive) → IsNetCell (netlist_of old.net) cell prim → (IsShown (netlist_of old.net) mem cell prim → ⊥) →
+      states_of (netlist_of old.net) new.states cell prim ≡ states_of (netlist_of old.net) old.states cell prim
 
 -- the word of a shown memory
 abbrev pub IsWordOfSim : SimValue → (mem at word : ℕ) → Type 0
 IsWordOfSim sim mem at word =
-    (cell : Text) (prim : Primitive) → IsShown (netlist_of sim.net) mem cell prim → word ≡ slice_index (words_of (states_of (netlist_of sim.net) sim.states cell prim)) at
+    (cell : Text) (prim : Primitive) → IsShown (netlist_of sim.net) mem cell prim →
+    word ≡ slice_index (words_of (states_of (netlist_of sim.net) sim.states cell prim)) at
 
 -- how many words a shown memory has
 abbrev pub IsWordCountOfSim : SimValue → (mem count : ℕ) → Type 0
 IsWordCountOfSim sim mem count =
-    (cell : Text) (prim : Primitive) → IsShown (netlist_of sim.net) mem cell prim → (count ≡ word_count prim) × (count ≡ length (words_of (states_of (netlist_of sim.net) sim.states cell prim)))
+    (cell : Text) (prim : Primitive) → IsShown (netlist_of sim.net) mem cell prim →
+    (count ≡ word_count prim) × (count ≡ length (words_of (states_of (netlist_of sim.net) sim.states cell prim)))
 
 -- by phases: where no Conflict has ended the run, and where one has
 abbrev pub IfRunning : Phase → Type 0 → Type 0

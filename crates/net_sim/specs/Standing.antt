@@ -40,7 +40,8 @@ StandsAtStart =
 abbrev pub LoadsOneWord : Type 0
 LoadsOneWord =
     (net : Net) (loads : Text → List ℕ) (sim new : SimValue) (mem at word : ℕ) (cell : Text) (prim : Primitive) →
-    IsValid (netlist_of net) → IsShown (netlist_of net) mem cell prim → HasWord (netlist_of net) mem at → IsLoadedSim net loads sim → IsLoadOfSim sim mem at word new →
+    IsValid (netlist_of net) → IsShown (netlist_of net) mem cell prim → HasWord (netlist_of net) mem at → IsLoadedSim net loads sim →
+    IsLoadOfSim sim mem at word new →
     IsLoadedSim net (with_word loads cell prim at word) new
 
 -- a row without a Conflict, and then an edge, go on to the next row

@@ -60,4 +60,5 @@ AddReadings names more old new = (readings : List Reading) → AreEntriesOf name
 -- the ports of a cell stand from this number on
 pub record HasCellAt (names : List Text) (cell : Text) (prim : Primitive) (first : ℕ) : Type 0 where
   pub inputs : (j : ℕ) → j < length (inputs_of prim) → slice_get names (first + j) ≡ Some (dotted cell (name_at (inputs_of prim) j))
-  pub outputs : (j : ℕ) → j < length (outputs_of prim) → slice_get names (first + length (inputs_of prim) + j) ≡ Some (dotted cell (name_at (outputs_of prim) j))
+  pub outputs : (j : ℕ) → j < length (outputs_of prim) →
+      slice_get names (first + length (inputs_of prim) + j) ≡ Some (dotted cell (name_at (outputs_of prim) j))
