@@ -17,6 +17,7 @@ pub mod InvokeLemmas
 pub mod InvokedLemmas
 pub mod JudgeLemmas
 pub mod KeyLemmas
+pub mod KnownLemmas
 pub mod KindLemmas
 pub mod LeadLemmas
 pub mod LeastLemmas

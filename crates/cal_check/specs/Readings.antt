@@ -1,6 +1,8 @@
 -- What each part of a component says of which port or hole reads which within a row. This project's.
 use Rattle.std.specs.Prelude.{◌≡◌, ◌⊎◌, ℕ, ◌+◌, true, List, [], ◌∷◌, length, slice_get, slice_index_or, codes, Option, Some, None, Contains}
+use Rattle.std.specs.BTreeMap.{get}
 use Rattle.std.specs.List.{flat_map}
+use Rattle.std.specs.Ordering.{nat_cmp}
 use Rattle.hw_names.specs.Name.{Text}
 use Rattle.hw_prims.specs.Meaning.{is_through}
 use Rattle.hw_prims.specs.Table.{inputs_of, outputs_of, pin_names}
@@ -11,8 +13,9 @@ use Rattle.cal_ast.specs.Sides.{IsSource}
 use Rattle.cal_ast.specs.Tree.{PortName, own, port_of, CellDef, Assignment, DoneLine, GroupDef, Statement, Invoke, Component, Design}
 use Rattle.cal_ast.specs.Wires.{Reaches, done_ports, set_ports}
 use Rattle.cal_check.specs.Nodes.{Node, APort, AHole}
-use Rattle.cal_check.specs.WireGraphs.{Adds, IsPair}
+use Rattle.cal_check.specs.WireGraphs.{Adds, HasNumber, IsPair}
 use Rattle.cal_check.specs.declared.wire_graph.WireGraph.{WireGraph}
+use Rattle.cal_check.specs.declared.wires.CellPorts.{CellPorts}
 
 -- the readings of each of a list, by its place in it
 abbrev pub AnyAt : {X : Type 0} → (ℕ → X → Node → Node → Type 0) → List X → Node → Node → Type 0
@@ -89,6 +92,11 @@ pub record ReadsInPart (design : Design) (cell : Text) (part : Component) (n o :
 -- a port of a cell by its number in a list of names
 abbrev pub numbered : Text → List Text → ℕ → Node
 numbered cell ports number = APort (port_of cell (slice_index_or ports number []))
+
+-- ports of a cell that are known have their numbers in the graph, by their places
+abbrev pub AreKnown : WireGraph → CellPorts → Type 0
+AreKnown g ports =
+    (place number : ℕ) → get nat_cmp ports.known place ≡ Some number → HasNumber g (numbered ports.cell.now ports.names.now place) number
 
 -- a port of a cell reads others of it, by their numbers
 abbrev pub ReadsNumbers : Text → List Text → ℕ → List ℕ → Node → Node → Type 0

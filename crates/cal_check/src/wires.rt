@@ -15,7 +15,7 @@ ghost use Rattle.cal_ast.specs.Tree.{CellDef, Component, Design, Invoke, assignm
 ghost use Rattle.cal_ast.specs.Wires.{shown};
 ghost use Rattle.cal_check.specs.Around.{comp_at, design_at, names_at};
 ghost use Rattle.cal_check.specs.Nodes.{Node, input_key, key_of, name_of, node_ports};
-ghost use Rattle.cal_check.specs.Readings.{AddsGroups, ReadsDones, ReadsEach, ReadsGo, ReadsInCell, ReadsInCells, ReadsInPart, ReadsInPrimitive, ReadsNumbers, ReadsOutput, ReadsSet, ReadsSets, ReadsThrough, group_invoked, groups_invoked};
+ghost use Rattle.cal_check.specs.Readings.{AddsGroups, AreKnown, ReadsDones, ReadsEach, ReadsGo, ReadsInCell, ReadsInCells, ReadsInPart, ReadsInPrimitive, ReadsNumbers, ReadsOutput, ReadsSet, ReadsSets, ReadsThrough, group_invoked, groups_invoked};
 ghost use Rattle.cal_check.specs.Walks.{statements_from};
 ghost use Rattle.cal_check.specs.WireGraphs.{Adds, Grows, HasHole, HasNumber, IsGraphOf, LeadsTo, NoPair};
 ghost use Rattle.cal_check.specs.Wiring.{DependsOn, ShowsParts, TellsLoop};
@@ -33,6 +33,7 @@ use hw_names::{NameId, Names, Word};
 use hw_prims::Prim;
 use net_core::Src;
 use std::alloc::Global;
+use std::collections::BTreeMap;
 
 /// On which inputs the outputs of a component depend within a row.
 #[derive(Drop)]
@@ -425,21 +426,59 @@ fn add_primitive(graph: &mut WireGraph, cell: &[u8], prim: Prim) -> Result<(), M
     Ok(())
 }
 
-/// Adds that a port of a cell reads others of it, by their numbers among `ports`.
+/// The ports of a cell by their names, and the numbers in the graph of those that are known.
+#[derive(Drop)]
+struct CellPorts<'a> {
+    cell: &'a [u8],
+    names: &'a Names,
+    known: BTreeMap<usize, usize>,
+}
+
+impl<'a> CellPorts<'a> {
+    ghost use Rattle.std.specs.Prelude.{◌≡◌, ◌<◌, IfOk, OnOk, length};
+    ghost use Rattle.cal_check.specs.Readings.{AreKnown, numbered};
+    ghost use Rattle.cal_check.specs.WireGraphs.{Grows, HasNumber, NoPair};
+
+    /// The number of the port at this place; a new one goes last. Its name is made once.
+    fn number(&mut self, graph: &mut WireGraph, place: usize) -> Result<usize, Memory>
+        requires place { place < length self.old.names.now }
+        requires known { AreKnown graph.old self.old }
+        ensures number { IfOk result (HasNumber graph.new (numbered self.old.cell.now self.old.names.now place)) }
+        ensures known { OnOk result (AreKnown graph.new self.new) }
+        ensures grows { OnOk result (Grows NoPair graph.old graph.new) }
+        ensures cell { self.new.cell ≡ self.old.cell }
+        ensures names { self.new.names ≡ self.old.names }
+    {
+        if let Some(number) = self.known.get(&place) {
+            return Ok(*number);
+        }
+        let number = graph.port(PortText::of(self.cell, text_at(self.names, place)))?;
+        self.known.insert(place, number)?;
+        Ok(number)
+    }
+}
+
+/// Adds that a port of a cell reads others of it, by their places.
 fn add_part_output(
     graph: &mut WireGraph,
-    cell: &[u8],
-    ports: &Names,
+    ports: &mut CellPorts,
     output: usize,
     inputs: &[usize],
 ) -> Result<(), Memory>
-    requires output { output < length ports.now }
-    requires inputs { All (λ input. input < length ports.now) inputs.now }
-    ensures { OnOk result (Grows (ReadsNumbers cell.now ports.now output inputs.now) graph.old graph.new) }
+    requires output { output < length ports.old.names.now }
+    requires inputs { All (λ input. input < length ports.old.names.now) inputs.now }
+    requires known { AreKnown graph.old ports.old }
+    ensures reads { OnOk result (Grows (ReadsNumbers ports.old.cell.now ports.old.names.now output inputs.now) graph.old graph.new) }
+    ensures known { OnOk result (AreKnown graph.new ports.new) }
+    ensures cell { ports.new.cell ≡ ports.old.cell }
+    ensures names { ports.new.names ≡ ports.old.names }
 {
-    let number = graph.port(PortText::of(cell, text_at(ports, output)))?;
+    if inputs.is_empty() {
+        return Ok(());
+    }
+    let number = ports.number(graph, output)?;
     for input in inputs {
-        let other = graph.port(PortText::of(cell, text_at(ports, *input)))?;
+        let other = ports.number(graph, *input)?;
         graph.add(number, other)?;
     }
     Ok(())
@@ -460,11 +499,16 @@ fn add_part(
         → OnOk result (Grows (ReadsInPart (design_at place.now) cell.now c) graph.old graph.new) }
 {
     let inputs = place.signature_of(part).inputs;
-    let ports = part_names(place, part);
-    let _count = ports.len();
+    let names = part_names(place, part);
+    let _count = names.len();
+    let mut ports = CellPorts {
+        cell,
+        names,
+        known: BTreeMap::new(graph.alloc),
+    };
     for (output, reached) in wires.inputs.iter().enumerate() {
         let number = inputs + output;
-        add_part_output(graph, cell, ports, number, reached)?;
+        add_part_output(graph, &mut ports, number, reached)?;
     }
     Ok(())
 }
