@@ -25,6 +25,14 @@ pub on_ok : {X E P Q : Type 0} (r : Result X E) → OnOk r P → (P → Q) → O
 on_ok (Ok x) p then = then p
 on_ok (Err e) p then = tt
 
+pub on_ok_all : {X E P : Type 0} (r : Result X E) → P → OnOk r P
+on_ok_all (Ok x) p = p
+on_ok_all (Err e) p = tt
+
+pub on_ok_both : {X E P Q R : Type 0} (r : Result X E) → OnOk r P → OnOk r Q → (P → Q → R) → OnOk r R
+on_ok_both (Ok x) p q then = then p q
+on_ok_both (Err e) p q then = tt
+
 -- invocations keep their instances where instances are added
 kept_instances : (listed more : List Text) (ns : List ℕ) (vs : List Invocation) → map (slice_get listed) ns ≡ map instance_of vs → map (slice_get (listed ++ more)) ns ≡ map instance_of vs
 kept_instances listed more [] [] e = refl

@@ -36,3 +36,9 @@ pub mod WiringLemmas
 pub mod WeightLemmas
 pub mod UnitLemmas
 pub mod UnitMeetLemmas
+pub mod KeyLemmas
+pub mod StartsLemmas
+pub mod ListedLemmas
+pub mod SpanStartLemmas
+pub mod AddedLemmas
+pub mod PortsLemmas

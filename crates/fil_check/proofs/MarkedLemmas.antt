@@ -22,7 +22,6 @@ use Rattle.fil_check.specs.declared.uses.Use as numbers
 use Rattle.fil_check.proofs.EachLemmas.{EachBelow}
 use Rattle.fil_check.proofs.GivenLemmas.{mapped_at, unmapped}
 use Rattle.fil_check.proofs.SharingLemmas.{a_use, from_earlier, from_own, no_use, place_of, same_use, to_earlier, to_own}
-use Rattle.fil_check.proofs.SpanLemmas.{IsEarlierBelow}
 use Rattle.fil_check.proofs.UseLemmas.{event_there, its_name}
 
 -- the interface ports of an event
@@ -144,49 +143,6 @@ module _ (names : List Text) (comp : FilComp) (tables : Tables) (calls : List �
           let known : IsEarlierUse with u b.use_then = record { invocation = b.earlier; is_earlier = b.is_earlier; uses = b.triggered; same_instance = b.triggered.2.named ∙ b.same_instance ∙ sym own.named; same_event = b.same_event ∙ sym here } in
           keeps.once b.earlier u b.use_then b.is_earlier b.same_instance is_u b.triggered (kept u b.use_then is_u known).0
     ]
-
-  -- the earlier invocations that trigger an event, and the numbers of their instance's calls
-  pub used_below : (k n : ℕ) → length calls ≤ n → IsUsedBefore with v k → (u : Use) × IsEarlierBelow with calls k n u
-  used_below k n all b =
-      let w = b.earlier in
-      let c = b.is_earlier in
-      let at_c : slice_get with.invocations c.0 ≡ Some w = slice_get-get_or with.invocations c.0 w c.1 ∙ ap Some c.2 in
-      let place = place_of names comp tables calls sig at with v is c.0 w at_c b.same_instance in
-      let within = slice_get_within calls place.0 c.0 place.1 in
-      (b.use_then, record { place = place.0; below = omega arith; call = c.0; numbered = place.1; invocation = w; there = at_c; triggered = b.triggered; event = b.same_event })
-
-  module _ (k n call : ℕ) (here : slice_get calls n ≡ Some call) (w : Invocation) (there : slice_get with.invocations call ≡ Some w) (named : w.inst ≡ v.inst) (delay : Delay) (has : HasDelay sig k delay) where
-    pub used_here : (o : numbers.Use) → ShowsUse tables.events delay w.gives.times k (Some o) → IsUsedBefore with v k
-    used_here o told =
-        let x = a_use tables.events sig v.inst w.gives.times k delay has o told in
-        record {
-          earlier = w;
-          is_earlier = (call, slice_get_within with.invocations call w there, get_or_from_slice_get with.invocations call w w there);
-          same_instance = named;
-          use_then = x.0;
-          triggered = to_earlier names comp tables calls sig at with v is w named x.0 x.1;
-          same_event = x.2;
-        }
-
-    pub used_by : (r : Option numbers.Use) → ShowsUse tables.events delay w.gives.times k r → is_some r ≡ true → IsUsedBefore with v k
-    used_by None told e = absurd (cc)
-    used_by (Some o) told e = used_here o told
-
-    pub unused_more : ShowsUse tables.events delay w.gives.times k None → ((u : Use) → IsEarlierBelow with calls k n u → ⊥) → (u : Use) → IsEarlierBelow with calls k (n + 1) u → ⊥
-    unused_more told none u e = elim (cases_lt e.place n) [
-      | inl below ↦ none u (record { place = e.place; below = below; call = e.call; numbered = e.numbered; invocation = e.invocation; there = e.there; triggered = e.triggered; event = e.event })
-      | inr after ↦
-          let within : e.place < n + 1 = e.below in
-          let same : e.place ≡ n = omega arith in
-          let same_call = same_Some e.call call (sym e.numbered ∙ ap (slice_get calls) same ∙ here) in
-          let same_invocation = same_Some e.invocation w (sym e.there ∙ ap (slice_get with.invocations) same_call ∙ there) in
-          let its = subst (λ (x : Invocation). IsUseOf with x u) same_invocation e.triggered in
-          no_use tables.events sig v.inst w.gives.times k delay has told u (from_earlier names comp tables calls sig at with v is w named u its) e.event
-    ]
-
-    pub unused_by : (r : Option numbers.Use) → ShowsUse tables.events delay w.gives.times k r → is_some r ≡ false → ((u : Use) → IsEarlierBelow with calls k n u → ⊥) → (u : Use) → IsEarlierBelow with calls k (n + 1) u → ⊥
-    unused_by None told e none = unused_more told none
-    unused_by (Some o) told e none = absurd (cc)
 
   -- the event's use by numbers, and the component's event on which it is
   module _ (k : ℕ) (delay : Delay) (has : HasDelay sig k delay) where

@@ -3,7 +3,7 @@ use Rattle.std.proofs.Common.{◌≡◌, ℕ, zero, suc, ◌+◌, ◌-◌, ◌<�
 use Rattle.std.specs.Option.{IfSome, option_and_then}
 use Rattle.std.specs.Str.{bytes_eq}
 use Rattle.std.proofs.lemmas.Bool.{false_from_ne_true}
-use Rattle.std.proofs.lemmas.List.{append-nil, length-map}
+use Rattle.std.proofs.lemmas.List.{append-nil, get_or_past, length-map}
 use Rattle.std.proofs.lemmas.List.Elements.{All-cons, All-head, All-nil, Contains-get_or}
 use Rattle.std.proofs.lemmas.Option.{none-some, same_Some, get_or_from_slice_get, slice_get-get_or, slice_get-map, slice_get_within}
 use Rattle.std.proofs.lemmas.Slice.Eq.{bytes_eq-Decides}
@@ -20,8 +20,9 @@ use Rattle.fil_check.specs.Callees.{HasGoodDelay, HasGoodTimes, IsGoodDelay}
 use Rattle.fil_ast.specs.declared.tree.FilComp.{FilComp}
 use Rattle.fil_check.specs.Place.{AreHeld, AreShared, SharesWell, StandsAt, with_instance}
 use Rattle.fil_check.specs.Shared.{IsInvoked, KeepsSharing}
+use Rattle.fil_check.specs.Starts.{ListsAllUses}
 use Rattle.fil_check.specs.Stages.{HoldsUses, KeepsFrom, KeptAt}
-use Rattle.fil_check.specs.Tables.{Shows, calls_from, calls_of, grown, instance_of, listed, signature_at, times_of, times_shown}
+use Rattle.fil_check.specs.Tables.{Shows, calls_at, calls_from, calls_of, grown, instance_of, listed, signature_at, times_of, times_shown}
 use Rattle.fil_check.specs.Times.{AreTimes}
 use Rattle.fil_check.specs.declared.tables.Earlier.{Earlier}
 use Rattle.fil_check.specs.declared.tables.Tables.{Tables}
@@ -163,10 +164,15 @@ module _ (scope : Scope) (s : Statement) (known : (v : Invocation) → Contains 
   abbrev with : Scope
   with = with_instance scope s
 
-  use_before : (v : Invocation) (u : Use) → Contains scope.invocations v → IsUseOf with v u → IsUseOf scope v u
+  pub use_before : (v : Invocation) (u : Use) → Contains scope.invocations v → IsUseOf with v u → IsUseOf scope v u
   use_before v u there (sig, signed, used) =
       let meant = λ (i : Instance). signature_in scope.comps i.made i.params in
       (sig, sym (ap (option_and_then meant) (kept_front scope.instances (instances_at s) v.inst (known v there))) ∙ signed, used)
+
+  pub use_after : (v : Invocation) (u : Use) → Contains scope.invocations v → IsUseOf scope v u → IsUseOf with v u
+  use_after v u there (sig, signed, used) =
+      let meant = λ (i : Instance). signature_in scope.comps i.made i.params in
+      (sig, ap (option_and_then meant) (kept_front scope.instances (instances_at s) v.inst (known v there)) ∙ signed, used)
 
   pub held_with : AreHeld scope → AreHeld with
   held_with held v u there used = held v u there (use_before v u there used)
@@ -179,7 +185,7 @@ module _ (scope : Scope) (s : Statement) (known : (v : Invocation) → Contains 
       let a = shared i j v w u x before at_i at_j (use_before v u (contained i v at_i) use_v) (use_before w x (contained j w at_j) use_w) same_inst same_event in
       record { event = a.event; disjoint = a.disjoint; in_time = a.in_time }
 
-in_parts : {X : Type 0} (xs ys : List X) (x : X) → Contains (xs ++ ys) x → Contains xs x ⊎ Contains ys x
+pub in_parts : {X : Type 0} (xs ys : List X) (x : X) → Contains (xs ++ ys) x → Contains xs x ⊎ Contains ys x
 in_parts [] ys x there = inr there
 in_parts (y ∷ xs) ys x (zero, within, same) = inl (zero, omega arith, same)
 in_parts (y ∷ xs) ys x (suc k, within, same) = by (in_parts xs ys x (k, omega arith, same))
@@ -274,12 +280,12 @@ calls_below j name (v ∷ vs) end within = by (bytes_eq v.inst name) refl (calls
         let A : List ℕ → Type 0 = All (IsBelow end) in
         subst A (sym (ap (λ (b : Bool). cond b (j ∷ calls_from (suc j) name vs) (calls_from (suc j) name vs)) is)) rest
 
-pub calls_within : (earlier : Earlier) (tables : Tables) (scope : Scope) → Shows earlier tables scope → (name : Text) (calls : List ℕ) (end : ℕ) → end ≡ length tables.times.items → calls ≡ calls_from 0 name scope.invocations
+pub calls_within : (tables : Tables) (scope : Scope) → map (times_shown tables.events) tables.times.items ≡ map times_of scope.invocations → (name : Text) (calls : List ℕ) (end : ℕ) → end ≡ length tables.times.items → calls ≡ calls_from 0 name scope.invocations
     → All (λ (k : ℕ). k < end) calls
-calls_within earlier tables scope shown name calls end counted are =
+calls_within tables scope times name calls end counted are =
     let A : List ℕ → Type 0 = All (λ (k : ℕ). k < end) in
     let count : length tables.times.items ≡ length scope.invocations =
-    sym (length-map tables.times.items (times_shown tables.events)) ∙ ap length shown.times ∙ length-map scope.invocations times_of in
+    sym (length-map tables.times.items (times_shown tables.events)) ∙ ap length times ∙ length-map scope.invocations times_of in
     subst A (sym are) (calls_below 0 name scope.invocations end (omega arith))
 
 -- the calls that the tables list
@@ -294,16 +300,20 @@ module _ (earlier : Earlier) (tables : Tables) (scope : Scope) (shown : Shows ea
     abbrev instance : (i : Instance) × (slice_get scope.instances n ≡ Some i) × (i.name ≡ name)
     instance = unmapped (λ (i : Instance). i.name) scope.instances n name (ap (λ (ts : List Text). slice_get ts n) (sym shown.instances) ∙ at)
 
-    calls_at : slice_get (map listed tables.calls.items) n ≡ Some (calls_of scope.invocations instance.0)
-    calls_at = ap (λ (os : List (List ℕ)). slice_get os n) shown.calls ∙ mapped_at (calls_of scope.invocations) scope.instances n instance.0 instance.1
+    calls_here : slice_get (map listed tables.calls.items) n ≡ Some (calls_of scope.invocations instance.0)
+    calls_here = ap (λ (os : List (List ℕ)). slice_get os n) shown.calls ∙ mapped_at (calls_of scope.invocations) scope.instances n instance.0 instance.1
 
-    pub calls_found : (numbers : Vec ℕ Global) → slice_get tables.calls.items n ≡ Some numbers → numbers.items ≡ calls_from 0 name scope.invocations
-    calls_found numbers here =
-        same_Some numbers.items (calls_of scope.invocations instance.0) (sym (mapped_at listed tables.calls.items n numbers here) ∙ calls_at)
+    pub calls_found : calls_at tables n ≡ calls_from 0 name scope.invocations
+    calls_found =
+        get_or_from_slice_get (map listed tables.calls.items) n (calls_of scope.invocations instance.0) [] calls_here
         ∙ ap (λ (t : Text). calls_from 0 t scope.invocations) instance.2
 
-    pub calls_missing : slice_get tables.calls.items n ≡ None → ⊥
-    calls_missing none = none-some (calls_of scope.invocations instance.0) (sym (slice_get-map listed tables.calls.items n ∙ ap (option_map listed) none) ∙ calls_at)
+  -- those of a new instance
+  pub calls_past : (n : ℕ) → length tables.instances ≤ n → (Contains tables.instances name → ⊥) → calls_at tables n ≡ calls_from 0 name scope.invocations
+  calls_past n past absent =
+      let listed_so : length (map listed tables.calls.items) ≡ length scope.instances = ap length shown.calls ∙ length-map scope.instances (calls_of scope.invocations) in
+      let named : length tables.instances ≡ length scope.instances = ap length shown.instances ∙ length-map scope.instances (λ (i : Instance). i.name) in
+      get_or_past (map listed tables.calls.items) n [] (omega arith) ∙ calls_absent absent
 
 -- a statement without a callee uses nothing
 pub none_used : (scope : Scope) (before : List Statement) (s : Statement) → MakesNewNames scope s → None ≡ signature_at scope s → KeepsFrom (KeptAt scope before s) 10 13
@@ -350,20 +360,20 @@ module _ (names : List Text) (earlier : Earlier) (comp : FilComp) (tables : Tabl
         (subst H signed (kept 6 F7 (omega arith) (omega arith) refl)) (subst D signed (kept 9 F10 (omega arith) (omega arith) refl))
 
   module _ (name made : Text) (params : List ℕ) (gives : Giving) (kept : KeepsFrom (KeptAt scope before (Both name made params gives)) 0 10) (sig : Signature) (signed : signature_in scope.comps made params ≡ Some sig) where
-    pub invoked_both : (at : List Offset) → AreTimes tables.events at gives.times
-        → IsInvoked names comp tables [] sig at (with_instance scope (Both name made params gives)) (record { name = name; inst = name; gives = gives })
-    invoked_both at given =
+    pub invoked_both : (n : ℕ) → length tables.instances ≤ n → (at : List Offset) → AreTimes tables.events at gives.times
+        → IsInvoked names comp tables (calls_at tables n) sig at (with_instance scope (Both name made params gives)) (record { name = name; inst = name; gives = gives })
+    invoked_both n past at given =
         let H : Option Signature → Type 0 = λ o. IfSome o (λ (sig : Signature). HoldsSome sig gives.times) in
         let D : Option Signature → Type 0 = λ o. IfSome o (λ (sig : Signature). KeepsDelays scope sig name gives) in
         let fresh : MakesNewNames scope (Both name made params gives) = kept 0 F1 (omega arith) (omega arith) refl in
-        let none = calls_absent earlier tables scope stands.place.shows name (both_instance names earlier comp tables scope stands.place name made params gives fresh) in
-        invoked_at (Both name made params gives) fresh (record { name = name; inst = name; gives = gives }) (0, omega arith, refl) sig signed [] none at given
+        let none = calls_past earlier tables scope stands.place.shows name n past (both_instance names earlier comp tables scope stands.place name made params gives fresh) in
+        invoked_at (Both name made params gives) fresh (record { name = name; inst = name; gives = gives }) (0, omega arith, refl) sig signed (calls_at tables n) none at given
         (subst H signed (kept 6 F7 (omega arith) (omega arith) refl)) (subst D signed (kept 9 F10 (omega arith) (omega arith) refl))
 
   -- where a statement stands that keeps all rules, the next one stands
   pub stands_next : (s : Statement) (new : Tables) → MakesNewNames scope s → HoldsUses scope s → KeepsFrom (KeptAt scope before s) 10 13 → Shows earlier new (grown scope s)
-      → new.connected ≡ flat_map connected_at (before ++ s ∷ []) → StandsAt names earlier comp new (grown scope s) (before ++ s ∷ [])
-  stands_next s new fresh own kept shows connected =
+      → ListsAllUses new (grown scope s) → new.connected ≡ flat_map connected_at (before ++ s ∷ []) → StandsAt names earlier comp new (grown scope s) (before ++ s ∷ [])
+  stands_next s new fresh own kept shows lists connected =
       let known = instance_listed_of earlier tables scope stands.place.shows in
       let D : List Text → Type 0 = AreDistinct in
       record {
@@ -372,4 +382,5 @@ module _ (names : List Text) (earlier : Earlier) (comp : FilComp) (tables : Tabl
         connected = connected;
         held = held_grown scope before s (signed_with scope s fresh) (held_with scope s known stands.held) own;
         shared = shared_grown scope before s (signed_with scope s fresh) (shared_with scope s known stands.shared) kept;
+        listed = lists;
       }

@@ -1,5 +1,5 @@
 -- Readings that a graph of ports gains, one after another.
-use Rattle.std.proofs.Common.{◌≡◌, ◌↔◌, ◌⊎◌, inl, inr, ℕ, ◌+◌, ◌<◌, Bool, true, false, List, [], ◌∷◌, ◌++◌, Some, length, get_or, slice_get, refl, sym, ap, subst, ◌∙◌, arith}
+use Rattle.std.proofs.Common.{◌≡◌, ◌↔◌, ◌⊎◌, inl, inr, ℕ, ◌+◌, ◌<◌, Bool, true, false, List, [], ◌∷◌, ◌++◌, Some, Contains, length, get_or, slice_get, refl, sym, ap, subst, ◌∙◌, arith}
 use Rattle.std.specs.Prelude.{All, if◌then◌else◌}
 use Rattle.std.proofs.lemmas.Bool.{cases_lt}
 use Rattle.std.proofs.lemmas.List.Elements.{All-push, All-contains, All-weaker}
@@ -8,7 +8,7 @@ use Rattle.hw_graph.proofs.MemberLemmas.{In, in_of, contains_of, in_left, in_rig
 use Rattle.hw_graph.specs.declared.groups.Entry.{Entry}
 use Rattle.hw_names.proofs.NameLemmas.{length-KeepsTexts}
 use Rattle.hw_names.specs.Name.{Text, KeepsTexts}
-use Rattle.fil_check.specs.PortGraph.{HasReading, Adds, IsPair, Below}
+use Rattle.fil_check.specs.PortGraph.{NoPair, HasReading, Adds, IsPair, Below}
 use Rattle.fil_check.specs.declared.port_graph.PortGraph.{PortGraph}
 
 -- ---- entries and names
@@ -37,6 +37,42 @@ pub adds_none : (P : Text → Text → Type 0) (g : PortGraph) → ((port other 
 adds_none P g none = record {
   texts = λ i text at. at;
   has = λ port other. (λ h. inl h, λ e. elim e [ inl h ↦ h | inr p ↦ absurd (none port other p) ]);
+}
+
+-- one more name
+pub adds_named : (old new : PortGraph) → KeepsTexts old.names new.names → new.entries.items ≡ old.entries.items → Adds NoPair old new
+adds_named old new keeps items = record {
+  texts = keeps;
+  has = λ p o. (λ h. inl (back p o h), λ e. elim e [ inl h ↦ forth p o h | inr none ↦ absurd none ]);
+}
+  where
+    back : (p o : Text) → HasReading new p o → HasReading old p o
+    back p o h =
+        let there = subst (λ (es : List Entry). Contains es h.entry) items h.there in
+        let within = All-contains (IsWithin old.names) old.entries.items h.entry old.in_range there in
+        record {
+          entry = h.entry;
+          there = there;
+          key = same_text old.names new.names h.entry.key p keeps within.0 h.key;
+          value = same_text old.names new.names h.entry.value o keeps within.1 h.value;
+        }
+
+    forth : (p o : Text) → HasReading old p o → HasReading new p o
+    forth p o h = record {
+      entry = h.entry;
+      there = subst (λ (es : List Entry). Contains es h.entry) (sym items) h.there;
+      key = keeps h.entry.key p h.key;
+      value = keeps h.entry.value o h.value;
+    }
+
+-- no pair, and then no pair
+pub adds_no_more : (old mid new : PortGraph) → Adds NoPair old mid → Adds NoPair mid new → Adds NoPair old new
+adds_no_more old mid new first second = record {
+  texts = λ i text at. second.texts i text (first.texts i text at);
+  has = λ p o. (
+    λ h. elim ((second.has p o).0 h) [ inl m ↦ (first.has p o).0 m | inr none ↦ absurd none ],
+    λ e. elim e [ inl h ↦ (second.has p o).1 (inl ((first.has p o).1 (inl h))) | inr none ↦ absurd none ],
+  );
 }
 
 pub adds_same : (P Q : Text → Text → Type 0) (old new : PortGraph) → ((port other : Text) → P port other ↔ Q port other) → Adds P old new → Adds Q old new
@@ -70,6 +106,9 @@ adds_both P Q a b c first second = record {
 
 pub below_none : (P : ℕ → Text → Text → Type 0) (g : PortGraph) → Adds (Below P 0) g g
 below_none P g = adds_none (Below P 0) g (λ port other below. absurd (omega (arith, below.1)))
+
+pub below_start : (P : ℕ → Text → Text → Type 0) (old new : PortGraph) → Adds NoPair old new → Adds (Below P 0) old new
+below_start P old new adds = adds_same NoPair (Below P 0) old new (λ port other. (λ none. absurd none, λ below. absurd (omega (arith, below.1)))) adds
 
 pub below_more : (P : ℕ → Text → Text → Type 0) (n : ℕ) (old mid new : PortGraph) → Adds (Below P n) old mid → Adds (P n) mid new → Adds (Below P (n + 1)) old new
 below_more P n old mid new first second =

@@ -204,32 +204,31 @@ module _ (names : List Text) (scope : Scope) (inst : Text) (args : List Value) w
       absent : (x : Signature) → ◌≡◌ {A = Option Signature} None (Some x) → ⊥
       absent x e = absurd (cc)
 
-module _ (inst output : Text) (ins : List SigPort) (numbers : List ℕ) (k : ℕ) (old mid new : PortGraph) where
+module _ (inst output : Text) (ins : List tree.SigPort) (numbers : List ℕ) (k : ℕ) (old mid new : PortGraph) where
   abbrev AtNumber : ℕ → Text → Text → Type 0
-  AtNumber = ReadsNumbered inst output (map seen_port ins) numbers
+  AtNumber = ReadsNumbered inst output ins numbers
 
-  pub input_gained : (number : ℕ) (input : SigPort) (port other : Text) → slice_get numbers k ≡ Some number → slice_get ins number ≡ Some input → port ≡ dotted inst output → other ≡ dotted inst input.name
-      → Adds (Below AtNumber k) old mid → Adds (IsPair port other) mid new → Adds (Below AtNumber (k + 1)) old new
-  input_gained number input port other at_number at_in is_port is_other first second =
-      below_more AtNumber k old mid new first (adds_same (IsPair port other) (AtNumber k) mid new (λ p o. (to p o, from p o)) second)
+  pub number_gained : (number : ℕ) (input : tree.SigPort) → slice_get numbers k ≡ Some number → slice_get ins number ≡ Some input → Adds (Below AtNumber k) old mid → Adds (IsPair (dotted inst output) (dotted inst input.name)) mid new
+      → Adds (Below AtNumber (k + 1)) old new
+  number_gained number input at_number at_in first second =
+      below_more AtNumber k old mid new first (adds_same (IsPair (dotted inst output) (dotted inst input.name)) (AtNumber k) mid new (λ p o. (to p o, from p o)) second)
     where
-      to : (p o : Text) → IsPair port other p o → AtNumber k p o
-      to p o pair = record { number = number; input = seen_port input; at = at_number; taken = slice_get-map seen_port ins number ∙ ap (option_map seen_port) at_in; is_port = sym is_port ∙ pair.0; is_other = sym is_other ∙ pair.1 }
+      to : (p o : Text) → IsPair (dotted inst output) (dotted inst input.name) p o → AtNumber k p o
+      to p o pair = record { number = number; input = input; at = at_number; taken = at_in; is_port = pair.0; is_other = pair.1 }
 
-      from : (p o : Text) → AtNumber k p o → IsPair port other p o
+      from : (p o : Text) → AtNumber k p o → IsPair (dotted inst output) (dotted inst input.name) p o
       from p o r =
           let same_number : number ≡ r.number = same_Some number r.number (sym at_number ∙ r.at) in
-          let there : slice_get (map seen_port ins) r.number ≡ Some (seen_port input) = ap (slice_get (map seen_port ins)) (sym same_number) ∙ (slice_get-map seen_port ins number ∙ ap (option_map seen_port) at_in) in
-          let same_in : seen_port input ≡ r.input = same_Some (seen_port input) r.input (sym there ∙ r.taken) in
-          (is_port ∙ r.is_port, is_other ∙ ap (λ (q : tree.SigPort). dotted inst q.name) same_in ∙ r.is_other)
+          let same_in : input ≡ r.input = same_Some input r.input (sym at_in ∙ ap (slice_get ins) same_number ∙ r.taken) in
+          (r.is_port, ap (λ (q : tree.SigPort). dotted inst q.name) same_in ∙ r.is_other)
 
-  pub input_surplus : (number : ℕ) → slice_get numbers k ≡ Some number → slice_get ins number ≡ None → Adds (Below AtNumber k) old mid → Adds (Below AtNumber (k + 1)) old mid
-  input_surplus number at_number none first = below_skip AtNumber k old mid (λ p o r. absent p o r) first
+  pub number_surplus : (number : ℕ) → slice_get numbers k ≡ Some number → slice_get ins number ≡ None → Adds (Below AtNumber k) old mid → Adds (Below AtNumber (k + 1)) old mid
+  number_surplus number at_number none first = below_skip AtNumber k old mid (λ p o r. absent p o r) first
     where
       absent : (p o : Text) → AtNumber k p o → ⊥
       absent p o r =
           let same_number : number ≡ r.number = same_Some number r.number (sym at_number ∙ r.at) in
-          let nothing : ◌≡◌ {A = Option tree.SigPort} None (Some r.input) = sym (ap (slice_get (map seen_port ins)) (sym same_number) ∙ (slice_get-map seen_port ins number ∙ ap (option_map seen_port) none)) ∙ r.taken in
+          let nothing : ◌≡◌ {A = Option tree.SigPort} None (Some r.input) = sym none ∙ ap (slice_get ins) same_number ∙ r.taken in
           absurd (cc)
 
 module _ (inst output : Text) (ins : List SigPort) (k : ℕ) (old mid new : PortGraph) where

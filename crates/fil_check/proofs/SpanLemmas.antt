@@ -1,5 +1,5 @@
 -- The span of an event's uses; F12.
-use Rattle.std.proofs.Common.{◌≡◌, ℕ, ◌+◌, ◌-◌, ◌<◌, ◌≤◌, ◌⊎◌, inl, inr, List, length, map, slice_get, Contains, Option, Some, None, refl, sym, ap, ap₂, subst, ◌∙◌, arith}
+use Rattle.std.proofs.Common.{◌≡◌, ℕ, ◌+◌, ◌-◌, ◌<◌, ◌≤◌, ◌^◌, ◌⊎◌, inl, inr, List, length, map, slice_get, Contains, Option, Some, None, refl, sym, ap, ap₂, subst, ◌∙◌, arith}
 use Rattle.std.specs.Prelude.{max, IfNone, IfSome, MatchOption}
 use Rattle.std.proofs.lemmas.Bool.{cases_lt}
 use Rattle.std.proofs.lemmas.Option.{same_Some, slice_get-get_or, slice_get_within, get_or_from_slice_get}
@@ -20,14 +20,13 @@ use Rattle.fil_sig.specs.declared.time_sig.TimeSig.{TimeSig}
 use Rattle.fil_check.specs.Callees.{HasGoodDelay, HasGoodTimes, IsGoodDelay}
 use Rattle.fil_check.specs.Place.{AreShared}
 use Rattle.fil_check.specs.Shared.{IsInvoked}
-use Rattle.fil_check.specs.Sharing.{EndsAt, GapAt, HasDelay, IsFirstOf, IsLastOf, IsShownBy, IsSpanOf, SpanFits, SpanMeets}
-use Rattle.fil_check.specs.Uses.{ShowsUse}
+use Rattle.fil_check.specs.Sharing.{EndsAt, GapAt, IsFirstOf, IsLastOf, IsSpanOf, MOST_HOLD, SpanFits, SpanMeets}
 use Rattle.fil_check.specs.declared.span.Span.{Span}
 use Rattle.fil_check.specs.declared.tables.Tables.{Tables}
 use Rattle.fil_check.specs.declared.times.Offset.{Offset}
 use Rattle.fil_check.specs.declared.uses.Use as numbers
 use Rattle.fil_check.proofs.GivenLemmas.{mapped_at}
-use Rattle.fil_check.proofs.SharingLemmas.{AreAlike, a_use, alike_back, apart_alike, call_at, disjoint_back, from_earlier, from_own, no_use, place_of, same_use, to_earlier}
+use Rattle.fil_check.proofs.SharingLemmas.{AreAlike, alike_back, apart_alike, disjoint_back, from_own, same_use}
 use Rattle.fil_check.proofs.UseLemmas.{event_there, is_there, its_name, only_delay}
 
 -- an event of a good delay is held for a row or more
@@ -50,27 +49,6 @@ pub told_other : (P P' : Type 0) (Q Q' : Meet → Type 0) (r : Option Meet) → 
 told_other P P' Q Q' None told none some = none told
 told_other P P' Q Q' (Some x) told none some = some x told
 
--- the uses by the invocation and by the earlier ones, as far as a loop has come
-pub record IsEarlierBelow (with : Scope) (calls : List ℕ) (k n : ℕ) (u : Use) : Type 0 where
-  pub place : ℕ
-  pub below : place < n
-  pub call : ℕ
-  pub numbered : slice_get calls place ≡ Some call
-  pub invocation : Invocation
-  pub there : slice_get with.invocations call ≡ Some invocation
-  pub triggered : IsUseOf with invocation u
-  pub event : u.event ≡ k
-
-abbrev pub Among : Scope → Invocation → List ℕ → ℕ → ℕ → Use → Type 0
-Among with v calls k n u = (IsUseOf with v u × (u.event ≡ k)) ⊎ IsEarlierBelow with calls k n u
-
--- one of two, by numbers and by texts
-chosen : (events : List Text) (P : Use → Type 0) (one other new : numbers.Use) (a b : Use) → (new ≡ one) ⊎ (new ≡ other) → IsShownBy events one a → IsShownBy events other b → P a → P b → (f : Use) × IsShownBy events new f × P f
-chosen events P one other new a b choice shows_a shows_b has_a has_b = elim choice [
-  | inl same ↦ (a, subst (λ (n : numbers.Use). IsShownBy events n a) (sym same) shows_a, has_a)
-  | inr same ↦ (b, subst (λ (n : numbers.Use). IsShownBy events n b) (sym same) shows_b, has_b)
-]
-
 module _ (names : List Text) (comp : FilComp) (tables : Tables) (calls : List ℕ) (sig : Signature) (at : List Offset) (with : Scope) (v : Invocation) (is : IsInvoked names comp tables calls sig at with v) where
   own : (u : Use) → IsUseOf with v u → IsUse sig v.inst v.gives.times u
   own u is_u = from_own names comp tables calls sig at with v is u is_u
@@ -81,7 +59,7 @@ module _ (names : List Text) (comp : FilComp) (tables : Tables) (calls : List �
       same_use s w.gives.times w.inst w.inst a b use_a use_too same
 
   -- uses by two earlier invocations of one instance
-  two_earlier : (i j : Invocation) (a b : Use) → Contains with.invocations i → Contains with.invocations j → IsUseOf with i a → IsUseOf with j b → a.inst ≡ b.inst → a.event ≡ b.event
+  pub two_earlier : (i j : Invocation) (a b : Use) → Contains with.invocations i → Contains with.invocations j → IsUseOf with i a → IsUseOf with j b → a.inst ≡ b.inst → a.event ≡ b.event
       → AreAlike a b ⊎ (AreShared with a b ⊎ AreShared with b a)
   two_earlier i j a b has_i has_j use_a use_b inst event =
       let m = has_i.0 in
@@ -288,131 +266,6 @@ module _ (names : List Text) (comp : FilComp) (tables : Tables) (calls : List �
     gap_breaks gap cycle told ends =
         told.broken (ends_fit told.event (λ u earlier is_u known here e there named. ends u earlier is_u known e there named) told.first told.last told.delay told.span)
 
-  -- the span of all uses
-  pub span_end : (k n : ℕ) (span : Span) (u : Use) → length calls ≤ n → IsUseOf with v u → u.event ≡ k → IsSpanOf tables.events (Among with v calls k n) span → IsSpanOf tables.events (UsesEvent with v k) span
-  span_end k n span u all is_u here s =
-      let to_uses : (a : Use) → Among with v calls k n a → UsesEvent with v k a = λ a has. elim has [
-        | inl (is_a, there) ↦ Own is_a there
-        | inr e ↦
-            let found = call_at names comp tables calls sig at with v is e.place e.call e.numbered in
-            let same = same_Some found.0 e.invocation (sym found.1 ∙ e.there) in
-            let named : e.invocation.inst ≡ v.inst = ap (λ (w : Invocation). w.inst) (sym same) ∙ found.2 in
-            Another u is_u here
-            (record {
-              invocation = e.invocation;
-              is_earlier = (e.call, slice_get_within with.invocations e.call e.invocation e.there, get_or_from_slice_get with.invocations e.call e.invocation e.invocation e.there);
-              uses = e.triggered;
-              same_instance = e.triggered.2.named ∙ named ∙ sym (own u is_u).named;
-              same_event = e.event ∙ sym here;
-            })
-      ] in
-      let from_uses : (a : Use) → UsesEvent with v k a → Among with v calls k n a = λ a has. among k n all a has in
-      record {
-        first = s.first;
-        shows_first = s.shows_first;
-        has_first = to_uses s.first s.has_first;
-        least = λ a has. s.least a (from_uses a has);
-        last = s.last;
-        shows_last = s.shows_last;
-        has_last = to_uses s.last s.has_last;
-        greatest = λ a has. s.greatest a (from_uses a has);
-      }
-    where
-      among : (k n : ℕ) → length calls ≤ n → (a : Use) → UsesEvent with v k a → Among with v calls k n a
-      among k n all a (Own is_a there) = inl (is_a, there)
-      among k n all a (Another x is_x there earlier) =
-          let w = earlier.invocation in
-          let c = earlier.is_earlier in
-          let at_c : slice_get with.invocations c.0 ≡ Some w = slice_get-get_or with.invocations c.0 w c.1 ∙ ap Some c.2 in
-          let named : w.inst ≡ v.inst = sym earlier.uses.2.named ∙ earlier.same_instance ∙ (own x is_x).named in
-          let place = place_of names comp tables calls sig at with v is c.0 w at_c named in
-          let within = slice_get_within calls place.0 c.0 place.1 in
-          inr (record {
-            place = place.0;
-            below = omega arith;
-            call = c.0;
-            numbered = place.1;
-            invocation = w;
-            there = at_c;
-            triggered = earlier.uses;
-            event = earlier.same_event ∙ there;
-          })
-
-  -- and of those so far with one more invocation
-  module _ (k n call : ℕ) (w : Invocation) (here : slice_get calls n ≡ Some call) (there : slice_get with.invocations call ≡ Some w) (named : w.inst ≡ v.inst) (delay : Delay) (has : HasDelay sig k delay) where
-    more : (a : Use) → Among with v calls k n a → Among with v calls k (n + 1) a
-    more a among = elim among [
-      | inl own_use ↦ inl own_use
-      | inr e ↦
-          let below : e.place < n = e.below in
-          inr (record { place = e.place; below = omega arith; call = e.call; numbered = e.numbered; invocation = e.invocation; there = e.there; triggered = e.triggered; event = e.event })
-    ]
-
-    less : (a : Use) → Among with v calls k (n + 1) a → Among with v calls k n a ⊎ (IsUse sig v.inst w.gives.times a × (a.event ≡ k))
-    less a among = elim among [
-      | inl own_use ↦ inl (inl own_use)
-      | inr e ↦ elim (cases_lt e.place n) [
-        | inl below ↦ inl (inr (record { place = e.place; below = below; call = e.call; numbered = e.numbered; invocation = e.invocation; there = e.there; triggered = e.triggered; event = e.event }))
-        | inr after ↦
-            let below : e.place < n + 1 = e.below in
-            let same : e.place ≡ n = omega arith in
-            let same_call = same_Some e.call call (sym e.numbered ∙ ap (slice_get calls) same ∙ here) in
-            let same_invocation = same_Some e.invocation w (sym e.there ∙ ap (slice_get with.invocations) same_call ∙ there) in
-            inr (from_earlier names comp tables calls sig at with v is w named a (subst (λ (x : Invocation). IsUseOf with x a) same_invocation e.triggered), e.event)
-      ]
-    ]
-
-    pub span_more : (span new : Span) (other : Option numbers.Use) → ShowsUse tables.events delay w.gives.times k other → IfNone other (new ≡ span) → IfSome other (λ u. IsFirstOf span.first u new.first) → IfSome other (λ u. IsLastOf span.last u new.last)
-        → IsSpanOf tables.events (Among with v calls k n) span → IsSpanOf tables.events (Among with v calls k (n + 1)) new
-    span_more span new None told same first last s =
-        let fewer : (a : Use) → Among with v calls k (n + 1) a → Among with v calls k n a = λ a has_a. elim (less a has_a) [
-          | inl before ↦ before
-          | inr now ↦ absurd (no_use tables.events sig v.inst w.gives.times k delay has told a now.0 now.1)
-        ] in
-        subst (IsSpanOf tables.events (Among with v calls k (n + 1))) (sym same)
-        (record {
-          first = s.first;
-          shows_first = s.shows_first;
-          has_first = more s.first s.has_first;
-          least = λ a has_a. s.least a (fewer a has_a);
-          last = s.last;
-          shows_last = s.shows_last;
-          has_last = more s.last s.has_last;
-          greatest = λ a has_a. s.greatest a (fewer a has_a);
-        })
-    span_more span new (Some o) told same first last s =
-        let P = Among with v calls k (n + 1) in
-        let x = a_use tables.events sig v.inst w.gives.times k delay has o told in
-        let has_x : P x.0 = inr (record { place = n; below = omega arith; call = call; numbered = here; invocation = w; there = there; triggered = to_earlier names comp tables calls sig at with v is w named x.0 x.1; event = x.2 }) in
-        let f = chosen tables.events P span.first o new.first s.first x.0 first.0 s.shows_first x.3 (more s.first s.has_first) has_x in
-        let l = chosen tables.events P span.last o new.last s.last x.0 last.0 s.shows_last x.3 (more s.last s.has_last) has_x in
-        let plus_x : o.at.plus ≡ x.0.at.plus = x.3.plus in
-        let plus_first : span.first.at.plus ≡ s.first.at.plus = s.shows_first.plus in
-        let plus_last : span.last.at.plus ≡ s.last.at.plus = s.shows_last.plus in
-        let plus_f : new.first.at.plus ≡ f.0.at.plus = f.1.plus in
-        let plus_l : new.last.at.plus ≡ l.0.at.plus = l.1.plus in
-        let first_old : new.first.at.plus ≤ span.first.at.plus = first.1 in
-        let first_new : new.first.at.plus ≤ o.at.plus = first.2 in
-        let last_old : span.last.at.plus ≤ new.last.at.plus = last.1 in
-        let last_new : o.at.plus ≤ new.last.at.plus = last.2 in
-        let plus_now : (a : Use) → IsUse sig v.inst w.gives.times a × (a.event ≡ k) → x.0.at.plus ≡ a.at.plus = λ a now. ap (λ (t : TimeAt). t.plus) (same_use sig w.gives.times v.inst v.inst x.0 a x.1 now.0 (x.2 ∙ sym now.1)).0 in
-        record {
-          first = f.0;
-          shows_first = f.1;
-          has_first = f.2;
-          least = λ a has_a. elim (less a has_a) [
-            | inl before ↦ let old : s.first.at.plus ≤ a.at.plus = s.least a before in omega arith
-            | inr now ↦ let e : x.0.at.plus ≡ a.at.plus = plus_now a now in omega arith
-          ];
-          last = l.0;
-          shows_last = l.1;
-          has_last = l.2;
-          greatest = λ a has_a. elim (less a has_a) [
-            | inl before ↦ let old : a.at.plus ≤ s.last.at.plus = s.greatest a before in omega arith
-            | inr now ↦ let e : x.0.at.plus ≡ a.at.plus = plus_now a now in omega arith
-          ];
-        }
-
 -- the span's order and its last hold, with one more use
 pub order_more : (span new : Span) (other : Option numbers.Use) → IfNone other (new ≡ span) → IfSome other (λ u. IsFirstOf span.first u new.first) → IfSome other (λ u. IsLastOf span.last u new.last) → span.first.at.plus ≤ span.last.at.plus → new.first.at.plus ≤ new.last.at.plus
 order_more span new None same first last order = subst (λ (s : Span). s.first.at.plus ≤ s.last.at.plus) (sym same) order
@@ -426,3 +279,7 @@ small_more span new (Some o) most same last small kept = elim last.0 [
   | inl e ↦ subst (λ (u : numbers.Use). u.hold ≤ most) (sym e) kept
   | inr e ↦ subst (λ (u : numbers.Use). u.hold ≤ most) (sym e) small
 ]
+
+pub most_held : (o : Option numbers.Use) → IfSome o (λ u. u.hold < 2 ^ 16) → IfSome o (λ u. u.hold ≤ MOST_HOLD)
+most_held None small = tt
+most_held (Some o) small = omega arith

@@ -3,6 +3,7 @@ pub mod Callees
 pub mod First
 pub mod Given
 pub mod Invocation
+pub mod Keys
 pub mod Least
 pub mod Names
 pub mod Needed
@@ -14,6 +15,7 @@ pub mod Readings
 pub mod Shared
 pub mod Sharing
 pub mod Stages
+pub mod Starts
 pub mod Tables
 pub mod Times
 pub mod Uses

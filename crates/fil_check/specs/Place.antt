@@ -7,6 +7,7 @@ use Rattle.fil_ast.specs.Sharing.{IsUseOf, AreDisjoint, IsWithin}
 use Rattle.fil_ast.specs.Timeline.{Use}
 use Rattle.fil_ast.specs.Tree.{Event, Statement}
 use Rattle.fil_ast.specs.declared.tree.FilComp.{FilComp}
+use Rattle.fil_check.specs.Starts.{ListsAllUses}
 use Rattle.fil_check.specs.Tables.{IsPlace}
 use Rattle.fil_check.specs.declared.tables.Earlier.{Earlier}
 use Rattle.fil_check.specs.declared.tables.Tables.{Tables}
@@ -33,6 +34,7 @@ pub record StandsAt (names : List Text) (earlier : Earlier) (comp : FilComp) (ta
   pub connected : tables.connected ≡ flat_map connected_at before
   pub held : AreHeld scope
   pub shared : SharesWell scope
+  pub listed : ListsAllUses tables scope
 
 -- the scope with the instance that a statement makes
 abbrev pub with_instance : Scope → Statement → Scope

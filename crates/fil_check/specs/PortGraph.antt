@@ -20,6 +20,10 @@ pub record Adds (P : Text → Text → Type 0) (old new : PortGraph) : Type 0 wh
 abbrev pub IsPair : Text → Text → Text → Text → Type 0
 IsPair port other p o = (port ≡ p) × (other ≡ o)
 
+-- no pair
+abbrev pub NoPair : Text → Text → Type 0
+NoPair port other = ⊥
+
 -- the pairs of the first n of some things
 abbrev pub Below : (ℕ → Text → Text → Type 0) → ℕ → Text → Text → Type 0
 Below P n port other = (k : ℕ) × (k < n) × P k port other

@@ -1,5 +1,5 @@
 -- Which ports read which within a row by each statement of a component. This project's.
-use Rattle.std.specs.Prelude.{◌≡◌, ◌⊎◌, ℕ, List, slice_get, Option, Some, None, option_map, Vec, Contains}
+use Rattle.std.specs.Prelude.{◌≡◌, ◌⊎◌, ℕ, List, map, slice_get, Option, Some, None, option_map, Vec, Contains}
 use Rattle.std.specs.declared.alloc.Global.{Global}
 use Rattle.hw_names.specs.Name.{Text, dotted}
 use Rattle.fil_ast.specs.Scope.{Scope, Instance, Invocation, instance_signature, invocation_named}
@@ -26,6 +26,14 @@ pub record ReadsArgument (scope : Scope) (inst : Text) (sig : Signature) (args :
 abbrev pub ReadsGiven : Scope → Text → List ValueTree → Text → Text → Type 0
 ReadsGiven scope inst args port other =
     (sig : Signature) × (instance_signature scope inst ≡ Some sig) × (k : ℕ) × ReadsArgument scope inst sig args k port other
+
+-- the full name of a port of an instance
+abbrev pub full_name_of : Text → SigPort → Option Text
+full_name_of inst port = Some (dotted inst port.name)
+
+-- these are the numbers of an instance's ports among the names of all ports
+abbrev pub ArePorts : Text → List Text → List ℕ → List SigPort → Type 0
+ArePorts inst names numbers ports = map (slice_get names) numbers ≡ map (full_name_of inst) ports
 
 -- an output of the instance reads an input on which it depends
 pub record ReadsWithin (through : Text → Text → Text → Type 0) (i : Instance) (sig : Signature) (port other : Text) : Type 0 where

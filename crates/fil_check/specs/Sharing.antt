@@ -48,6 +48,10 @@ abbrev pub AreApartAt : Signature → Text → List TimeAt → List TimeAt → �
 AreApartAt sig inst times others k =
     (u w : Use) → IsUse sig inst times u → IsUse sig inst others w → u.event ≡ k → w.event ≡ k → AreApart w u
 
+-- F11 at event k of the invocation's instance
+abbrev pub KeepsApartAt : Scope → Invocation → ℕ → Type 0
+KeepsApartAt with v k = (u earlier : Use) → IsUseOf with v u → IsEarlierUse with u earlier → u.event ≡ k → AreApart earlier u
+
 -- it is broken, and this is the later of the two times
 pub record MeetAt (sig : Signature) (inst : Text) (times others : List TimeAt) (k cycle : ℕ) : Type 0 where
   pub own : Use

@@ -49,6 +49,10 @@ calls_of invocations i = calls_from 0 i.name invocations
 abbrev pub listed : Vec ℕ Global → List ℕ
 listed numbers = numbers.items
 
+-- the numbers of the invocations so far of the instance with this number
+abbrev pub calls_at : Tables → ℕ → List ℕ
+calls_at tables instance = slice_index_or (map listed tables.calls.items) instance []
+
 -- what names mean in a scope
 pub record Shows (earlier : Earlier) (tables : Tables) (scope : Scope) : Type 0 where
   pub components : ShowsEarlier earlier scope.comps

@@ -13,6 +13,7 @@ ghost use Rattle.fil_check.specs.Tables.{IsPlace, ShowsEarlier};
 use crate::connected::connects_all;
 use crate::rules::{CompEnd, ItemEnd, breaks};
 use crate::signature::judge_signature;
+use crate::starts::Starts;
 use crate::statement::judge_statement;
 use crate::tables::{Earlier, Tables};
 use fil_ast::FilComp;
@@ -49,6 +50,7 @@ pub fn judge_component(
         invoked: Vec::new(alloc),
         times: Vec::new(alloc),
         calls: Vec::new(alloc),
+        starts: Starts::new(alloc),
         connected: Names::new(alloc),
     };
     judge_body(alloc, names, earlier, comp, &mut tables)?;

@@ -1,19 +1,27 @@
 //! What a statement that keeps F1 to F4 puts into the tables.
-ghost use Rattle.std.specs.Prelude.{◌≡◌, ◌∷◌, ◌++◌, [], List, Contains, OnOk, flat_map, map, slice_index_or, slice_set};
+ghost use Rattle.std.specs.Prelude.{◌≡◌, ◌∷◌, ◌++◌, [], List, Some, Contains, OnOk, flat_map, map, option_and_then, option_map, slice_get, slice_index_or, slice_set};
+ghost use Rattle.hw_names.specs.Name.{Text};
 ghost use Rattle.fil_ast.specs.Connections.{ConnectsOnce, connected_at};
 ghost use Rattle.fil_ast.specs.Naming.{MakesNewNames, UsesKnownNames};
 ghost use Rattle.fil_ast.specs.Numbers.{StatementHasNumbers};
 ghost use Rattle.fil_ast.specs.Scope.{Scope};
-ghost use Rattle.fil_ast.specs.Tree.{Statement, statement_tree};
+ghost use Rattle.fil_ast.specs.Tree.{Statement, TimeAt, statement_tree};
 ghost use Rattle.fil_ast.specs.Typing.{KeepsWidths};
 ghost use Rattle.fil_ast.specs.declared.tree.FilComp.{FilComp};
-ghost use Rattle.fil_check.specs.Tables.{AddsInstance, AddsInvocation, AreTimesOf, IsMadeAt, IsPlace, Shows, grown, listed};
-ghost use Rattle.fil_check.specs.declared.tables.Earlier.{Earlier};
+ghost use Rattle.fil_sig.specs.Seen.{seen};
+ghost use Rattle.fil_check.specs.Callees.{HasGoodTimes};
+ghost use Rattle.fil_check.specs.Starts.{AddsUses, ListsAllUses};
+ghost use Rattle.fil_check.specs.Tables.{AddsInstance, AddsInvocation, AreTimesOf, IsMadeAt, IsPlace, Shows, grown, listed, made_signature};
+ghost use Rattle.fil_check.specs.Times.{AreTimes};
 
-use crate::tables::{Made, Tables};
+use crate::callee::Callee;
+use crate::meaning::callee_made;
+use crate::starts::Starts;
+use crate::tables::{Earlier, Made, Tables};
 use crate::times::Offset;
+use crate::uses::use_of;
 use fil_ast::Stmt;
-use fil_sig::add_name;
+use fil_sig::{TimeSig, add_name};
 use hw_bits::Memory;
 use hw_names::Names;
 use std::alloc::Global;
@@ -21,6 +29,7 @@ use std::alloc::Global;
 /// Puts an instance of a new name last.
 fn add_instance(alloc: Global, tables: &mut Tables, name: &[u8], made: Made) -> Result<(), Memory>
     ensures added { OnOk result (¬ Contains tables.old.instances name.now → AddsInstance tables.old tables.new name.now made) }
+    ensures starts { OnOk result (tables.new.starts ≡ tables.old.starts) }
     ensures connected { OnOk result (tables.new.connected ≡ tables.old.connected) }
 {
     let _new = add_name(&mut tables.instances, name)?;
@@ -40,18 +49,65 @@ fn add_call(calls: &mut Vec<Vec<usize>>, instance: usize, number: usize) -> Resu
     Ok(())
 }
 
+/// Adds the uses by an invocation at these times of the instance with this number and this signature.
+fn add_uses(
+    starts: &mut Starts,
+    instance: usize,
+    sig: &TimeSig,
+    at: &[Offset],
+) -> Result<(), Memory>
+    requires times { HasGoodTimes (seen sig.now) }
+    ensures { (events : List Text) (inst : Text) (times : List TimeAt) → AreTimes events at.now times
+        → OnOk result (AddsUses events (Some (seen sig.now)) inst times instance starts.old starts.new) }
+{
+    for (number, event) in sig.events.iter().enumerate() {
+        if let Some(held) = use_of(at, number, event.delay) {
+            starts.add(instance, number, held)?;
+        }
+    }
+    Ok(())
+}
+
+/// The same where it may have no signature.
+fn add_callee_uses(
+    starts: &mut Starts,
+    instance: usize,
+    callee: Option<&Callee>,
+    at: &[Offset],
+) -> Result<(), Memory>
+    ensures { (events : List Text) (inst : Text) (times : List TimeAt) → AreTimes events at.now times
+        → OnOk result (AddsUses events (option_map (λ callee. callee.now) callee.entry) inst times instance starts.old starts.new) }
+{
+    match callee {
+        Some(callee) => add_uses(starts, instance, callee.sig(), at),
+        None => Ok(()),
+    }
+}
+
+/// The signature of the instance with this number, where these are what the instances are made of.
+fn callee_in<'a>(earlier: &'a Earlier, made: &'a [Made], instance: usize) -> Option<&'a Callee>
+    ensures { option_map (λ callee. callee.now) result ≡ option_and_then (made_signature earlier.now) (slice_get made.now instance) }
+{
+    callee_made(earlier, made.get(instance)?)
+}
+
 /// Puts an invocation of a new name last, with the times that it gives.
 fn add_invocation(
+    earlier: &Earlier,
     tables: &mut Tables,
     name: &[u8],
     instance: usize,
     at: Vec<Offset>,
 ) -> Result<(), Memory>
     ensures added { OnOk result (¬ Contains tables.old.ports name.now → AddsInvocation tables.old tables.new name.now instance at) }
+    ensures uses { (events : List Text) (inst : Text) (times : List TimeAt) → AreTimes events at.items times
+        → OnOk result (AddsUses events (option_and_then (made_signature earlier.now) (slice_get tables.old.made.items instance)) inst times instance tables.old.starts tables.new.starts) }
     ensures connected { OnOk result (tables.new.connected ≡ tables.old.connected) }
 {
     let _new = add_name(&mut tables.ports, name)?;
     add_call(&mut tables.calls, instance, tables.invoked.len())?;
+    let callee = callee_in(earlier, &tables.made, instance);
+    add_callee_uses(&mut tables.starts, instance, callee, &at)?;
     tables.invoked.push(instance)?;
     tables.times.push(at)?;
     Ok(())
@@ -70,17 +126,23 @@ fn add_connected(connected: &mut Names, name: &[u8]) -> Result<(), Memory>
 pub fn grow(
     alloc: Global,
     names: &Names,
+    earlier: &Earlier,
     tables: &mut Tables,
     made: Option<Made>,
     at: Vec<Offset>,
     stmt: &Stmt,
 ) -> Result<(), Memory>
     requires { StatementHasNumbers names.now stmt.now }
-    ensures shown { (earlier : Earlier) (comp : FilComp) (scope : Scope) → IsPlace names.now earlier comp tables.old scope
+    ensures shown { (comp : FilComp) (scope : Scope) → IsPlace names.now earlier.now comp tables.old scope
         → MakesNewNames scope (statement_tree names.now stmt.now) → UsesKnownNames scope (statement_tree names.now stmt.now)
-        → KeepsWidths scope (statement_tree names.now stmt.now) → IsMadeAt earlier scope.comps made (statement_tree names.now stmt.now)
+        → KeepsWidths scope (statement_tree names.now stmt.now) → IsMadeAt earlier.now scope.comps made (statement_tree names.now stmt.now)
         → AreTimesOf tables.old.events at.items (statement_tree names.now stmt.now)
-        → OnOk result (Shows earlier tables.new (grown scope (statement_tree names.now stmt.now))) }
+        → OnOk result (Shows earlier.now tables.new (grown scope (statement_tree names.now stmt.now))) }
+    ensures listed { (comp : FilComp) (scope : Scope) → IsPlace names.now earlier.now comp tables.old scope
+        → MakesNewNames scope (statement_tree names.now stmt.now) → UsesKnownNames scope (statement_tree names.now stmt.now)
+        → KeepsWidths scope (statement_tree names.now stmt.now) → IsMadeAt earlier.now scope.comps made (statement_tree names.now stmt.now)
+        → AreTimesOf tables.old.events at.items (statement_tree names.now stmt.now) → ListsAllUses tables.old scope
+        → OnOk result (ListsAllUses tables.new (grown scope (statement_tree names.now stmt.now))) }
     ensures connected { (scope : Scope) (before : List Statement) → tables.old.connected ≡ flat_map connected_at before
         → ConnectsOnce scope before (statement_tree names.now stmt.now)
         → OnOk result (tables.new.connected ≡ flat_map connected_at (before ++ statement_tree names.now stmt.now ∷ [])) }
@@ -91,14 +153,16 @@ pub fn grow(
             None => Ok(()),
         },
         Stmt::Call { name, inst, .. } => match tables.instances.find(names.text(*inst)) {
-            Some(instance) => { add_invocation(tables, names.text(*name), instance.0 as usize, at) }
+            Some(instance) => {
+                add_invocation(earlier, tables, names.text(*name), instance.0 as usize, at)
+            }
             None => Ok(()),
         },
         Stmt::Both { name, .. } => match made {
             Some(made) => {
                 let instance = tables.instances.len();
                 add_instance(alloc, tables, names.text(*name), made)?;
-                add_invocation(tables, names.text(*name), instance, at)
+                add_invocation(earlier, tables, names.text(*name), instance, at)
             }
             None => Ok(()),
         },

@@ -1,4 +1,30 @@
-//! The rules of Filament designs, and the first that is broken.
+//! The rules F1 to F14 of Filament designs, the first that is broken, and what a design weighs.
+//!
+//! In goes a design, the tree of `fil_ast` with names by their numbers. Out of [`check_fil`] comes either the same design
+//! as one that keeps all rules (`FilOk`), or the first rule that is broken, with its evidence (`FilEnd::Refused`):
+//! components in text order, in each the items in order (0 is the signature, then the statements from 1 on, then the end
+//! of the body), at each item the least rule; F14 after all others. Out of [`fil_weight`] comes what a component weighs.
+//!
+//! So of this design the third statement is refused, by F11 at cycle 0, since both invocations hold `X` in that row:
+//!
+//! ```text
+//! comp Twice<G: 2>(@interface[G] go: 1, @[G, G+2] a: 8) -> () {
+//!   X := new Not[8];
+//!   x := X<G>(a);
+//!   y := X<G>(a);
+//! }
+//! ```
+//!
+//! With `y := X<G+1>(a);` in the place of the last invocation it is accepted.
+//!
+//! The layer above uses three clauses of `check_fil`: `kept` (what is accepted keeps `FilRules`), `design` (it is the
+//! design that was given) and `refused` (`TellsFirst`: what is told is the first broken rule, with what it shows).
+//!
+//! The modules by the rules that they judge: names F1 and F2 (`names`, `signature`, `made`, `statement`); widths and
+//! numbers F3 to F5 (`literal`, `given`, `statement`, `signature`); times F6 to F8 and F10 (`short`, `times`, `offsets`,
+//! `uses`, `available`, `reads`, `invocation`, `timing`); connections F9 (`connected`); sharing F11 to F13 (`starts`,
+//! `apart`, `span`, `marked`, `sharing`); loops F14 (`port_graph`, `readings`, `depends`, `wires`, `wired`). `tables` has
+//! what names mean at a place, `meaning` looks it up, and `grow` takes it from statement to statement.
 #![tactic(auto)]
 
 mod apart;
@@ -26,6 +52,7 @@ mod sharing;
 mod short;
 mod signature;
 mod span;
+mod starts;
 mod statement;
 mod tables;
 mod times;

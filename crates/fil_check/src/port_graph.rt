@@ -18,8 +18,9 @@ pub struct PortGraph {
 }
 
 impl PortGraph {
-    ghost use Rattle.std.specs.Prelude.{OnOk};
-    ghost use Rattle.fil_check.specs.PortGraph.{Adds, IsPair};
+    ghost use Rattle.std.specs.Prelude.{List, OnOk};
+    ghost use Rattle.hw_names.specs.Name.{Text};
+    ghost use Rattle.fil_check.specs.PortGraph.{Adds, IsPair, NoPair};
 
     /// Adds that the port reads the other.
     pub fn add(&mut self, port: &[u8], other: &[u8]) -> Result<(), Memory>
@@ -27,6 +28,26 @@ impl PortGraph {
     {
         let key = number(&mut self.names, port)?;
         let value = number(&mut self.names, other)?;
+        self.entries.push(Entry { key, value })?;
+        Ok(())
+    }
+
+    /// The number of the port of this full name; a new one goes last.
+    pub fn port(&mut self, full: &[u8]) -> Result<usize, Memory>
+        ensures number { IfOk result (λ n. slice_get self.new.names n ≡ Some full.now) }
+        ensures same { Adds NoPair self.old self.new }
+    {
+        number(&mut self.names, full)
+    }
+
+    /// Adds that the port with this number reads the other.
+    pub fn add_numbers(&mut self, key: usize, value: usize) -> Result<(), Memory>
+        requires key { key < length self.old.names }
+        requires value { value < length self.old.names }
+        ensures names { self.new.names ≡ self.old.names }
+        ensures pair { (port other : Text) → slice_get self.old.names key ≡ Some port → slice_get self.old.names value ≡ Some other
+            → OnOk result (Adds (IsPair port other) self.old self.new) }
+    {
         self.entries.push(Entry { key, value })?;
         Ok(())
     }

@@ -1,6 +1,8 @@
 //! Which ports of a component read which within a row.
-ghost use Rattle.std.specs.Prelude.{◌≡◌, ◌<◌, List, Some, All, Contains, length, map, option_map, IfOk, OnOk};
-ghost use Rattle.hw_names.specs.Name.{Text};
+ghost use Rattle.std.specs.Prelude.{◌≡◌, ◌<◌, ℕ, List, [], Some, Vec, All, Contains, IsTrue, length, map, option_map, slice_get, IfOk, OnOk};
+ghost use Rattle.std.specs.declared.alloc.Global.{Global};
+ghost use Rattle.hw_names.specs.Name.{Text, dotted};
+ghost use Rattle.fil_ast.specs.Signature as tree;
 ghost use Rattle.fil_ast.specs.Numbers.{ComponentHasNumbers, StatementHasNumbers, ValueHasNumbers};
 ghost use Rattle.fil_ast.specs.Primitives.{filament_primitive, table_name};
 ghost use Rattle.fil_ast.specs.Rules.{KeepsRules, all_rules};
@@ -11,8 +13,8 @@ ghost use Rattle.fil_sig.specs.Seen.{seen, seen_port};
 ghost use Rattle.hw_prims.specs.Meaning.{is_through};
 ghost use Rattle.hw_prims.specs.Table.{inputs_of, name_at, outputs_of};
 ghost use Rattle.hw_prims.specs.declared.prim.Primitive.{Primitive};
-ghost use Rattle.fil_check.specs.PortGraph.{Adds, Below};
-ghost use Rattle.fil_check.specs.Readings.{port_of_value, ReadsAll, ReadsArgument, ReadsAt, ReadsBy, ReadsEach, ReadsGiven, ReadsMade, ReadsNumbered, ReadsValue, ReadsWired};
+ghost use Rattle.fil_check.specs.PortGraph.{Adds, Below, NoPair};
+ghost use Rattle.fil_check.specs.Readings.{ArePorts, port_of_value, ReadsAll, ReadsArgument, ReadsAt, ReadsBy, ReadsEach, ReadsGiven, ReadsMade, ReadsNumbered, ReadsValue, ReadsWired};
 ghost use Rattle.fil_check.specs.Tables.{IsPlace};
 ghost use Rattle.fil_check.specs.Wiring.{ShowsWires};
 ghost use Rattle.fil_ast.specs.declared.tree.FilComp.{FilComp};
@@ -289,7 +291,38 @@ fn add_each(
     Ok(())
 }
 
-/// Adds that each output of an instance reads the inputs on which it depends.
+/// Whether no output of a component depends on any input.
+fn reads_nothing(wires: &Wires) -> bool
+    ensures { IsTrue result → (o : ℕ) (numbers : Vec ℕ Global) → slice_get wires.now.inputs.items o ≡ Some numbers → numbers.items ≡ [] }
+{
+    for numbers in &wires.inputs {
+        if !numbers.is_empty() {
+            return false;
+        }
+    }
+    true
+}
+
+/// The numbers of an instance's inputs among the ports.
+fn input_ports(
+    alloc: Global,
+    graph: &mut PortGraph,
+    inst: &[u8],
+    ins: &[SigPort],
+) -> Result<Vec<usize>, Memory>
+    ensures ports { IfOk result (λ ports. ArePorts inst.now graph.new.names ports.items (map seen_port ins.now)) }
+    ensures same { OnOk result (Adds NoPair graph.old graph.new) }
+{
+    let mut ports = Vec::new(alloc);
+    for input in ins {
+        let full = full_name(alloc, inst, input.name.bytes())?;
+        let port = graph.port(full.as_slice())?;
+        ports.push(port)?;
+    }
+    Ok(ports)
+}
+
+/// Adds that each output of an instance reads the inputs on which it depends. The name of each port is made once.
 fn add_wired(
     alloc: Global,
     graph: &mut PortGraph,
@@ -299,30 +332,34 @@ fn add_wired(
 ) -> Result<(), Memory>
     ensures { OnOk result (Adds (Below (ReadsWired inst.now (seen sig.now) wires.now.inputs.items) (length sig.now.outs.items)) graph.old graph.new) }
 {
+    if reads_nothing(wires) {
+        return Ok(());
+    }
+    let ports = input_ports(alloc, graph, inst, &sig.ins)?;
     for (number, output) in sig.outs.iter().enumerate() {
         if let Some(numbers) = wires.inputs.get(number) {
-            add_inputs(alloc, graph, inst, output.name.bytes(), &sig.ins, numbers)?;
+            let port = full_name(alloc, inst, output.name.bytes())?;
+            add_inputs(graph, port.as_slice(), &ports, numbers)?;
         }
     }
     Ok(())
 }
 
-/// Adds that an output of an instance reads the inputs of these numbers.
+/// Adds that the port of this full name reads those at these numbers of some ports.
 fn add_inputs(
-    alloc: Global,
     graph: &mut PortGraph,
-    inst: &[u8],
-    output: &[u8],
-    ins: &[SigPort],
+    full: &[u8],
+    ports: &[usize],
     numbers: &[usize],
 ) -> Result<(), Memory>
-    ensures { OnOk result (Adds (Below (ReadsNumbered inst.now output.now (map seen_port ins.now) numbers.now) (length numbers.now)) graph.old graph.new) }
+    requires { All (λ port. port < length graph.old.names) ports.now }
+    ensures { (inst output : Text) (ins : List tree.SigPort) → full.now ≡ dotted inst output → ArePorts inst graph.old.names ports.now ins
+        → OnOk result (Adds (Below (ReadsNumbered inst output ins numbers.now) (length numbers.now)) graph.old graph.new) }
 {
-    let port = full_name(alloc, inst, output)?;
+    let key = graph.port(full)?;
     for number in numbers {
-        if let Some(input) = ins.get(*number) {
-            let other = full_name(alloc, inst, input.name.bytes())?;
-            graph.add(port.as_slice(), other.as_slice())?;
+        if let Some(port) = ports.get(*number) {
+            graph.add_numbers(key, *port)?;
         }
     }
     Ok(())

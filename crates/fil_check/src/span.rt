@@ -1,5 +1,5 @@
 //! The rule F12: one transaction's uses of an event of an instance end within the delay.
-ghost use Rattle.std.specs.Prelude.{◌≡◌, ◌≤◌, ℕ, ◌<◌, List, All, IfNone, IfSome, MatchOption, length};
+ghost use Rattle.std.specs.Prelude.{◌≡◌, ◌≤◌, List, IfNone, IfSome, MatchOption};
 ghost use Rattle.hw_names.specs.Name.{Text};
 ghost use Rattle.fil_ast.specs.Evidence.{IsGap, UsesEvent};
 ghost use Rattle.fil_ast.specs.Scope.{Scope, Invocation};
@@ -11,9 +11,11 @@ ghost use Rattle.fil_sig.specs.Seen.{seen, seen_delay};
 ghost use Rattle.fil_check.specs.Callees.{HasGoodTimes, IsGoodDelay};
 ghost use Rattle.fil_check.specs.Shared.{IsInvoked};
 ghost use Rattle.fil_check.specs.Sharing.{EndsAt, GapAt, HasDelay, IsFirstOf, IsLastOf, IsShownBy, IsSpanOf, MOST_HOLD, SpanFits, SpanMeets};
+ghost use Rattle.fil_check.specs.Starts.{ListsUses};
+ghost use Rattle.fil_check.specs.Tables.{calls_at};
 ghost use Rattle.fil_check.specs.declared.uses.Use.{Use};
 
-use crate::apart::{end_of, times_given};
+use crate::apart::end_of;
 use crate::tables::Tables;
 use crate::times::Offset;
 use crate::uses::{Use, use_of};
@@ -65,26 +67,24 @@ fn widened(span: Span, other: Option<Use>) -> Span
     }
 }
 
-/// The span of a use of the callee's event with this number and delay, and of the uses by the earlier invocations.
-fn span_of(tables: &Tables, calls: &[usize], own: Use, number: usize, delay: Delay) -> Span
-    requires calls { All (λ (k : ℕ). k < length tables.now.times.items) calls.now }
-    requires good { IsGoodDelay (seen_delay delay) }
+/// The span of a use of the event with this number of the instance with this number, and of the uses of it so far.
+fn span_of(tables: &Tables, instance: usize, own: Use, number: usize) -> Span
     requires small { own.hold ≤ MOST_HOLD }
     ensures spans { (names : List Text) (comp : FilComp) (sig : Signature) (at : List Offset) (with : Scope) (v : Invocation) (u : timeline.Use)
-        → IsInvoked names comp tables.now calls.now sig at with v → HasDelay sig number (seen_delay delay)
+        → IsInvoked names comp tables.now (calls_at tables.now instance) sig at with v → ListsUses tables.now instance with v.inst
         → IsUseOf with v u → u.event ≡ number → IsShownBy tables.now.events own u
         → IsSpanOf tables.now.events (UsesEvent with v number) result }
     ensures order { result.first.at.plus ≤ result.last.at.plus }
     ensures small { result.last.hold ≤ MOST_HOLD }
 {
-    let mut span = Span {
+    let span = Span {
         first: own,
         last: own,
     };
-    for call in calls {
-        span = widened(span, use_of(times_given(tables, *call), number, delay));
-    }
-    span
+    let earliest = tables.starts.first_from(instance, number, 0);
+    let latest = tables.starts.last_until(instance, number, u16::MAX);
+    let longer = widened(span, earliest);
+    widened(longer, latest)
 }
 
 /// How far apart two transactions start that both hold the instance, and where, if a transaction's uses end later
@@ -107,40 +107,38 @@ fn overrun(span: Span, delay: u128) -> Option<Meet>
 fn gap_at(
     comp: &FilComp,
     tables: &Tables,
-    calls: &[usize],
+    instance: usize,
     at: &[Offset],
     number: usize,
     delay: Delay,
 ) -> Option<Meet>
-    requires calls { All (λ (k : ℕ). k < length tables.now.times.items) calls.now }
     requires good { IsGoodDelay (seen_delay delay) }
     ensures { (names : List Text) (sig : Signature) (with : Scope) (v : Invocation)
-        → IsInvoked names comp.now tables.now calls.now sig at.now with v → HasGoodTimes sig → HasDelay sig number (seen_delay delay) → KeepsApart with v
+        → IsInvoked names comp.now tables.now (calls_at tables.now instance) sig at.now with v → ListsUses tables.now instance with v.inst → HasGoodTimes sig → HasDelay sig number (seen_delay delay) → KeepsApart with v
         → MatchOption result (EndsAt with v number) (GapAt with v number) }
 {
     let own = use_of(at, number, delay)?;
-    let span = span_of(tables, calls, own, number, delay);
+    let span = span_of(tables, instance, own, number);
     let event = comp.events.get(span.first.at.event)?;
     overrun(span, event.delay)
 }
 
-/// F12 of an invocation at these times, after the earlier ones of its instance with these numbers: the evidence for
+/// F12 of an invocation at these times, of the instance with this number: the evidence for
 /// the first event of the callee that breaks it.
 pub fn first_gap(
     comp: &FilComp,
     tables: &Tables,
-    calls: &[usize],
+    instance: usize,
     sig: &TimeSig,
     at: &[Offset],
 ) -> Option<Meet>
-    requires calls { All (λ (k : ℕ). k < length tables.now.times.items) calls.now }
     requires times { HasGoodTimes (seen sig.now) }
     ensures { (names : List Text) (with : Scope) (v : Invocation)
-        → IsInvoked names comp.now tables.now calls.now (seen sig.now) at.now with v → KeepsApart with v
+        → IsInvoked names comp.now tables.now (calls_at tables.now instance) (seen sig.now) at.now with v → ListsUses tables.now instance with v.inst → KeepsApart with v
         → MatchOption result (EndsInTime with v) (λ meet. IsGap with v meet.gap meet.cycle) }
 {
     for (number, event) in sig.events.iter().enumerate() {
-        if let Some(meet) = gap_at(comp, tables, calls, at, number, event.delay) {
+        if let Some(meet) = gap_at(comp, tables, instance, at, number, event.delay) {
             return Some(meet);
         }
     }

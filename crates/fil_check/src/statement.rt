@@ -253,44 +253,6 @@ fn judge_meaning(
     Ok(())
 }
 
-/// The numbers of the invocations so far of the instance of this name.
-fn calls_of<'a>(tables: &'a Tables, name: &[u8]) -> &'a [usize]
-    ensures { (earlier : Earlier) (scope : Scope) → Shows earlier tables.now scope → result.now ≡ calls_from 0 name.now scope.invocations }
-{
-    match tables.instances.find(name) {
-        Some(instance) => match tables.calls.get(instance.0 as usize) {
-            Some(calls) => calls,
-            None => &[],
-        },
-        None => &[],
-    }
-}
-
-/// Whether each number is below the end.
-fn are_below(numbers: &[usize], end: usize) -> bool
-    ensures { IsTrue result ↔ All (λ (k : ℕ). k < end) numbers.now }
-{
-    for number in numbers {
-        if *number >= end {
-            return false;
-        }
-    }
-    true
-}
-
-/// The numbers of the invocations so far of the instance of this name. Each is tested, so that it finds its times.
-fn tested_calls<'a>(tables: &'a Tables, name: &[u8]) -> &'a [usize]
-    ensures calls { (earlier : Earlier) (scope : Scope) → Shows earlier tables.now scope → result.now ≡ calls_from 0 name.now scope.invocations }
-    ensures within { All (λ (k : ℕ). k < length tables.now.times.items) result.now }
-{
-    let calls = calls_of(tables, name);
-    if are_below(calls, tables.times.len()) {
-        calls
-    } else {
-        &[]
-    }
-}
-
 /// Judges a statement that keeps F1 to F10 by F11 to F13; `callee` is what it makes or invokes, at these times.
 fn judge_use(
     names: &Names,
@@ -317,11 +279,14 @@ fn judge_use(
         return Ok(());
     };
     match stmt {
-        Stmt::Call { inst, .. } => {
-            let calls = tested_calls(tables, names.text(*inst));
-            judge_sharing(names, comp, tables, calls, callee, at)
+        Stmt::Call { inst, .. } => match tables.instances.find(names.text(*inst)) {
+            Some(instance) => judge_sharing(names, comp, tables, instance.0 as usize, callee, at),
+            None => Ok(()),
+        },
+        Stmt::Both { .. } => {
+            let instance = tables.instances.len();
+            judge_sharing(names, comp, tables, instance, callee, at)
         }
-        Stmt::Both { .. } => judge_sharing(names, comp, tables, &[], callee, at),
         Stmt::New { .. } => Ok(()),
         Stmt::Set { .. } => Ok(()),
     }
@@ -384,6 +349,6 @@ pub fn judge_statement(
 {
     let made = made_at(alloc, names, earlier, stmt)?;
     let at = judge_rules(alloc, names, earlier, comp, tables, &made, stmt)?;
-    grow(alloc, names, tables, made, at, stmt)?;
+    grow(alloc, names, earlier, tables, made, at, stmt)?;
     Ok(())
 }

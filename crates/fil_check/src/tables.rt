@@ -1,5 +1,6 @@
 //! What names mean at a place of a component's body, in tables that are looked up by name.
 use crate::callee::Callee;
+use crate::starts::Starts;
 use crate::times::Offset;
 use hw_names::Names;
 
@@ -38,6 +39,8 @@ pub struct Tables {
     pub times: Vec<Vec<Offset>>,
     /// The numbers of each instance's invocations, counted from 0.
     pub calls: Vec<Vec<usize>>,
+    /// The uses by the invocations so far.
+    pub starts: Starts,
     /// The names of the outputs that are connected so far.
     pub connected: Names,
 }

@@ -7,31 +7,32 @@ use Rattle.fil_ast.specs.declared.tree.EventDef.{EventDef}
 use Rattle.fil_sig.specs.Seen.{seen_delay, seen_event}
 use Rattle.fil_sig.proofs.ListLemmas.{told_true}
 use Rattle.fil_check.specs.Sharing.{HasDelay, IsMarkedAt}
+use Rattle.fil_check.specs.Tables.{calls_at}
 use Rattle.fil_check.proofs.GivenLemmas.{clash}
 use Rattle.fil_check.proofs.MarkedLemmas.{marked_by, marked_free, on_some, port_of}
 use Rattle.fil_check.proofs.TimeLemmas.{got_none, got_some}
 use Rattle.fil_check.proofs.marked.is_marked.Goals as goal
 
 pub returns-then-not-needs_interface : goal.returns-then-not-needs_interface
-returns-then-not-needs_interface c sig with v is at_event =
+returns-then-not-needs_interface c sig with v is lists at_event =
     let names = c.args.names.now in
     let comp = c.args.comp.now in
     let tables = c.args.tables.now in
-    let calls = c.args.calls.now in
+    let calls = calls_at c.args.tables.now c.args.instance in
     let at = c.args.at.now in
     let k = c.args.number in
     let delay = seen_delay c.args.event.now.delay in
     let has : HasDelay sig k delay = (seen_event c.args.event.now, at_event, refl) in
     told_true (IsMarkedAt with v k)
     (marked_free names comp tables calls sig at with v is k delay has
-    (λ why. clash c.needs_interface.result ((c.needs_interface.ensures names comp sig at with v is has).1 why) c.if-not-needs_interface.true))
+    (λ why. clash c.needs_interface.result ((c.needs_interface.ensures with v lists).1 why) c.if-not-needs_interface.true))
 
 pub returns-in-Some-get : goal.returns-in-Some-get
-returns-in-Some-get c sig with v is at_event =
+returns-in-Some-get c sig with v is lists at_event =
     let names = c.args.names.now in
     let comp = c.args.comp.now in
     let tables = c.args.tables.now in
-    let calls = c.args.calls.now in
+    let calls = calls_at c.args.tables.now c.args.instance in
     let at = c.args.at.now in
     let k = c.args.number in
     let delay = seen_delay c.args.event.now.delay in
@@ -42,13 +43,13 @@ returns-in-Some-get c sig with v is at_event =
     let d = c.in-Some-get.event.now in
     let there = got_some comp.events.items held.at.event c.get.result c.in-Some-get.event (subst I c.deref.ensures.value c.get.ensures.lookup) c.in-Some-get.is in
     let text = text_of-slice_get names d.name c.text.result.now c.text.ensures in
-    let why = (c.needs_interface.ensures names comp sig at with v is has).0 c.if-not-needs_interface.false in (
+    let why = (c.needs_interface.ensures with v lists).0 c.if-not-needs_interface.false in (
       λ t. marked_by names comp tables calls sig at with v is k delay has held told d there (subst (HasInterface (component_tree names comp)) (sym text) (c.has_interface.ensures.0 t)),
       λ marked. c.has_interface.ensures.1 (subst (HasInterface (component_tree names comp)) text (port_of names comp tables calls sig at with v is k delay has held told d there why marked)),
     )
 
 pub returns-in-None : goal.returns-in-None
-returns-in-None c sig with v is at_event =
+returns-in-None c sig with v is lists at_event =
     let comp = c.args.comp.now in
     let tables = c.args.tables.now in
     let k = c.args.number in
@@ -57,5 +58,5 @@ returns-in-None c sig with v is at_event =
     let held = c.in-Some.held in
     let told = c.in-Some.ensures.shown tables.events v.gives.times is.own_times in
     let I : List EventDef → Type 0 = λ es. IsItemAt es held.at.event c.get.result in
-    absurd (on_some c.args.names.now comp tables c.args.calls.now sig c.args.at.now with v is k delay has held told
+    absurd (on_some c.args.names.now comp tables (calls_at c.args.tables.now c.args.instance) sig c.args.at.now with v is k delay has held told
     (got_none comp.events.items held.at.event c.get.result (subst I c.deref.ensures.value c.get.ensures.lookup) c.in-None.is))

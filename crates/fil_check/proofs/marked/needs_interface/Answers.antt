@@ -3,8 +3,8 @@ use Rattle.fil_check.proofs.GivenLemmas.{clash}
 use Rattle.fil_check.proofs.marked.needs_interface.Goals as goal
 
 pub returns-else-is_some : goal.returns-else-is_some
-returns-else-is_some c names comp sig at with v is has =
-    let used = c.is_used.ensures names comp sig at with v is has in (
+returns-else-is_some c with v lists =
+    let used = c.is_used.ensures with v lists in (
       λ t. inr (used.0 t),
       λ why. elim why [
         | inl some ↦ absurd (clash (is_some c.args.event.now.go) some (sym c.is_some.ensures ∙ c.if-is_some.false))

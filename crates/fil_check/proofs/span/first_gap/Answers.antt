@@ -3,47 +3,48 @@ use Rattle.std.proofs.lemmas.Bool.{cases_lt}
 use Rattle.std.proofs.lemmas.List.{length-map}
 use Rattle.fil_sig.specs.Seen.{seen, seen_event}
 use Rattle.fil_check.specs.Sharing.{EndsAt}
+use Rattle.fil_check.specs.Tables.{calls_at}
 use Rattle.fil_check.proofs.EachLemmas.{item_at}
 use Rattle.fil_check.proofs.SharingLemmas.{has_delay}
 use Rattle.fil_check.proofs.SpanLemmas.{ends_all, first_broken, good_at}
 use Rattle.fil_check.proofs.span.first_gap.Goals as goal
 
 pub returns-in-Some : goal.returns-in-Some
-returns-in-Some c names with v is kept =
+returns-in-Some c names with v is lists kept =
     let sig = c.args.sig.now in
     let n = c.loop-number.number in
     let e = c.event-item.result in
     let here = item_at sig.events.items c.deref-event-items.result.now n e c.deref-event-items.ensures.value c.loop-number-test.true c.event-item.is in
-    first_broken names c.args.comp.now c.args.tables.now c.args.calls.now (seen sig) c.args.at.now with v is c.requires.times kept n c.in-Some.meet
-    (c.loop-number.invariant names with v is kept)
-    (c.in-Some.ensures names (seen sig) with v is c.requires.times (has_delay sig n e here) kept)
+    first_broken names c.args.comp.now c.args.tables.now (calls_at c.args.tables.now c.args.instance) (seen sig) c.args.at.now with v is c.requires.times kept n c.in-Some.meet
+    (c.loop-number.invariant names with v is lists kept)
+    (c.in-Some.ensures names (seen sig) with v is lists c.requires.times (has_delay sig n e here) kept)
 
 pub loop-number-preserved : goal.loop-number-preserved
-loop-number-preserved c names with v is kept k below =
+loop-number-preserved c names with v is lists kept k below =
     let sig = c.args.sig.now in
     let n = c.loop-number.number in
     let e = c.event-item.result in
     let here = item_at sig.events.items c.deref-event-items.result.now n e c.deref-event-items.ensures.value c.loop-number-test.true c.event-item.is in
     elim (cases_lt k n) [
-      | inl before ↦ c.loop-number.invariant names with v is kept k before
+      | inl before ↦ c.loop-number.invariant names with v is lists kept k before
       | inr after ↦
           let same : n ≡ k = omega arith in
-          let ends : EndsAt with v n = c.in_default.ensures names (seen sig) with v is c.requires.times (has_delay sig n e here) kept in
+          let ends : EndsAt with v n = c.in_default.ensures names (seen sig) with v is lists c.requires.times (has_delay sig n e here) kept in
           subst (EndsAt with v) same ends
     ]
 
 pub returns : goal.returns
-returns c names with v is kept =
+returns c names with v is lists kept =
     let sig = c.args.sig.now in
     let count = length-map sig.events.items seen_event in
     let end : length (map seen_event sig.events.items) ≤ c.loop-number.number = omega (arith, ap length c.deref-event-items.ensures.value, count) in
-    ends_all names c.args.comp.now c.args.tables.now c.args.calls.now (seen sig) c.args.at.now with v is c.requires.times kept c.loop-number.number end
-    (c.loop-number.invariant names with v is kept)
+    ends_all names c.args.comp.now c.args.tables.now (calls_at c.args.tables.now c.args.instance) (seen sig) c.args.at.now with v is c.requires.times kept c.loop-number.number end
+    (c.loop-number.invariant names with v is lists kept)
 
-pub gap_at-requires-clause-good : goal.gap_at-requires-clause-good
-gap_at-requires-clause-good c =
+pub gap_at-requires : goal.gap_at-requires
+gap_at-requires c =
     let sig = c.args.sig.now in
     let n = c.loop-number.number in
     let e = c.event-item.result in
     let here = item_at sig.events.items c.deref-event-items.result.now n e c.deref-event-items.ensures.value c.loop-number-test.true c.event-item.is in
-    good_at sig n e c.requires.times here
+    record { good = good_at sig n e c.requires.times here }

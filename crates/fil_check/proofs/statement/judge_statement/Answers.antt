@@ -30,5 +30,6 @@ returns-clause-next c scope before stands =
     let kept = c.in_ok-at.ensures.kept scope before stands made in
     let fresh = kept 0 F1 (omega arith) (omega arith) refl in
     stands_next names earlier comp tables scope before stands s c.grow.new.tables fresh (c.in_ok-at.ensures.held scope before stands made) (later_kept K 0 10 13 (omega arith) kept)
-    (c.in_ok-grow.ensures.shown earlier comp scope stands.place fresh (kept 1 F2 (omega arith) (omega arith) refl) (kept 2 F3 (omega arith) (omega arith) refl) made (c.in_ok-at.ensures.times scope before stands made))
+    (c.in_ok-grow.ensures.shown comp scope stands.place fresh (kept 1 F2 (omega arith) (omega arith) refl) (kept 2 F3 (omega arith) (omega arith) refl) made (c.in_ok-at.ensures.times scope before stands made))
+    (c.in_ok-grow.ensures.listed comp scope stands.place fresh (kept 1 F2 (omega arith) (omega arith) refl) (kept 2 F3 (omega arith) (omega arith) refl) made (c.in_ok-at.ensures.times scope before stands made) stands.listed)
     (c.in_ok-grow.ensures.connected scope before stands.connected (kept 8 F9 (omega arith) (omega arith) refl))

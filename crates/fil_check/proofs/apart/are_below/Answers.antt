@@ -2,7 +2,7 @@ use Rattle.std.proofs.Common.{◌≡◌, ℕ, ◌<◌, List, All, length, take, 
 use Rattle.std.proofs.Math.Seq.{take-length}
 use Rattle.std.proofs.lemmas.List.Elements.{All-more}
 use Rattle.fil_sig.proofs.ListLemmas.{told_true}
-use Rattle.fil_check.proofs.statement.are_below.Goals as goal
+use Rattle.fil_check.proofs.apart.are_below.Goals as goal
 
 pub loop-number-preserved : goal.loop-number-preserved
 loop-number-preserved c =

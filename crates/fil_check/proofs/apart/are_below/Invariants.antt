@@ -1,5 +1,5 @@
 use Rattle.std.proofs.Common.{ℕ, ◌<◌, All, take}
-use Rattle.fil_check.proofs.statement.are_below.Given as goal
+use Rattle.fil_check.proofs.apart.are_below.Given as goal
 
 -- the numbers so far are below the end
 abbrev pub invariant-loop-number : goal.invariant-loop-number

@@ -5,7 +5,7 @@ use Rattle.fil_ast.specs.declared.tree.FilComp.{FilComp}
 use Rattle.fil_sig.specs.Seen.{seen}
 use Rattle.fil_check.specs.Shared.{IsInvoked}
 use Rattle.fil_check.proofs.SharingLemmas.{ApartBelow}
-use Rattle.fil_check.proofs.apart.meeting_cycle.Given as goal
+use Rattle.fil_check.proofs.apart.told_cycle.Given as goal
 
 -- the invocation is apart from the earlier ones so far
 abbrev pub invariant-loop-call : goal.invariant-loop-call
