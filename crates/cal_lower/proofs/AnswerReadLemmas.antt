@@ -1,6 +1,6 @@
 -- The wires of a lowered design: what a port of the source reads in it is read in the source too, at once or over the wires of pieces, and what a port of
 -- a piece reads is later.
-use Rattle.std.proofs.Common.{◌≡◌, ◌⊎◌, inl, inr, ℕ, ◌^◌, ◌≤◌, List, [], ◌∷◌, ◌++◌, map, drop, true, false, Option, Some, None, refl, sym, ap, ap₂, subst, ◌∙◌, arith}
+use Rattle.std.proofs.Common.{◌≡◌, ◌⊎◌, inl, inr, ℕ, ◌^◌, ◌≤◌, List, [], ◌∷◌, ◌++◌, drop, true, false, Option, Some, None, refl, sym, ap, ap₂, subst, ◌∙◌, arith}
 use Rattle.std.specs.Prelude.{All, Contains, flat_map, codes, slice_get, option_map, option_and_then}
 use Rattle.std.proofs.lemmas.Bool.{cases_Bool, cond-true, cond-false}
 use Rattle.std.proofs.lemmas.List.Elements.{All-contains, Contains-append_left, Contains-append_right, Contains-append_cases}
@@ -12,36 +12,33 @@ use Rattle.hw_prims.specs.declared.prim.Primitive.{Primitive}
 use Rattle.net_core.specs.Graph.{guard_ports, option_ports, source_ports}
 use Rattle.net_core.specs.Guard.{GuardTree}
 use Rattle.net_core.specs.declared.net.Src.TheVariants.{Lit}
-use Rattle.cal_ast.proofs.LineLemmas.{group_cases, invoke_item}
-use Rattle.cal_ast.proofs.ListLemmas.{place_of, Contains-none, Contains-cases_first, Contains-from_map, Contains-from_flat_map}
+use Rattle.cal_ast.proofs.ListLemmas.{place_of, Contains-none, Contains-cases_first, Contains-from_flat_map}
 use Rattle.cal_ast.proofs.LookupLemmas.{part_in-design}
-use Rattle.cal_ast.proofs.SideLemmas.{some_found, input_first}
-use Rattle.cal_ast.specs.Holes.{ActivityRule, with_guard, guarded_set, guarded_group, guarded, guarded_design, when_of}
-use Rattle.cal_ast.specs.Invoking.{InvokeDef, invokes_in}
-use Rattle.cal_ast.specs.Items.{control_statements}
+use Rattle.cal_ast.proofs.SideLemmas.{input_first}
+use Rattle.cal_ast.specs.Holes.{ActivityRule, with_guard, when_of}
 use Rattle.cal_ast.specs.Naming.{IsReserved}
 use Rattle.cal_ast.specs.NoInvoke.{IsPlainDesign}
 use Rattle.cal_ast.specs.Plain.{HasPlainTree}
 use Rattle.cal_ast.specs.Plan.{plan_of}
-use Rattle.cal_ast.specs.Ports.{is_bare, inputs_in, outputs_in, with_pin, cell_named, primitive_of, part_of, primitive_in, part_in, SidedPin, both_sides, port_named}
+use Rattle.cal_ast.specs.Ports.{is_bare, inputs_in, outputs_in, with_pin, cell_named, primitive_of, part_of, primitive_in, SidedPin, both_sides, port_named}
 use Rattle.cal_ast.specs.Sides.{IsSource}
-use Rattle.cal_ast.specs.Tree.{PortName, own, port_of, CellDef, Assignment, GroupDef, Statement, Invoke, ControlSection, Component, Design}
-use Rattle.cal_ast.specs.Wires.{IsGroupOf, IsAssignmentOf, set_ports, done_ports, ReadsByAssignment, IsAssignedIn, ReadsByDone, ReadsByGo, DependsWithinRow, ReadsByPrimitive, CrossesCell, ReadsPort, ByAssignment, ByDone, ByGo, ByPrimitive, ByComponent, Reaches}
+use Rattle.cal_ast.specs.Tree.{PortName, own, port_of, CellDef, Assignment, GroupDef, Component, Design}
+use Rattle.cal_ast.specs.Wires.{IsAssignmentOf, set_ports, done_ports, ReadsByAssignment, IsAssignedIn, ReadsByDone, ReadsByGo, DependsWithinRow, ReadsByPrimitive, CrossesCell, ReadsPort, ByAssignment, ByDone, ByGo, ByPrimitive, ByComponent, Reaches}
 use Rattle.cal_group.proofs.EdgeLemmas.{own_is_group}
-use Rattle.cal_group.proofs.ItemCases.{statement_case}
-use Rattle.cal_group.proofs.MappedLemmas.{KeepsFaces, part_in-mapped}
 use Rattle.cal_token.specs.Tokens.{size}
-use Rattle.cal_lower.specs.Lowered.{HasFewParts, acts_guard, start_guard, control_pieces, done_set, lowered, rules_from}
+use Rattle.cal_lower.specs.Added.{extended}
+use Rattle.cal_lower.specs.Lowered.{HasFewParts, acts_guard, start_guard, control_pieces, done_set, rules_from}
 use Rattle.cal_lower.specs.Pieces.{Kind, Wire, Register, Piece, piece_set, enables_piece, piece_sets, token_name, ends_name, acts_name, done_name, start_name, busy_name, over_name, shown, is_set, never}
+use Rattle.cal_lower.proofs.ExtendedLemmas.{HasPlace, added_cells, answer, cell_other, extended_bare, extended_inputs, extended_outputs, extended_sets, primitive_kept}
+use Rattle.cal_lower.proofs.GuardedLemmas.{whole, built, origin, unruled, assigned_before, part_before}
 use Rattle.cal_lower.proofs.ListLemmas.{each_at}
-use Rattle.cal_lower.proofs.LoweredLemmas.{lowered_bare, lowered_groups, lowered_inputs, lowered_outputs, added_cells, added_pieces, added_cell, piece_made, prim_for, HasPlace, cell_other, primitive_kept, part_kept}
+use Rattle.cal_lower.proofs.LoweredLemmas.{tokens, tokens_made, IsOfPiece, added_cell, piece_made, prim_for}
 use Rattle.cal_lower.proofs.PinLemmas.{with_pin_has}
 use Rattle.cal_lower.proofs.PlacedLemmas.{IsPlaced, AStart, ARegister, AnActs, ADone, AnEnd, acts_reads, guard_reads_all, driven_place, read_place, done_place, takes_later, shows_later, pieces_placed}
 use Rattle.cal_lower.proofs.PlaceLemmas.{third}
 use Rattle.cal_lower.proofs.RankLemmas.{rank, IsRegisterName, token_register, busy_register, over_register, Falls}
-use Rattle.cal_lower.proofs.RuleLemmas.{guard_for, when_lowered}
-use Rattle.cal_lower.proofs.RulesKeptLemmas.{lowered_absent}
-use Rattle.cal_lower.proofs.ShownLemmas.{lowered_sets, piece_cell_found}
+use Rattle.cal_lower.proofs.PieceLemmas.{pieces_reserved}
+use Rattle.cal_lower.proofs.RuleLemmas.{guard_for, when_extended}
 use Rattle.cal_lower.proofs.SourceLemmas.{same_group, reserved_absent}
 
 -- ---- guards under a rule
@@ -59,28 +56,28 @@ ruled_ports when (Some g) q has = elim (Contains-append_cases (guard_ports when)
 
 -- ---- the primitives of pieces
 
-abbrev IsWired : Kind → Text → Text → Type 0
+abbrev pub IsWired : Kind → Text → Text → Type 0
 IsWired kind output input = (kind ≡ Wire) × (output ≡ codes "out") × (input ≡ codes "in")
 
 one_name : (name x : Text) → Contains (name ∷ []) x → x ≡ name
 one_name name x has = elim (Contains-cases_first name [] x has) [ inl same ↦ sym same | inr none ↦ absurd (Contains-none x none) ]
 
 -- a wire's output depends on its input, and a register's on none
-wire_depends : (kind : Kind) (output input : Text) → DependsWithinRow (prim_for kind) output input → IsWired kind output input
+pub wire_depends : (kind : Kind) (output input : Text) → DependsWithinRow (prim_for kind) output input → IsWired kind output input
 unfolding inputs_of outputs_of is_through
 wire_depends Wire output input d = (refl, one_name (codes "out") output d.is_output, one_name (codes "in") input d.is_input)
 wire_depends Register output input d = let bad : false ≡ true = d.through in absurd (cc)
 
 -- ---- assignments of a piece
 
-abbrev enable_set : Text → Assignment
+abbrev pub enable_set : Text → Assignment
 enable_set name = record { dst = port_of name (codes "write_en"); guard = None; src = Lit 1 1 }
 
 enable_case : (kind : Kind) (name : Text) (a : Assignment) → Contains (enables_piece kind name) a → enable_set name ≡ a
 enable_case Wire name a has = absurd (Contains-none a has)
 enable_case Register name a has = elim (Contains-cases_first (enable_set name) [] a has) [ inl same ↦ same | inr none ↦ absurd (Contains-none a none) ]
 
-piece_set_case : (x : Piece) (a : Assignment) → Contains (piece_sets x) a → (piece_set x ≡ a) ⊎ (enable_set x.name ≡ a)
+pub piece_set_case : (x : Piece) (a : Assignment) → Contains (piece_sets x) a → (piece_set x ≡ a) ⊎ (enable_set x.name ≡ a)
 piece_set_case x a has = elim (Contains-cases_first (piece_set x) (enables_piece x.kind x.name) a has) [
   | inl same ↦ inl same
   | inr there ↦ inr (enable_case x.kind x.name a there)
@@ -117,64 +114,10 @@ data SetCase (c : Component) (a : Assignment) : Type 0 where
 
 module _ (source : Design) (tree : HasPlainTree source) (plain : IsPlainDesign source) (all_few : All HasFewParts source) where
   abbrev low : Design
-  low = map lowered source
+  low = answer tokens source
 
   abbrev rules : List ActivityRule
   rules = rules_from 0 source
-
-  abbrev pub whole : Design
-  whole = guarded_design low rules
-
-  abbrev pub built : Component → Component
-  built c = guarded low rules (lowered c)
-
-  faces : KeepsFaces low (guarded low rules)
-  faces = record { names = λ c. refl; ins = λ c. refl; outs = λ c. refl; cells = λ c. refl; bare = λ c has. refl }
-
-  -- the component that a cell is made of, in the source
-  part_before : (c : Component) (cell : Text) (part : Component) → part_in whole (built c) cell ≡ Some part → (b : Component) × (part_in source c cell ≡ Some b) × (built b ≡ part)
-  part_before c cell part made =
-      let x = some_found (guarded low rules) (part_in low (lowered c) cell) part (sym (part_in-mapped low (guarded low rules) faces (lowered c) cell) ∙ made) in
-      let b = some_found lowered (part_in source c cell) x.0 (sym (part_kept source c cell) ∙ x.1) in
-      (b.0, b.1, ap (λ (d : Component). guarded low rules d) b.2 ∙ x.2)
-
-  -- ---- groups
-
-  no_invoke : (c : Component) (i : InvokeDef) → Contains (invokes_in (built c)) i → ⊥
-  no_invoke c i there =
-      let s : Statement = Invoke i.cell i.ins i.outs in
-      let has : Contains (control_statements (lowered c).control) s = statement_case (built c) s (invoke_item (built c) i there) in
-      Contains-none s (subst (λ (x : ControlSection). Contains (control_statements x) s) (lowered_absent c) has)
-
-  -- the group in the source
-  abbrev Origin : Component → GroupDef → Type 0
-  Origin c g = (h : GroupDef) × Contains c.groups h × (guarded_group low rules (lowered c) h ≡ g)
-
-  origin : (c : Component) (g : GroupDef) → IsGroupOf whole (built c) g → Origin c g
-  origin c g is = elim (group_cases whole (built c) g is) [
-    | inl there ↦
-        let r = Contains-from_map (guarded_group low rules (lowered c)) (lowered c).groups g there in
-        (r.0, subst (λ (gs : List GroupDef). Contains gs r.0) (lowered_groups c) r.1, r.2)
-    | inr (i, there, same) ↦ absurd (no_invoke c i there)
-  ]
-
-  -- an assignment in a group, without the rule
-  abbrev Unruled : Component → GroupDef → Assignment → Type 0
-  Unruled c h a = (b : Assignment) × Contains h.sets b × (guarded_set (when_of low rules (lowered c) h.name) b ≡ a)
-
-  unruled : (c : Component) (g : GroupDef) (r : Origin c g) (a : Assignment) → Contains g.sets a → Unruled c r.0 a
-  unruled c g r a has =
-      Contains-from_map (guarded_set (when_of low rules (lowered c) r.0.name)) r.0.sets a (subst (λ (x : GroupDef). Contains x.sets a) (sym r.2) has)
-
-  assigned_before : (c : Component) (g : GroupDef) (r : Origin c g) (p : PortName) → IsAssignedIn whole (built c) g p → IsAssignedIn source c r.0 p
-  assigned_before c g r p assigned =
-      let b = unruled c g r assigned.a assigned.has in
-      record {
-        is = own_is_group source c r.0 r.1;
-        a = b.0;
-        has = b.1;
-        drives = ap (λ (x : Assignment). x.dst) b.2 ∙ assigned.drives;
-      }
 
   module _ (c : Component) (in_design : Contains source c) where
     of_group : (h : GroupDef) (b : Assignment) → Contains c.groups h → Contains h.sets b → IsAssignmentOf source c b
@@ -194,17 +137,17 @@ module _ (source : Design) (tree : HasPlainTree source) (plain : IsPlainDesign s
         let bad : None ≡ Some there.0 = sym none ∙ there.1 in
         cc
 
-    assigned_place : (g : GroupDef) (p : PortName) → IsAssignedIn whole (built c) g p → HasPlace source c p.cell
+    assigned_place : (g : GroupDef) (p : PortName) → IsAssignedIn (whole tokens source) (built tokens source c) g p → HasPlace source c p.cell
     assigned_place g p assigned =
-        let b = assigned_before c g (origin c g assigned.is) p assigned in
+        let b = assigned_before tokens source c g (origin tokens source c g assigned.is) p assigned in
         subst (λ (x : PortName). HasPlace source c x.cell) b.drives (driven_place source plain c in_design b.a (inr (_, b.is, b.has)))
 
-    sets_case : (a : Assignment) → Contains (lowered c).sets a → SetCase c a
+    sets_case : (a : Assignment) → Contains (extended tokens c).sets a → SetCase c a
     sets_case a has = elim (cases_Bool (is_bare c)) [
-      | inl bare ↦ OfSource (subst (λ (d : Component). Contains d.sets a) (lowered_bare c bare) has)
+      | inl bare ↦ OfSource (subst (λ (d : Component). Contains d.sets a) (extended_bare tokens c bare) has)
       | inr full ↦
           let there : Contains (c.sets ++ flat_map piece_sets (control_pieces c) ++ done_set ∷ []) a =
-          subst (λ (sets : List Assignment). Contains sets a) (lowered_sets source tree plain c in_design full few) has in
+          subst (λ (sets : List Assignment). Contains sets a) (extended_sets tokens c full) has in
           elim (Contains-append_cases (c.sets ++ flat_map piece_sets (control_pieces c)) (done_set ∷ []) a there) [
             | inl front ↦ elim (Contains-append_cases c.sets (flat_map piece_sets (control_pieces c)) a front) [
               | inl own_set ↦ OfSource own_set
@@ -234,7 +177,7 @@ module _ (source : Design) (tree : HasPlainTree source) (plain : IsPlainDesign s
     ]
 
     -- by an assignment
-    set_reads : (name pin : Text) (p q : PortName) → p ≡ port_of name pin → cell_named c.cells name ≡ None → ReadsByAssignment whole (built c) p q → PieceReads c name pin q
+    set_reads : (name pin : Text) (p q : PortName) → p ≡ port_of name pin → cell_named c.cells name ≡ None → ReadsByAssignment (whole tokens source) (built tokens source c) p q → PieceReads c name pin q
     set_reads name pin p q is none r = elim r.is [
       | inl there ↦ elim (sets_case r.a there) [
         | OfSource own_set ↦
@@ -249,42 +192,35 @@ module _ (source : Design) (tree : HasPlainTree source) (plain : IsPlainDesign s
       | inr (g, is_group, has) ↦ absurd (not_place name pin p is none (assigned_place g p (record { is = is_group; a = r.a; has = has; drives = r.drives })))
     ]
 
-    added_full : (x : Piece) → Contains (added_pieces c) x → (is_bare c ≡ false) × Contains (control_pieces c) x
-    added_full x has = elim (cases_Bool (is_bare c)) [
-      | inl bare ↦ absurd (Contains-none x (subst (λ (ps : List Piece). Contains ps x) (cond-true (is_bare c) [] (control_pieces c) bare) has))
-      | inr full ↦ (full, subst (λ (ps : List Piece). Contains ps x) (cond-false (is_bare c) [] (control_pieces c) full) has)
-    ]
-
     -- by the primitive of the piece
-    primitive_reads : (name pin : Text) (p q : PortName) → p ≡ port_of name pin → cell_named c.cells name ≡ None → ReadsByPrimitive (built c) p q → PieceReads c name pin q
+    primitive_reads : (name pin : Text) (p q : PortName) → p ≡ port_of name pin → cell_named c.cells name ≡ None → ReadsByPrimitive (built tokens source c) p q → PieceReads c name pin q
     primitive_reads name pin p q is none r =
         let e = same_cell r.cell r.output name pin p is (sym r.is_output) in
-        let found : option_and_then primitive_of (cell_named (added_cells c) name) ≡ Some r.prim =
-        sym (ap (option_and_then primitive_of) (cell_other source c name none)) ∙ ap (λ (n : Text). primitive_in (lowered c) n) (sym e.0) ∙ r.made in
-        by e.0 e.1 (cell_named (added_cells c) name) refl found
+        let found : option_and_then primitive_of (cell_named (added_cells tokens c) name) ≡ Some r.prim =
+        sym (ap (option_and_then primitive_of) (cell_other tokens c name none)) ∙ ap (λ (n : Text). primitive_in (extended tokens c) n) (sym e.0) ∙ r.made in
+        by e.0 e.1 (cell_named (added_cells tokens c) name) refl found
       where
-        by : r.cell ≡ name → r.output ≡ pin → (o : Option CellDef) → cell_named (added_cells c) name ≡ o → option_and_then primitive_of o ≡ Some r.prim → PieceReads c name pin q
+        by : r.cell ≡ name → r.output ≡ pin → (o : Option CellDef) → cell_named (added_cells tokens c) name ≡ o → option_and_then primitive_of o ≡ Some r.prim → PieceReads c name pin q
         by cell output None at found = absurd (cc)
         by cell output (Some x) at found =
-            let a = added_cell c name x at in
-            let prim : prim_for a.0.kind ≡ r.prim = same_Some (prim_for a.0.kind) r.prim (sym (piece_made a.0) ∙ ap primitive_of a.2 ∙ found) in
-            let w = wire_depends a.0.kind r.output r.input (subst (λ (y : Primitive). DependsWithinRow y r.output r.input) (sym prim) r.depends) in
-            let has = added_full a.0 a.1 in
-            Passed has.0 a.0 has.1 a.3 (sym output ∙ w.1) w.0 (r.is_input ∙ ap₂ port_of cell w.2)
+            let a : IsOfPiece c name x = added_cell c name x at in
+            let prim : prim_for a.p.kind ≡ r.prim = same_Some (prim_for a.p.kind) r.prim (sym (piece_made a.p) ∙ ap primitive_of a.is ∙ found) in
+            let w = wire_depends a.p.kind r.output r.input (subst (λ (y : Primitive). DependsWithinRow y r.output r.input) (sym prim) r.depends) in
+            Passed a.full a.p a.has a.named (sym output ∙ w.1) w.0 (r.is_input ∙ ap₂ port_of cell w.2)
 
-    pub piece_reads : (d : Component) (p q : PortName) → ReadsPort whole d p q → built c ≡ d → (name pin : Text) → p ≡ port_of name pin → cell_named c.cells name ≡ None → PieceReads c name pin q
-    piece_reads d p q (ByAssignment x p' q' r) same name pin is none = set_reads name pin p' q' is none (subst (λ (y : Component). ReadsByAssignment whole y p' q') (sym same) r)
+    pub piece_reads : (d : Component) (p q : PortName) → ReadsPort (whole tokens source) d p q → built tokens source c ≡ d → (name pin : Text) → p ≡ port_of name pin → cell_named c.cells name ≡ None → PieceReads c name pin q
+    piece_reads d p q (ByAssignment x p' q' r) same name pin is none = set_reads name pin p' q' is none (subst (λ (y : Component). ReadsByAssignment (whole tokens source) y p' q') (sym same) r)
     piece_reads d p q (ByDone x p' q' r) same name pin is none =
-        let s = subst (λ (y : Component). ReadsByDone whole y p' q') (sym same) r in
+        let s = subst (λ (y : Component). ReadsByDone (whole tokens source) y p' q') (sym same) r in
         absurd (not_place name pin p' is none (assigned_place s.g p' s.assigned))
     piece_reads d p q (ByGo x p' q' r) same name pin is none =
-        let s = subst (λ (y : Component). ReadsByGo whole y p' q') (sym same) r in
+        let s = subst (λ (y : Component). ReadsByGo (whole tokens source) y p' q') (sym same) r in
         absurd (not_place name pin p' is none (assigned_place s.g p' s.assigned))
     piece_reads d p q (ByPrimitive x p' q' r) same name pin is none = primitive_reads name pin p' q' is none (subst (λ (y : Component). ReadsByPrimitive y p' q') (sym same) r)
     piece_reads d p q (ByComponent x part p' q' output input r there) same name pin is none =
-        let s = subst (λ (y : Component). CrossesCell whole y part p' q' output input) (sym same) r in
+        let s = subst (λ (y : Component). CrossesCell (whole tokens source) y part p' q' output input) (sym same) r in
         let e = same_cell s.cell output name pin p' is (sym s.is_output) in
-        let b = part_before c s.cell part s.made in
+        let b = part_before tokens tokens_made source c s.cell part s.made in
         let bad : None ≡ Some b.0 = sym (ap (option_and_then (part_of source)) (ap (cell_named c.cells) e.0 ∙ none)) ∙ b.1 in
         absurd (cc)
 
@@ -381,20 +317,20 @@ module _ (source : Design) (tree : HasPlainTree source) (plain : IsPlainDesign s
       free : (name : Text) → IsReserved name → cell_named c.cells name ≡ None
       free name reserved = reserved_absent source tree plain c in_design full name reserved
 
-      pub enters_on : (o p q : PortName) → Enters source c o p → ReadsPort whole (built c) p q → Onward source c o q
-      enters_on o p q (ToActs g pin of assigned is) reads = elim (piece_reads (built c) p q reads refl (acts_name g.name) pin is (free (acts_name g.name) refl)) [
+      pub enters_on : (o p q : PortName) → Enters source c o p → ReadsPort (whole tokens source) (built tokens source c) p q → Onward source c o q
+      enters_on o p q (ToActs g pin of assigned is) reads = elim (piece_reads (built tokens source c) p q reads refl (acts_name g.name) pin is (free (acts_name g.name) refl)) [
         | Driven f x has named at ports ↦ acts_on o q g of assigned x (placed x has) named ports
         | Passed f x has named at wire same ↦ enters o q (ToActs g (codes "in") of assigned same)
       ]
-      enters_on o p q (ToDone g pin of assigned is) reads = elim (piece_reads (built c) p q reads refl (done_name g.name) pin is (free (done_name g.name) refl)) [
+      enters_on o p q (ToDone g pin of assigned is) reads = elim (piece_reads (built tokens source c) p q reads refl (done_name g.name) pin is (free (done_name g.name) refl)) [
         | Driven f x has named at ports ↦ done_on o q g of assigned x (placed x has) named ports
         | Passed f x has named at wire same ↦ enters o q (ToDone g (codes "in") of assigned same)
       ]
-      enters_on o p q (ToStart g pin assigned is) reads = elim (piece_reads (built c) p q reads refl start_name pin is (free start_name refl)) [
+      enters_on o p q (ToStart g pin assigned is) reads = elim (piece_reads (built tokens source c) p q reads refl start_name pin is (free start_name refl)) [
         | Driven f x has named at ports ↦ start_on o q g assigned x (placed x has) named ports
         | Passed f x has named at wire same ↦ enters o q (ToStart g (codes "in") assigned same)
       ]
-      enters_on o p q (ToRegister name register is) reads = elim (piece_reads (built c) p q reads refl name (codes "out") is (free name register.reserved)) [
+      enters_on o p q (ToRegister name register is) reads = elim (piece_reads (built tokens source c) p q reads refl name (codes "out") is (free name register.reserved)) [
         | Driven f x has named at ports ↦ absurd (let bad : codes "out" ≡ codes "in" = at in cc)
         | Passed f x has named at wire same ↦ absurd (register_on name register x (placed x has) wire named)
       ]
@@ -410,11 +346,11 @@ module _ (source : Design) (tree : HasPlainTree source) (plain : IsPlainDesign s
 
     -- by an assignment of the source, or under the rule of a group
     ruled_on : (p q : PortName) (h : GroupDef) (b : Assignment) → Contains c.groups h → Contains h.sets b → b.dst ≡ p
-        → Contains (option_ports (with_guard (when_of low rules (lowered c) h.name) b.guard) ++ source_ports b.src) q → Onward source c p q
+        → Contains (option_ports (with_guard (when_of low rules (extended tokens c) h.name) b.guard) ++ source_ports b.src) q → Onward source c p q
     ruled_on p q h b of has drives reads =
-        let w : GuardTree PortName = guard_for source plain c h.name in
+        let w : GuardTree PortName = guard_for c h.name in
         let there : Contains (option_ports (with_guard (Some w) b.guard) ++ source_ports b.src) q =
-        subst (λ (o : Option (GuardTree PortName)). Contains (option_ports (with_guard o b.guard) ++ source_ports b.src) q) (when_lowered source plain place_at.0 c h place_at.1 of) reads in
+        subst (λ (o : Option (GuardTree PortName)). Contains (option_ports (with_guard o b.guard) ++ source_ports b.src) q) (when_extended tokens source plain place_at.0 c h place_at.1 of) reads in
         let its : Contains (set_ports b) q → Onward source c p q =
         λ (ports : Contains (set_ports b) q). inl (
           ByAssignment c p q (record { a = b; is = of_group h b of has; drives = drives; reads = ports }),
@@ -446,7 +382,8 @@ module _ (source : Design) (tree : HasPlainTree source) (plain : IsPlainDesign s
     continuous_on : (p q : PortName) → HasPlace source c p.cell → (a : Assignment) → SetCase c a → a.dst ≡ p → Contains (set_ports a) q → Onward source c p q
     continuous_on p q place a (OfSource has) drives reads = own_set_on p q a has drives reads
     continuous_on p q place a (OfPiece full x has set) drives reads =
-        let none : cell_named c.cells x.name ≡ None = (piece_cell_found source tree plain c in_design full few x has).0 in
+        let none : cell_named c.cells x.name ≡ None =
+        reserved_absent source tree plain c in_design full x.name (each_at (λ (y : Piece). IsReserved y.name) (control_pieces c) x (pieces_reserved c few) has) in
         elim (piece_set_case x a set) [
           | inl same ↦ absurd (not_place x.name (codes "in") p (sym (ap (λ (y : Assignment). y.dst) same ∙ drives)) none place)
           | inr same ↦ absurd (not_place x.name (codes "write_en") p (sym (ap (λ (y : Assignment). y.dst) same ∙ drives)) none place)
@@ -458,55 +395,55 @@ module _ (source : Design) (tree : HasPlainTree source) (plain : IsPlainDesign s
           | inr none ↦ absurd (Contains-none q none)
         ]
 
-    pub set_on : (p q : PortName) → HasPlace source c p.cell → ReadsByAssignment whole (built c) p q → Onward source c p q
+    pub set_on : (p q : PortName) → HasPlace source c p.cell → ReadsByAssignment (whole tokens source) (built tokens source c) p q → Onward source c p q
     set_on p q place r = elim r.is [
       | inl there ↦ continuous_on p q place r.a (sets_case r.a there) r.drives r.reads
       | inr (g, is_group, has) ↦
-          let h = origin c g is_group in
-          let b = unruled c g h r.a has in
+          let h = origin tokens source c g is_group in
+          let b = unruled tokens source c g h r.a has in
           ruled_on p q h.0 b.0 h.1 b.1 (ap (λ (x : Assignment). x.dst) b.2 ∙ r.drives) (subst (λ (x : Assignment). Contains (set_ports x) q) (sym b.2) r.reads)
     ]
 
-    pub done_line_on : (p q : PortName) → ReadsByDone whole (built c) p q → Onward source c p q
+    pub done_line_on : (p q : PortName) → ReadsByDone (whole tokens source) (built tokens source c) p q → Onward source c p q
     done_line_on p q r =
-        let h = origin c r.g r.assigned.is in
+        let h = origin tokens source c r.g r.assigned.is in
         let line : Contains h.0.dones r.d = subst (λ (x : GroupDef). Contains x.dones r.d) (sym h.2) r.has in
         inl (
-          ByDone c p q (record { g = h.0; assigned = assigned_before c r.g h p r.assigned; d = r.d; has = line; reads = r.reads }),
+          ByDone c p q (record { g = h.0; assigned = assigned_before tokens source c r.g h p r.assigned; d = r.d; has = line; reads = r.reads }),
           done_place source plain c in_design h.0 r.d h.1 line q r.reads,
         )
 
-    pub go_on : (p q : PortName) → ReadsByGo whole (built c) p q → Onward source c p q
+    pub go_on : (p q : PortName) → ReadsByGo (whole tokens source) (built tokens source c) p q → Onward source c p q
     go_on p q r =
-        let h = origin c r.g r.assigned.is in
-        let sides = ap₂ (λ (ins outs : List Pin). option_map (λ (x : SidedPin). x.side) (port_named (both_sides ins outs) (codes "go"))) (lowered_inputs c) (lowered_outputs c) in
+        let h = origin tokens source c r.g r.assigned.is in
+        let sides = ap₂ (λ (ins outs : List Pin). option_map (λ (x : SidedPin). x.side) (port_named (both_sides ins outs) (codes "go"))) (extended_inputs tokens c) (extended_outputs tokens c) in
         inl (
-          ByGo c p q (record { g = h.0; assigned = assigned_before c r.g h p r.assigned; is_go = r.is_go; is_input = sym sides ∙ r.is_input }),
+          ByGo c p q (record { g = h.0; assigned = assigned_before tokens source c r.g h p r.assigned; is_go = r.is_go; is_input = sym sides ∙ r.is_input }),
           subst (λ (x : PortName). HasPlace source c x.cell) (sym r.is_go) tt,
         )
 
-    pub primitive_on : (p q : PortName) → HasPlace source c p.cell → ReadsByPrimitive (built c) p q → Onward source c p q
+    pub primitive_on : (p q : PortName) → HasPlace source c p.cell → ReadsByPrimitive (built tokens source c) p q → Onward source c p q
     primitive_on p q place r =
         let there : HasPlace source c (Some r.cell) = subst (λ (x : PortName). HasPlace source c x.cell) r.is_output place in
-        let made : primitive_in c r.cell ≡ Some r.prim = sym (primitive_kept source c r.cell there.0 there.1) ∙ r.made in
+        let made : primitive_in c r.cell ≡ Some r.prim = sym (primitive_kept tokens c r.cell there.0 there.1) ∙ r.made in
         inl (
           ByPrimitive c p q (record { cell = r.cell; prim = r.prim; made = made; output = r.output; input = r.input; depends = r.depends; is_output = r.is_output; is_input = r.is_input }),
           subst (λ (x : PortName). HasPlace source c x.cell) (sym r.is_input) there,
         )
 
     -- over a cell of a component, where its output reaches its input in the source
-    pub part_on : (p q : PortName) (part : Component) (output input : Text) → HasPlace source c p.cell → (r : CrossesCell whole (built c) part p q output input)
-        → ((b : Component) → Contains source b → built b ≡ part → Reaches source b (own output) (own input)) → Onward source c p q
+    pub part_on : (p q : PortName) (part : Component) (output input : Text) → HasPlace source c p.cell → (r : CrossesCell (whole tokens source) (built tokens source c) part p q output input)
+        → ((b : Component) → Contains source b → built tokens source b ≡ part → Reaches source b (own output) (own input)) → Onward source c p q
     part_on p q part output input place r inner =
-        let b = part_before c r.cell part r.made in
+        let b = part_before tokens tokens_made source c r.cell part r.made in
         let has = part_in-design source c r.cell b.0 b.1 in
         let there : HasPlace source c (Some r.cell) = subst (λ (x : PortName). HasPlace source c x.cell) r.is_output place in
         inl (
           ByComponent c b.0 p q output input (record {
             cell = r.cell;
             made = b.1;
-            has_output = subst (λ (pins : List Pin). Contains (pin_names pins) output) (ap outputs_in (sym b.2) ∙ lowered_outputs b.0) r.has_output;
-            has_input = subst (λ (pins : List Pin). Contains (pin_names pins) input) (ap inputs_in (sym b.2) ∙ lowered_inputs b.0) r.has_input;
+            has_output = subst (λ (pins : List Pin). Contains (pin_names pins) output) (ap outputs_in (sym b.2) ∙ extended_outputs tokens b.0) r.has_output;
+            has_input = subst (λ (pins : List Pin). Contains (pin_names pins) input) (ap inputs_in (sym b.2) ∙ extended_inputs tokens b.0) r.has_input;
             is_output = r.is_output;
             is_input = r.is_input;
           }) (inner b.0 has b.2),
@@ -530,14 +467,14 @@ module _ (source : Design) (tree : HasPlainTree source) (plain : IsPlainDesign s
         let other : port_of x.name (codes "in") ≡ q = ap (λ (n : Text). port_of n (codes "in")) named ∙ sym same in
         inr (subst (λ (r : PortName). Falls r q) port (subst (λ (r : PortName). Falls (shown x.name) r) other (shows_later source plain c in_design x (placed full x has) wire)))
 
-    pub read_falls : (p q : PortName) → ReadsPort whole (built c) p q → Apart p q
+    pub read_falls : (p q : PortName) → ReadsPort (whole tokens source) (built tokens source c) p q → Apart p q
     read_falls p q reads = by p.cell refl
       where
         of_cell : (name : Text) → p.cell ≡ Some name → (o : Option CellDef) → cell_named c.cells name ≡ o → Apart p q
         of_cell name is (Some x) at = inl (inl (subst (λ (cell : Option Text). HasPlace source c cell) (sym is) (x, at)))
         of_cell name is None at =
             let port : p ≡ port_of name p.pin = ap (λ (cell : Option Text). record { cell = cell; pin = p.pin }) is in
-            piece_falls name p.pin p q port (piece_reads (built c) p q reads refl name p.pin port at)
+            piece_falls name p.pin p q port (piece_reads (built tokens source c) p q reads refl name p.pin port at)
 
         by : (cell : Option Text) → p.cell ≡ cell → Apart p q
         by None is = inl (inl (subst (λ (cell : Option Text). HasPlace source c cell) (sym is) tt))

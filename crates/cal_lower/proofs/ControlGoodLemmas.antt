@@ -1,5 +1,5 @@
 -- In a component with control each piece reads known sources of one bit: the ports of its conditions, its go, its done lines and other pieces.
-use Rattle.std.proofs.Common.{◌≡◌, inl, inr, ℕ, ◌≤◌, ◌^◌, List, [], ◌∷◌, ◌++◌, map, take, length, false, Some, sym, ap, subst, ◌∙◌, arith}
+use Rattle.std.proofs.Common.{◌≡◌, inl, inr, ℕ, List, [], ◌∷◌, ◌++◌, map, take, length, false, Some, sym, ap, subst, ◌∙◌, arith}
 use Rattle.std.specs.Prelude.{Contains, flat_map, slice_get, codes, is_some}
 use Rattle.std.proofs.lemmas.Bool.{cases_Bool, cond-true, cond-false}
 use Rattle.std.proofs.lemmas.List.Elements.{Contains-append_left, Contains-append_right}
@@ -8,7 +8,6 @@ use Rattle.net_core.specs.Graph.{option_ports, source_ports}
 use Rattle.net_core.specs.Guard.{GuardTree, Negates}
 use Rattle.cal_ast.proofs.ItemLemmas.{has_widths, statement_item, statement_names_known, statement_reads, done_item, done_names_known, done_reads_sources}
 use Rattle.cal_ast.proofs.ListLemmas.{place_of, Contains-here, Contains-there, Contains-map, Contains-flat_map}
-use Rattle.cal_ast.proofs.LookupLemmas.{cell_inputs-primitive, cell_outputs-primitive}
 use Rattle.cal_ast.proofs.SideLemmas.{input_first, some_found}
 use Rattle.cal_ast.specs.Actors.{Actor, GroupNamed}
 use Rattle.cal_ast.specs.Controlling.{HasCondition}
@@ -23,27 +22,30 @@ use Rattle.cal_ast.specs.Sides.{IsSource, StatementReads}
 use Rattle.cal_ast.specs.Statement.{IfCondition}
 use Rattle.cal_ast.specs.Tree.{PortName, own, DoneLine, GroupDef, Statement, Enable, Seq, Par, If, While, Invoke, Component, Design}
 use Rattle.cal_walk.specs.Left.{is_over}
-use Rattle.cal_token.specs.Tokens.{size}
-use Rattle.cal_lower.specs.Lowered.{acts_guard, acts_wire, done_wire, group_pieces, control_ends, start_guard, instance_pieces, plan_pieces, control_pieces, lowered}
+use Rattle.cal_lower.specs.Added.{Additions, extended}
+use Rattle.cal_lower.specs.Lowered.{acts_guard, acts_wire, done_wire, group_pieces, control_ends, start_guard, instance_pieces, plan_pieces, control_pieces}
 use Rattle.cal_lower.specs.Parts.{part_ends, part_pieces, enabling, testing}
 use Rattle.cal_lower.specs.Pieces.{Piece, Wire, Register, piece, start_name, busy_name, over_name, acts_name, done_name, shown, is_set, either, both, any_of, is_done}
 use Rattle.cal_lower.proofs.BitLemmas.{IsBitGuard, IsBitPiece, IsNamed, IsDoneSeen, one_bit, EachPort, any_bits, first_named, part_bits, enabling_bits, testing_bits}
 use Rattle.cal_lower.proofs.ConditionLemmas.{section_ports}
 use Rattle.cal_lower.proofs.ControlLemmas.{enabled_weaker}
-use Rattle.cal_lower.proofs.GoodLemmas.{IsBitPort, IsGoodPiece, good_from_bits, shown_bit}
+use Rattle.cal_lower.proofs.ExtendedLemmas.{AreOfPrimitives, answer, source_kept}
+use Rattle.cal_lower.proofs.GoodLemmas.{IsBitPort, IsGoodPiece, good_from_bits}
 use Rattle.cal_lower.proofs.KnownLemmas.{known_kept, width_kept, option_kept, all_known, all_sources, source_width_kept}
 use Rattle.cal_lower.proofs.ListLemmas.{Each, each_append, each_right, each_from, each_weaker, each_map, each_flat_map}
-use Rattle.cal_lower.proofs.LoweredLemmas.{answer, source_kept, prim_for}
 use Rattle.cal_lower.proofs.OverLemmas.{over_enabling, over_testing}
 use Rattle.cal_lower.proofs.PartLemmas.{EachEnabled}
 use Rattle.cal_lower.proofs.PinLemmas.{with_pin_has}
-use Rattle.cal_lower.proofs.ShownLemmas.{piece_primitive}
 use Rattle.cal_lower.proofs.SourceLemmas.{IsOwnGroup, plan_is_own, one_done, HasOneDone, at_item}
 
-module _ (source : Design) (tree : HasPlainTree source) (plain : IsPlainDesign source) (c : Component) (in_design : Contains source c) (full : is_bare c ≡ false)
-    (few : size (plan_of c) ≤ 2 ^ 64) where
+module _ (add : Additions) (primitive : AreOfPrimitives add) (source : Design) (tree : HasPlainTree source) (plain : IsPlainDesign source) (c : Component)
+    (in_design : Contains source c) (full : is_bare c ≡ false)
+    (piece_bit : (p : Piece) → Contains (control_pieces c) p → IsBitPort (answer add source) (extended add c) (shown p.name)) where
+  abbrev low : Design
+  low = answer add source
+
   abbrev Bit : PortName → Type 0
-  Bit q = IsBitPort (answer source) (lowered c) q
+  Bit q = IsBitPort low (extended add c) q
 
   here : (k : ℕ) × (slice_get source k ≡ Some c)
   here = place_of source c in_design
@@ -53,9 +55,9 @@ module _ (source : Design) (tree : HasPlainTree source) (plain : IsPlainDesign s
   -- a source of one bit stays one
   bit_kept : (q : PortName) → IsKnownPort source c q → width_in source c q ≡ Some 1 → IsSource source c q → Bit q
   bit_kept q known width is = record {
-    known = known_kept source c q known;
-    width = width_kept source c q known ∙ width;
-    source = source_kept source c q.cell q.pin is;
+    known = known_kept add primitive source c q known;
+    width = width_kept add primitive source c q known ∙ width;
+    source = source_kept add primitive source c q.cell q.pin is;
   }
 
   condition_bit : (s : Statement) → StatementNamesKnown source c s → HasCondition source c s → StatementReads source c s → IfCondition s (λ port by. Bit port)
@@ -84,13 +86,7 @@ module _ (source : Design) (tree : HasPlainTree source) (plain : IsPlainDesign s
       subst G (sym (cond-false (is_bare c) c.ins (with_pin (codes "go") c.ins) full)) (with_pin_has (codes "go") c.ins) in
       bit_kept (own (codes "go")) (ap is_some q.1) width (input_first (inputs_in c) (outputs_in c) (codes "go") has)
 
-  -- ---- what pieces show
-
-  piece_bit : (p : Piece) → Contains (control_pieces c) p → Bit (shown p.name)
-  piece_bit p has =
-      let made = piece_primitive source tree plain c in_design full few p has in
-      shown_bit (answer source) (lowered c) p (cell_inputs-primitive (answer source) (lowered c) p.name (prim_for p.kind) made)
-      (cell_outputs-primitive (answer source) (lowered c) p.name (prim_for p.kind) made)
+  -- ---- the pieces
 
   abbrev plan_part : List Piece
   plan_part = part_pieces 0 (plan_of c) (is_set start_name)
@@ -218,36 +214,36 @@ module _ (source : Design) (tree : HasPlainTree source) (plain : IsPlainDesign s
       (guard, one_bit Bit)
 
   -- a wire of a done line reads what the line reads
-  done_good : (g : GroupDef) (k : ℕ) (l : DoneLine) → Contains c.groups g → slice_get g.dones k ≡ Some l → IsGoodPiece (answer source) (lowered c) (done_wire l)
+  done_good : (g : GroupDef) (k : ℕ) (l : DoneLine) → Contains c.groups g → slice_get g.dones k ≡ Some l → IsGoodPiece low (extended add c) (done_wire l)
   done_good g k l of at =
       let item = done_item c g k l of at in
       let names = done_names_known AnyName source plain.keeps here.0 c here.1 g of k l at in
       let all = at_item source tree plain c in_design (TheDone g (take k g.dones) l) item in
       let reads = done_reads_sources AnyName source plain.keeps here.0 c here.1 g of k l at in
       record {
-        guard_known = all_known source c (option_ports l.guard) names.guard;
-        guard_agrees = option_kept source c l.guard names.guard (all 3 C1 (omega arith)).guard;
-        guard_sources = all_sources source c (option_ports l.guard) reads.0;
-        known = all_known source c (source_ports l.src) names.src;
+        guard_known = all_known add primitive source c (option_ports l.guard) names.guard;
+        guard_agrees = option_kept add primitive source c l.guard names.guard (all 3 C1 (omega arith)).guard;
+        guard_sources = all_sources add primitive source c (option_ports l.guard) reads.0;
+        known = all_known add primitive source c (source_ports l.src) names.src;
         literal = (all 3 C1 (omega arith)).literal;
-        width = source_width_kept source c l.src names.src ∙ (all 6 C1 (omega arith) (all 7 C1 (omega arith))).1;
-        sources = all_sources source c (source_ports l.src) reads.1;
+        width = source_width_kept add primitive source c l.src names.src ∙ (all 6 C1 (omega arith) (all 7 C1 (omega arith))).1;
+        sources = all_sources add primitive source c (source_ports l.src) reads.1;
       }
 
-  group_good : (g : GroupDef) → Contains c.groups g → Each (IsGoodPiece (answer source) (lowered c)) (group_pieces (plan_of c) g)
+  group_good : (g : GroupDef) → Contains c.groups g → Each (IsGoodPiece low (extended add c)) (group_pieces (plan_of c) g)
   group_good g of = (
-    good_from_bits (answer source) (lowered c) (acts_wire (plan_of c) g) (acts_bits g of),
-    each_map (IsGoodPiece (answer source) (lowered c)) done_wire g.dones
-        (each_from (λ (l : DoneLine). IsGoodPiece (answer source) (lowered c) (done_wire l)) g.dones (λ l has.
+    good_from_bits low (extended add c) (acts_wire (plan_of c) g) (acts_bits g of),
+    each_map (IsGoodPiece low (extended add c)) done_wire g.dones
+        (each_from (λ (l : DoneLine). IsGoodPiece low (extended add c) (done_wire l)) g.dones (λ l has.
         let k = place_of g.dones l has in done_good g k.0 l of k.1)),
   )
 
   -- every piece keeps the rules
-  pub pieces_good : Each (IsGoodPiece (answer source) (lowered c)) (control_pieces c)
+  pub pieces_good : Each (IsGoodPiece low (extended add c)) (control_pieces c)
   pieces_good =
-      let Good : Piece → Type 0 = λ p. IsGoodPiece (answer source) (lowered c) p in
+      let Good : Piece → Type 0 = λ p. IsGoodPiece low (extended add c) p in
       each_append Good front (plan_pieces (plan_of c))
       (each_append Good (instance_pieces (plan_of c)) group_part
-      (each_weaker (IsBitPiece Bit) Good (λ p is. good_from_bits (answer source) (lowered c) p is) (instance_pieces (plan_of c)) instance_bits)
+      (each_weaker (IsBitPiece Bit) Good (λ p is. good_from_bits low (extended add c) p is) (instance_pieces (plan_of c)) instance_bits)
       (each_flat_map Good (group_pieces (plan_of c)) c.groups (each_from (λ (g : GroupDef). Each Good (group_pieces (plan_of c) g)) c.groups group_good)))
-      (each_weaker (IsBitPiece Bit) Good (λ p is. good_from_bits (answer source) (lowered c) p is) (plan_pieces (plan_of c)) plan_bits)
+      (each_weaker (IsBitPiece Bit) Good (λ p is. good_from_bits low (extended add c) p is) (plan_pieces (plan_of c)) plan_bits)

@@ -23,7 +23,7 @@ use Rattle.cal_lower.proofs.PartLemmas.{EachEnabled, EachEnabledIn, EachTested, 
 
 -- a plan that takes no row names no actor
 mutual
-  over_each_enabled : (P : Actor → Type 0) (p : Plan) → is_over p ≡ true → EachEnabled P p
+  pub over_each_enabled : (P : Actor → Type 0) (p : Plan) → is_over p ≡ true → EachEnabled P p
   over_each_enabled P (Enables actor) over = absurd (cc)
   over_each_enabled P (InTurn ps) over = over_each_enabled_in P ps over
   over_each_enabled P (AtOnce ps) over = over_each_enabled_in P ps over
@@ -36,7 +36,7 @@ mutual
       let each = and_parts (is_over p) (are_over ps) over in (over_each_enabled P p each.0, over_each_enabled_in P ps each.1)
 
 mutual
-  over_each_tested : (P : Option Actor → Type 0) (p : Plan) → is_over p ≡ true → EachTested P p
+  pub over_each_tested : (P : Option Actor → Type 0) (p : Plan) → is_over p ≡ true → EachTested P p
   over_each_tested P (Enables actor) over = tt
   over_each_tested P (InTurn ps) over = over_each_tested_in P ps over
   over_each_tested P (AtOnce ps) over = over_each_tested_in P ps over
@@ -116,22 +116,22 @@ acts_enabled true false enabled done none = refl
 acts_enabled true true enabled done none = absurd (cc)
 
 module _ (plan : Plan) (view : View) (go : ℕ → Bool) (height : ℕ) (b : Bits) (are : AreControl plan view go height b) where
-  abbrev Off : ℕ → Type 0
+  abbrev pub Off : ℕ → Type 0
   Off t = is_over plan ≡ false → IsOff (b.tokens t) 0 plan
 
   -- the registers and tokens before row t
-  record IsResting (t : ℕ) (done : Bool) : Type 0 where
-    busy : b.busy t ≡ false
-    over : b.over t ≡ done
-    off : Off t
+  pub record IsResting (t : ℕ) (done : Bool) : Type 0 where
+    pub busy : b.busy t ≡ false
+    pub over : b.over t ≡ done
+    pub off : Off t
 
-  record IsRunning (t : ℕ) (p : Plan) : Type 0 where
-    busy : b.busy t ≡ true
-    over : b.over t ≡ false
-    more : is_over plan ≡ false
-    leaves : Leaves (b.tokens t) 0 plan p
+  pub record IsRunning (t : ℕ) (p : Plan) : Type 0 where
+    pub busy : b.busy t ≡ true
+    pub over : b.over t ≡ false
+    pub more : is_over plan ≡ false
+    pub leaves : Leaves (b.tokens t) 0 plan p
 
-  abbrev Stands : ℕ → Progress → Type 0
+  abbrev pub Stands : ℕ → Progress → Type 0
   Stands t Waits = IsResting t false
   Stands t (Runs p) = IsRunning t p
   Stands t Ends = IsResting t true
@@ -238,7 +238,7 @@ module _ (plan : Plan) (view : View) (go : ℕ → Bool) (height : ℕ) (b : Bit
   stands_next t within (Runs p) r = let now : t < height = omega arith in from_running t p within (not_while_running t p now r) r
   stands_next t within Ends r = let now : t < height = omega arith in waits t within (not_while_done t now r) r.busy r.off
 
-  stands_at : (t : ℕ) → t < height → Stands t (progress_at view go plan t)
+  pub stands_at : (t : ℕ) → t < height → Stands t (progress_at view go plan t)
   stands_at zero within = record { busy = (are.idle within).0; over = (are.idle within).1; off = are.off within }
   stands_at (suc t) within =
       let before : t < height = omega arith in stands_next t within (progress_at view go plan t) (stands_at t before)

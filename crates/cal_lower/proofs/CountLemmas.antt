@@ -10,11 +10,12 @@ use Rattle.cal_ast.specs.Holes.{ActivityRule, is_rule_of, rules_of}
 use Rattle.cal_ast.specs.NoInvoke.{IsPlainDesign}
 use Rattle.cal_ast.specs.Plain.{HasPlainTree}
 use Rattle.cal_ast.specs.Tree.{GroupDef, Component, Design}
-use Rattle.cal_lower.specs.Lowered.{lowered, rule_of, rules_from}
+use Rattle.cal_lower.specs.Added.{Additions, extended}
+use Rattle.cal_lower.specs.Lowered.{rule_of, rules_from}
 use Rattle.cal_lower.proofs.ListLemmas.{Each, each_at}
-use Rattle.cal_lower.proofs.LoweredLemmas.{lowered_name}
+use Rattle.cal_lower.proofs.ExtendedLemmas.{extended_name}
 use Rattle.cal_lower.proofs.PieceLemmas.{same_name, other_name}
-use Rattle.cal_lower.proofs.RuleLemmas.{later_name, lowered_at, is_of}
+use Rattle.cal_lower.proofs.RuleLemmas.{later_name, extended_at, is_of}
 use Rattle.cal_lower.proofs.SourceLemmas.{GroupsApart, groups_apart}
 
 module _ (test : ActivityRule → Bool) where
@@ -92,14 +93,14 @@ module _ (test : ActivityRule → Bool) where
       subst (λ j. Fails j x) here (fails (suc m) x (λ same. other (let less : m ≡ k = omega (arith, same) in less)) there))
       (ap (λ j. length (filter test (of_groups j c c.groups))) (sym count) ∙ one)
 
-module _ (source : Design) (tree : HasPlainTree source) (plain : IsPlainDesign source) where
+module _ (add : Additions) (source : Design) (tree : HasPlainTree source) (plain : IsPlainDesign source) where
   -- a rule is of the group where its component and its group have the names
   tells_of : (m : ℕ) (d c : Component) (name : Text) → slice_get source m ≡ Some d → (h : GroupDef)
-      → is_of source plain c name (rule_of (0 + m) d h) ≡ (bytes_eq d.name c.name && bytes_eq h.name name)
+      → is_of add source plain c name (rule_of (0 + m) d h) ≡ (bytes_eq d.name c.name && bytes_eq h.name name)
   tells_of m d c name at h =
       let number : 0 + m ≡ m = omega arith in
-      ap (λ (o : Option Component). is_rule_of o (lowered c) name (rule_of (0 + m) d h)) (ap (slice_get (map lowered source)) number ∙ lowered_at source plain m d at)
-      ∙ ap₂ (λ (x y : Text). bytes_eq x y && bytes_eq h.name name) (lowered_name d) (lowered_name c)
+      ap (λ (o : Option Component). is_rule_of o (extended add c) name (rule_of (0 + m) d h)) (ap (slice_get (map (extended add) source)) number ∙ extended_at add source plain m d at)
+      ∙ ap₂ (λ (x y : Text). bytes_eq x y && bytes_eq h.name name) (extended_name add d) (extended_name add c)
 
   names_differ : (m k : ℕ) (d c : Component) → m ≢ k → slice_get source m ≡ Some d → slice_get source k ≡ Some c → d.name ≢ c.name
   names_differ m k d c other one there same = elim (cases_order m k) [
@@ -109,17 +110,17 @@ module _ (source : Design) (tree : HasPlainTree source) (plain : IsPlainDesign s
   ]
 
   each_fails : (m : ℕ) (d c : Component) (name : Text) → d.name ≢ c.name → slice_get source m ≡ Some d → (gs : List GroupDef)
-      → Each (λ (h : GroupDef). is_of source plain c name (rule_of (0 + m) d h) ≡ false) gs
+      → Each (λ (h : GroupDef). is_of add source plain c name (rule_of (0 + m) d h) ≡ false) gs
   each_fails m d c name differ at [] = tt
   each_fails m d c name differ at (h ∷ gs) =
       (tells_of m d c name at h ∙ and_left (bytes_eq d.name c.name) (bytes_eq h.name name) (other_name d.name c.name differ), each_fails m d c name differ at gs)
 
   -- one rule
   pub one_rule : (k : ℕ) (c : Component) (g : GroupDef) → slice_get source k ≡ Some c → Contains c.groups g
-      → length (rules_of (map lowered source) (rules_from 0 source) (lowered c) g.name) ≡ 1
+      → length (rules_of (map (extended add) source) (rules_from 0 source) (extended add c) g.name) ≡ 1
   one_rule k c g at has =
-      one_in (is_of source plain c g.name) 0 source k c at
+      one_in (is_of add source plain c g.name) 0 source k c at
       (λ m d other there. each_fails m d c g.name (names_differ m k d c other there at) there d.groups)
-      (one_passes (is_of source plain c g.name) (0 + k) c g
+      (one_passes (is_of add source plain c g.name) (0 + k) c g
       (λ h. tells_of k c c g.name at h ∙ ap (λ b. b && bytes_eq h.name g.name) (same_name c.name))
       c.groups (groups_apart source tree plain c (Contains-at source k c at)) has)

@@ -7,6 +7,7 @@ pub mod OffLemmas
 pub mod PlaceLemmas
 pub mod PlainNameLemmas
 pub mod LocalLemmas
+pub mod ExtendedLemmas
 pub mod LoweredLemmas
 pub mod PinLemmas
 pub mod RunLemmas
@@ -15,7 +16,10 @@ pub mod RuleLemmas
 pub mod PieceLemmas
 pub mod ShownLemmas
 pub mod ControlLemmas
+pub mod GroupActsLemmas
 pub mod ActsLemmas
+pub mod TokenLemmas
+pub mod RunKeptLemmas
 pub mod KeepLemmas
 pub mod ShapeLemmas
 pub mod KnownLemmas
@@ -28,6 +32,7 @@ pub mod OverLemmas
 pub mod ConditionLemmas
 pub mod ControlGoodLemmas
 pub mod RulesKeptLemmas
+pub mod TokenGoodLemmas
 pub mod NextLemmas
 pub mod StableLemmas
 pub mod GrownLemmas
@@ -36,6 +41,7 @@ pub mod CountLemmas
 pub mod ActsReadLemmas
 pub mod RankLemmas
 pub mod PlacedLemmas
+pub mod GuardedLemmas
 pub mod AnswerReadLemmas
 pub mod LoopLemmas
 pub mod PushLemmas

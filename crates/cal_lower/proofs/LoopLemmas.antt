@@ -12,8 +12,10 @@ use Rattle.cal_ast.specs.Rules.{HasNoLoops}
 use Rattle.cal_ast.specs.Tree.{PortName, own, Component, Design}
 use Rattle.cal_ast.specs.Wires.{ReadsByAssignment, ReadsByDone, ReadsByGo, ReadsByPrimitive, CrossesCell, ReadsPort, ByAssignment, ByDone, ByGo, ByPrimitive, ByComponent, Reaches, AtOnce, Over, ReadsAlong, HasNoLoop}
 use Rattle.cal_lower.specs.Lowered.{HasFewParts, lowered, rules_from}
-use Rattle.cal_lower.proofs.AnswerReadLemmas.{Stands, Onward, whole, built, Apart, enters_on, enters_piece, set_on, done_line_on, go_on, primitive_on, part_on, read_falls}
-use Rattle.cal_lower.proofs.LoweredLemmas.{HasPlace}
+use Rattle.cal_lower.proofs.AnswerReadLemmas.{Stands, Onward, Apart, enters_on, enters_piece, set_on, done_line_on, go_on, primitive_on, part_on, read_falls}
+use Rattle.cal_lower.proofs.ExtendedLemmas.{HasPlace}
+use Rattle.cal_lower.proofs.GuardedLemmas.{whole, built}
+use Rattle.cal_lower.proofs.LoweredLemmas.{tokens}
 use Rattle.cal_lower.proofs.RankLemmas.{Falls, falls_on, falls_not}
 
 -- ---- what is reached
@@ -41,10 +43,10 @@ module _ (design : Design) where
 
 module _ (source : Design) (tree : HasPlainTree source) (plain : IsPlainDesign source) (all_few : All HasFewParts source) where
   abbrev answer : Design
-  answer = whole source tree plain all_few
+  answer = whole tokens source
 
   abbrev answered : Component → Component
-  answered = built source tree plain all_few
+  answered = built tokens source
 
   -- ---- over a port of the source
 
@@ -126,7 +128,7 @@ module _ (source : Design) (tree : HasPlainTree source) (plain : IsPlainDesign s
         reaches_no_itself source c s (clear c has) (reach_on (answered c) s s whole_round c has refl s (inl (refl, place)) place)
   ]
 
-  no_loop_in : (c : Component) → Contains source c → HasNoLoop answer (answered c)
+  pub no_loop_in : (c : Component) → Contains source c → HasNoLoop answer (answered c)
   no_loop_in c has first others loop = no_round c has first (along_reaches answer (answered c) first others first loop.along)
 
   pub no_loops : HasNoLoops answer

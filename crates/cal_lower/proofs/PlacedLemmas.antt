@@ -35,7 +35,7 @@ use Rattle.cal_lower.proofs.ConditionLemmas.{section_ports}
 use Rattle.cal_lower.proofs.ControlLemmas.{enabled_weaker}
 use Rattle.cal_lower.proofs.EndReadLemmas.{bit_weaker, ReadsLater, IsPlanPiece, OfToken, OfEnd, part_placed}
 use Rattle.cal_lower.proofs.ListLemmas.{Each, each_append, each_from, each_weaker, each_map, each_flat_map, each_both}
-use Rattle.cal_lower.proofs.LoweredLemmas.{HasPlace, place_found}
+use Rattle.cal_lower.proofs.ExtendedLemmas.{HasPlace, place_found}
 use Rattle.cal_lower.proofs.PartLemmas.{EachEnabled}
 use Rattle.cal_lower.proofs.RankLemmas.{rank, IsRegisterName, token_register, busy_register, over_register, shown_small, Shows, Takes, Falls, ByRank, ByEnd}
 use Rattle.cal_lower.proofs.SourceLemmas.{IsOwnGroup, plan_is_own}

@@ -4,7 +4,7 @@ use Rattle.std.specs.Prelude.{All, Contains, flat_map, codes, decimal, if◌then
 use Rattle.std.specs.List.{list_all}
 use Rattle.std.proofs.lemmas.Bool.{cases_Bool, cond-true, cond-false}
 use Rattle.std.proofs.lemmas.Fmt.{decimal_by_steps, decimal_injective}
-use Rattle.std.proofs.lemmas.List.Elements.{All-nil, All-cons, All-append, All-push, All-contains}
+use Rattle.std.proofs.lemmas.List.Elements.{All-nil, All-cons, All-append, All-head, All-push, All-tail, All-contains}
 use Rattle.hw_names.proofs.NameLemmas.{HasNoDot-from_test}
 use Rattle.hw_names.specs.Name.{Text, dot, HasNoDot, IsPlain}
 use Rattle.hw_prims.specs.Table.{Pin, pin}
@@ -19,12 +19,14 @@ use Rattle.cal_ast.specs.Tree.{CellDef, DoneLine, GroupDef, Component, Design}
 use Rattle.cal_group.specs.Laws.{IsPlainGroup, AreGroupsPlain, HasPlainGroups}
 use Rattle.cal_token.specs.Tokens.{Going, Starting, Ended, Again, size}
 use Rattle.cal_walk.specs.Left.{is_over}
+use Rattle.cal_lower.specs.Added.{Additions, extended}
 use Rattle.cal_lower.specs.Laws.{LoweringsArePlain}
-use Rattle.cal_lower.specs.Lowered.{done_wire, group_pieces, instance_pieces, plan_pieces, control_pieces, lowered, HasFewParts}
+use Rattle.cal_lower.specs.Lowered.{done_wire, group_pieces, instance_pieces, plan_pieces, control_pieces, HasFewParts}
 use Rattle.cal_lower.specs.Parts.{part_pieces}
 use Rattle.cal_lower.specs.Pieces.{Piece, piece_cell, done_name, start_name, is_set}
+use Rattle.cal_lower.proofs.ExtendedLemmas.{answer, extended_ins, extended_outs, extended_cells, added_cells}
 use Rattle.cal_lower.proofs.ListLemmas.{Each, each_append, each_from, each_map, each_flat_map}
-use Rattle.cal_lower.proofs.LoweredLemmas.{lowered_ins, lowered_outs, lowered_cells, added_cells}
+use Rattle.cal_lower.proofs.LoweredLemmas.{tokens}
 use Rattle.cal_lower.proofs.PlaceLemmas.{Place, OfEnd, OfToken, place_name, number, plan_named}
 
 -- ---- texts
@@ -32,7 +34,7 @@ use Rattle.cal_lower.proofs.PlaceLemmas.{Place, OfEnd, OfToken, place_name, numb
 abbrev IsNoDot : ℕ → Type 0
 IsNoDot byte = byte ≢ dot
 
-decimal_no_dot : (n : ℕ) → n < 2 ^ 64 → HasNoDot (decimal n)
+pub decimal_no_dot : (n : ℕ) → n < 2 ^ 64 → HasNoDot (decimal n)
 decimal_no_dot n small = decimal_by_steps (λ k digits. HasNoDot digits) one more n small
   where
     one : (k : ℕ) → k < 10 → HasNoDot ((48 + k) ∷ [])
@@ -45,11 +47,11 @@ abbrev starts_plain : Text → Bool
 starts_plain [] = false
 starts_plain (c ∷ cs) = list_all (λ byte. not (byte == dot)) (c ∷ cs)
 
-plain_after : (front rest : Text) → starts_plain front ≡ true → HasNoDot rest → IsPlain (front ++ rest)
+pub plain_after : (front rest : Text) → starts_plain front ≡ true → HasNoDot rest → IsPlain (front ++ rest)
 plain_after [] rest e more = absurd (cc)
 plain_after (c ∷ cs) rest e more = (λ empty. cc, All-append IsNoDot (c ∷ cs) rest (HasNoDot-from_test (c ∷ cs) e) more)
 
-plain_text : (text : Text) → starts_plain text ≡ true → IsPlain text
+pub plain_text : (text : Text) → starts_plain text ≡ true → IsPlain text
 plain_text [] e = absurd (cc)
 plain_text (c ∷ cs) e = (λ empty. cc, HasNoDot-from_test (c ∷ cs) e)
 
@@ -65,9 +67,11 @@ place_plain (OfToken (Again k)) small = plain_after (codes "c$turn") (decimal k)
 abbrev HasPlainName : Piece → Type 0
 HasPlainName p = IsPlain p.name
 
-all_plain : (ps : List Piece) → Each HasPlainName ps → All IsPlainCell (map piece_cell ps)
+pub all_plain : (ps : List Piece) → Each HasPlainName ps → All IsPlainCell (map piece_cell ps)
 all_plain [] each = All-nil IsPlainCell
 all_plain (p ∷ ps) each = All-cons IsPlainCell (piece_cell p) (map piece_cell ps) each.0 (all_plain ps each.1)
+
+-- ---- additions
 
 plain_with_pin : (name : Text) (pins : List Pin) → IsPlain name → All IsPlainPin pins → All IsPlainPin (with_pin name pins)
 plain_with_pin name pins plain all = by (has_pin pins name)
@@ -79,6 +83,36 @@ plain_with_pin name pins plain all = by (has_pin pins name)
 plain_by : (b : Bool) (written implied : List Pin) → All IsPlainPin written → All IsPlainPin implied → All IsPlainPin (if b then written else implied)
 plain_by true written implied one other = one
 plain_by false written implied one other = other
+
+module _ (add : Additions) (c : Component) (added : is_bare c ≡ false → All IsPlainCell (add.cells c)) where
+  added_plain : All IsPlainCell (added_cells add c)
+  added_plain =
+      let A : List CellDef → Type 0 = λ cells. All IsPlainCell cells in
+      elim (cases_Bool (is_bare c)) [
+        | inl bare ↦ subst A (sym (cond-true (is_bare c) [] (add.cells c) bare)) (All-nil IsPlainCell)
+        | inr full ↦ subst A (sym (cond-false (is_bare c) [] (add.cells c) full)) (added full)
+      ]
+
+  extended_plain : IsPlainComponent c → IsPlainComponent (extended add c)
+  extended_plain is =
+      let P : List Pin → Type 0 = λ pins. All IsPlainPin pins in
+      record {
+        ins = subst P (sym (extended_ins add c))
+            (plain_by (is_bare c) c.ins (with_pin (codes "go") c.ins) is.ins (plain_with_pin (codes "go") c.ins (plain_text (codes "go") refl) is.ins));
+        outs = subst P (sym (extended_outs add c))
+            (plain_by (is_bare c) c.outs (with_pin (codes "done") c.outs) is.outs (plain_with_pin (codes "done") c.outs (plain_text (codes "done") refl) is.outs));
+        cells = subst (λ (cells : List CellDef). All IsPlainCell cells) (sym (extended_cells add c)) (All-append IsPlainCell c.cells (added_cells add c) is.cells added_plain);
+      }
+
+pub plain_kept : (add : Additions) (source : Design) → HasPlainTree source → ((c : Component) → Contains source c → is_bare c ≡ false → All IsPlainCell (add.cells c))
+    → HasPlainTree (answer add source)
+plain_kept add [] tree each = All-nil IsPlainComponent
+plain_kept add (c ∷ cs) tree each =
+    All-cons IsPlainComponent (extended add c) (answer add cs)
+    (extended_plain add c (each c (Contains-here c cs)) (All-head IsPlainComponent c cs tree))
+    (plain_kept add cs (All-tail IsPlainComponent c cs tree) (λ d has. each d (Contains-there c cs d has)))
+
+-- ---- the lowering to registers of one bit
 
 module _ (source : Design) (plain : IsPlainDesign source) (groups : HasPlainGroups source) (all_few : All HasFewParts source) (c : Component) (in_design : Contains source c) where
   group_plain : (g : GroupDef) → Contains c.groups g → Each HasPlainName (group_pieces (plan_of c) g)
@@ -92,7 +126,7 @@ module _ (source : Design) (plain : IsPlainDesign source) (groups : HasPlainGrou
             subst (λ (name : Text). IsPlain (done_name name)) (sym (done_names_known AnyName source plain.keeps n.0 c n.1 g of k.0 d k.1).group) done)),
       )
 
-  pieces_plain : Each HasPlainName (control_pieces c)
+  pub pieces_plain : Each HasPlainName (control_pieces c)
   pieces_plain =
       let group_part : List Piece = flat_map (group_pieces (plan_of c)) c.groups in
       let plan_part : List Piece = part_pieces 0 (plan_of c) (is_set start_name) in
@@ -109,31 +143,7 @@ module _ (source : Design) (plain : IsPlainDesign source) (groups : HasPlainGrou
       (each_flat_map HasPlainName (group_pieces (plan_of c)) c.groups (each_from (λ (g : GroupDef). Each HasPlainName (group_pieces (plan_of c) g)) c.groups group_plain)))
       plan
 
-  added_plain : All IsPlainCell (added_cells c)
-  added_plain =
-      let A : List Piece → Type 0 = λ ps. All IsPlainCell (map piece_cell ps) in
-      elim (cases_Bool (is_bare c)) [
-        | inl bare ↦ subst A (sym (cond-true (is_bare c) [] (control_pieces c) bare)) (All-nil IsPlainCell)
-        | inr full ↦ subst A (sym (cond-false (is_bare c) [] (control_pieces c) full)) (all_plain (control_pieces c) pieces_plain)
-      ]
-
-  lowered_plain : IsPlainComponent c → IsPlainComponent (lowered c)
-  lowered_plain is =
-      let P : List Pin → Type 0 = λ pins. All IsPlainPin pins in
-      record {
-        ins = subst P (sym (lowered_ins c))
-            (plain_by (is_bare c) c.ins (with_pin (codes "go") c.ins) is.ins (plain_with_pin (codes "go") c.ins (plain_text (codes "go") refl) is.ins));
-        outs = subst P (sym (lowered_outs c))
-            (plain_by (is_bare c) c.outs (with_pin (codes "done") c.outs) is.outs (plain_with_pin (codes "done") c.outs (plain_text (codes "done") refl) is.outs));
-        cells = subst (λ (cells : List CellDef). All IsPlainCell cells) (sym (lowered_cells c)) (All-append IsPlainCell c.cells (added_cells c) is.cells added_plain);
-      }
-
-all_mapped : (f : Component → Component) (cs : Design) → ((c : Component) → Contains cs c → IsPlainComponent (f c)) → HasPlainTree (map f cs)
-all_mapped f [] each = All-nil IsPlainComponent
-all_mapped f (c ∷ cs) each =
-    All-cons IsPlainComponent (f c) (map f cs) (each c (Contains-here c cs)) (all_mapped f cs (λ d has. each d (Contains-there c cs d has)))
-
 pub lowerings_are_plain : LoweringsArePlain
 lowerings_are_plain source answer rules tree groups plain is =
     subst (λ (design : Design). HasPlainTree design) (sym is.design)
-    (all_mapped lowered source (λ c has. lowered_plain source plain groups is.few c has (All-contains IsPlainComponent source c tree has)))
+    (plain_kept tokens source tree (λ c has full. all_plain (control_pieces c) (pieces_plain source plain groups is.few c has)))

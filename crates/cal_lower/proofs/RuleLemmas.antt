@@ -16,9 +16,10 @@ use Rattle.cal_ast.specs.NoInvoke.{IsPlainDesign}
 use Rattle.cal_ast.specs.Ports.{is_bare}
 use Rattle.cal_ast.specs.Rules.{C1}
 use Rattle.cal_ast.specs.Tree.{PortName, GroupDef, Component, Design}
-use Rattle.cal_lower.specs.Lowered.{lowered, rule_of, rules_from}
+use Rattle.cal_lower.specs.Added.{Additions, extended}
+use Rattle.cal_lower.specs.Lowered.{rule_of, rules_from}
 use Rattle.cal_lower.specs.Pieces.{acts_name, is_set, never}
-use Rattle.cal_lower.proofs.LoweredLemmas.{lowered_name}
+use Rattle.cal_lower.proofs.ExtendedLemmas.{extended_name}
 use Rattle.cal_lower.proofs.SourceLemmas.{Contains-before}
 
 -- what a rule is of, among those of components that are counted from n
@@ -75,6 +76,10 @@ first_guard test (r ∷ rules) when same rule has passes =
     by further true e = ap (λ (w : GuardTree PortName). Some w) (same r (Contains-here r rules) e)
     by further false e = further e
 
+-- the guard of a group of this name
+abbrev pub guard_for : Component → Text → GuardTree PortName
+guard_for c name = if is_bare c then never else is_set (acts_name name)
+
 module _ (source : Design) (plain : IsPlainDesign source) where
   -- components of one name are one
   pub later_name : (m k : ℕ) (c d : Component) → m < k → slice_get source m ≡ Some c → slice_get source k ≡ Some d → c.name ≡ d.name → ⊥
@@ -91,14 +96,12 @@ module _ (source : Design) (plain : IsPlainDesign source) where
     | inr (inr more) ↦ absurd (later_name k m d c more other one (sym same))
   ]
 
-  abbrev pub guard_for : Component → Text → GuardTree PortName
-  guard_for c name = if is_bare c then never else is_set (acts_name name)
-
-  pub lowered_at : (k : ℕ) (c : Component) → slice_get source k ≡ Some c → slice_get (map lowered source) k ≡ Some (lowered c)
-  lowered_at k c at = slice_get-map lowered source k ∙ ap (option_map lowered) at
+module _ (add : Additions) (source : Design) (plain : IsPlainDesign source) where
+  pub extended_at : (k : ℕ) (c : Component) → slice_get source k ≡ Some c → slice_get (map (extended add) source) k ≡ Some (extended add c)
+  extended_at k c at = slice_get-map (extended add) source k ∙ ap (option_map (extended add)) at
 
   abbrev pub is_of : Component → Text → ActivityRule → Bool
-  is_of c name rule = is_rule_of (slice_get (map lowered source) rule.comp) (lowered c) name rule
+  is_of c name rule = is_rule_of (slice_get (map (extended add) source) rule.comp) (extended add c) name rule
 
   -- a rule of the group has the group's guard
   its_guard : (k : ℕ) (c : Component) (name : Text) → slice_get source k ≡ Some c → (rule : ActivityRule) → Contains (rules_from 0 source) rule
@@ -107,23 +110,23 @@ module _ (source : Design) (plain : IsPlainDesign source) where
       let r = from_rules 0 source rule has in
       let number : 0 + r.place ≡ r.place = omega arith in
       let comp : rule.comp ≡ r.place = ap (λ (x : ActivityRule). x.comp) r.is ∙ number in
-      let found : slice_get (map lowered source) rule.comp ≡ Some (lowered r.c) = ap (slice_get (map lowered source)) comp ∙ lowered_at r.place r.c r.at in
-      let test : (bytes_eq (lowered r.c).name (lowered c).name && bytes_eq rule.group name) ≡ true =
-      sym (ap (λ (o : Option Component). is_rule_of o (lowered c) name rule) found) ∙ passes in
-      let parts = and_parts (bytes_eq (lowered r.c).name (lowered c).name) (bytes_eq rule.group name) test in
-      let names : r.c.name ≡ c.name = sym (lowered_name r.c) ∙ (bytes_eq-Decides (lowered r.c).name (lowered c).name).0 parts.0 ∙ lowered_name c in
-      let one : r.c ≡ c = same_component r.place k r.c c r.at at names in
+      let found : slice_get (map (extended add) source) rule.comp ≡ Some (extended add r.c) = ap (slice_get (map (extended add) source)) comp ∙ extended_at r.place r.c r.at in
+      let test : (bytes_eq (extended add r.c).name (extended add c).name && bytes_eq rule.group name) ≡ true =
+      sym (ap (λ (o : Option Component). is_rule_of o (extended add c) name rule) found) ∙ passes in
+      let parts = and_parts (bytes_eq (extended add r.c).name (extended add c).name) (bytes_eq rule.group name) test in
+      let names : r.c.name ≡ c.name = sym (extended_name add r.c) ∙ (bytes_eq-Decides (extended add r.c).name (extended add c).name).0 parts.0 ∙ extended_name add c in
+      let one : r.c ≡ c = same_component source plain r.place k r.c c r.at at names in
       let group : r.g.name ≡ name = sym (ap (λ (x : ActivityRule). x.group) r.is) ∙ (bytes_eq-Decides rule.group name).0 parts.1 in
       ap (λ (x : ActivityRule). x.when) r.is ∙ ap (λ (x : Component). guard_for x r.g.name) one ∙ ap (guard_for c) group
 
-  pub when_lowered : (k : ℕ) (c : Component) (g : GroupDef) → slice_get source k ≡ Some c → Contains c.groups g
-      → when_of (map lowered source) (rules_from 0 source) (lowered c) g.name ≡ Some (guard_for c g.name)
-  when_lowered k c g at has =
+  pub when_extended : (k : ℕ) (c : Component) (g : GroupDef) → slice_get source k ≡ Some c → Contains c.groups g
+      → when_of (map (extended add) source) (rules_from 0 source) (extended add c) g.name ≡ Some (guard_for c g.name)
+  when_extended k c g at has =
       let number : 0 + k ≡ k = omega arith in
-      let found : slice_get (map lowered source) (0 + k) ≡ Some (lowered c) = ap (slice_get (map lowered source)) number ∙ lowered_at k c at in
-      let here : (bytes_eq (lowered c).name (lowered c).name && bytes_eq g.name g.name) ≡ true =
-      and_from (bytes_eq (lowered c).name (lowered c).name) (bytes_eq g.name g.name)
-      ((bytes_eq-Decides (lowered c).name (lowered c).name).1 refl) ((bytes_eq-Decides g.name g.name).1 refl) in
+      let found : slice_get (map (extended add) source) (0 + k) ≡ Some (extended add c) = ap (slice_get (map (extended add) source)) number ∙ extended_at k c at in
+      let here : (bytes_eq (extended add c).name (extended add c).name && bytes_eq g.name g.name) ≡ true =
+      and_from (bytes_eq (extended add c).name (extended add c).name) (bytes_eq g.name g.name)
+      ((bytes_eq-Decides (extended add c).name (extended add c).name).1 refl) ((bytes_eq-Decides g.name g.name).1 refl) in
       let passes : is_of c g.name (rule_of (0 + k) c g) ≡ true =
-      ap (λ (o : Option Component). is_rule_of o (lowered c) g.name (rule_of (0 + k) c g)) found ∙ here in
+      ap (λ (o : Option Component). is_rule_of o (extended add c) g.name (rule_of (0 + k) c g)) found ∙ here in
       first_guard (is_of c g.name) (rules_from 0 source) (guard_for c g.name) (its_guard k c g.name at) (rule_of (0 + k) c g) (has_rule 0 source k c g at has) passes

@@ -23,7 +23,7 @@ use Rattle.cal_ast.specs.Rules.{C1, Keeps, all_rules}
 use Rattle.cal_ast.specs.Sides.{IsDestination}
 use Rattle.cal_ast.specs.Tree.{CellDef, Assignment, DoneLine, GroupDef, Statement, Enable, Seq, Par, If, While, Invoke, Statements, NoStatements, MoreStatements, ControlSection, Absent, Empty, Body, Component, Design}
 use Rattle.cal_lower.proofs.ListLemmas.{Each, each_append, each_left, each_right, each_from}
-use Rattle.cal_lower.proofs.LoweredLemmas.{find_left, find_none}
+use Rattle.cal_lower.proofs.ExtendedLemmas.{find_left, find_none}
 use Rattle.cal_lower.proofs.PartLemmas.{EachEnabled, EachEnabledIn, EachTested, EachTestedIn}
 
 -- an earlier element stands among those before a later one

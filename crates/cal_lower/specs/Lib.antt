@@ -1,6 +1,7 @@
 pub mod Pieces
 pub mod Parts
 pub mod Lowered
+pub mod Added
 pub mod Laws
 pub mod Labels
 pub mod Statements

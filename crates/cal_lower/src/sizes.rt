@@ -13,7 +13,7 @@ use hw_bits::Memory;
 
 /// Whether the statement takes no row.
 #[cycle(is_over)]
-pub(crate) fn is_over(control: &Control) -> bool
+pub fn is_over(control: &Control) -> bool
     ensures { (names : List Text) (item : ℕ) → result ≡ is_over (plan_at item (statement_tree names control.now)) }
 {
     match control {
@@ -51,7 +51,7 @@ pub(crate) fn after(number: u64) -> Result<u64, Memory>
 
 /// The first number after those of the parts of a statement, the first of which has this one.
 #[cycle(after_part)]
-pub(crate) fn after_part(number: u64, control: &Control) -> Result<u64, Memory>
+pub fn after_part(number: u64, control: &Control) -> Result<u64, Memory>
     ensures { (names : List Text) (item : ℕ) → IfOk result (λ next. next ≡ number + size (plan_at item (statement_tree names control.now))) }
 {
     let inner = after(number)?;
