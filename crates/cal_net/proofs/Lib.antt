@@ -3,10 +3,12 @@ pub mod WrittenLists
 pub mod WrittenNames
 pub mod WrittenGuards
 pub mod WrittenPieces
+pub mod WrittenStates
 pub mod WrittenInvokes
 pub mod WrittenWires
 pub mod WireLemmas
 pub mod ShapeLemmas
+pub mod FewLemmas
 pub mod MadeLemmas
 pub mod CellLemmas
 pub mod MemoryLemmas

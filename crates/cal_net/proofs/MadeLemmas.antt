@@ -18,9 +18,9 @@ use Rattle.cal_group.proofs.PlainNameLemmas.{expanded_is_plain_tree}
 use Rattle.cal_group.specs.Expanded.{expanded_design}
 use Rattle.cal_group.specs.Removed.{removed_design}
 use Rattle.cal_group.specs.Ruling.{rule_trees}
-use Rattle.cal_lower.proofs.HoleLemmas.{lowerings_are_holes}
-use Rattle.cal_lower.specs.Lowered.{IsLoweringOf}
 use Rattle.cal_parse.specs.Written.{DesignIsWritten}
+use Rattle.cal_state.proofs.StateHoleLemmas.{states_are_holes}
+use Rattle.cal_state.specs.Encoded.{IsStatesOf}
 use Rattle.cal_net.proofs.PlainLemmas.{written_plain}
 use Rattle.cal_net.proofs.ShapeLemmas.{zip_length}
 use Rattle.cal_net.specs.Laws.{AreWiresOf}
@@ -46,12 +46,12 @@ module _ (source : Design) where
 
     -- ---- the design without control, and the wires
 
-    module _ (holes : Design) (acts : List ActivityRule) (lowering : IsLoweringOf plain holes acts) where
+    module _ (holes : Design) (acts : List ActivityRule) (lowering : IsStatesOf plain holes acts) where
       pub hole_design : CalRules source → DesignIsWritten source → IsHoleDesign holes acts
-      hole_design rules written = lowerings_are_holes plain holes acts (plain_tree written) (plain_design rules) lowering
+      hole_design rules written = states_are_holes plain holes acts (plain_tree written) (plain_design rules) lowering
 
       pub are_wires : (wires : Design) → wires ≡ removed_design holes acts → AreWiresOf source wires
-      are_wires wires made = record { holes = holes; rules = acts; lowering = subst (λ (p : Design). IsLoweringOf p holes acts) is lowering; removal = made }
+      are_wires wires made = record { holes = holes; rules = acts; lowering = subst (λ (p : Design). IsStatesOf p holes acts) is lowering; removal = made }
 
 not_empty : (design : Design) → design ≢ [] → 0 < length design
 not_empty [] apart = absurd (apart refl)
@@ -73,7 +73,7 @@ IsRemoved holes wires = design_of wires.design ≡ removed_design (design_of hol
 
 -- what holds of the wires of the source holds of those that were made, where they were made
 pub wires_from : (source : Design) (plain : PlainDesign) (holes : HoleDesign) (wires : Result WireDesign Memory) → design_of plain.design ≡ expanded_design source
-    → IsLoweringOf (design_of plain.design) (design_of holes.design) (rule_trees holes.design.names holes.acts.items) → IfOk wires (IsRemoved holes)
+    → IsStatesOf (design_of plain.design) (design_of holes.design) (rule_trees holes.design.names holes.acts.items) → IfOk wires (IsRemoved holes)
     → (Q : WireDesign → Type 0) → ((w : WireDesign) → AreWiresOf source (design_of w.design) → Q w) → IfOk wires Q
 wires_from source plain holes wires is lowering removed Q more =
     ok_from (IsRemoved holes) Q

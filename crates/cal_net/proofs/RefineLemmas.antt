@@ -1,5 +1,5 @@
 -- The netlist of a design of wires shows what the source of the wires does.
-use Rattle.std.proofs.Common.{◌∙◌}
+use Rattle.std.proofs.Common.{◌≡◌, ◌∙◌, false}
 use Rattle.net_core.proofs.CircuitLemmas.{same_stops}
 use Rattle.net_core.specs.NetRun.{net_circuit}
 use Rattle.net_core.specs.Netlist.{Netlist, netlist_of}
@@ -8,13 +8,16 @@ use Rattle.cal_ast.proofs.ListLemmas.{Contains-at}
 use Rattle.cal_ast.specs.CalRun.{StoppedBareRun, bare, cal_circuit}
 use Rattle.cal_ast.specs.Keeping.{KeepsComponentShape, KeepsRuns, NetRuns}
 use Rattle.cal_ast.specs.Plain.{HasPlainTree}
+use Rattle.cal_ast.specs.Ports.{is_bare}
 use Rattle.cal_ast.specs.Tree.{Component, Design}
 use Rattle.net_flat.specs.FlatTop.{IsFlatTop}
 use Rattle.net_flat.specs.Flattened.{IsFlattened}
 use Rattle.cal_net.proofs.CellLemmas.{source_cells}
 use Rattle.cal_net.proofs.MemoryLemmas.{memories_shown}
 use Rattle.cal_net.proofs.PortLemmas.{ports_listed}
-use Rattle.cal_net.proofs.ShapeLemmas.{top_kept, zip_left}
+use Rattle.cal_net.proofs.FewLemmas.{few_at}
+use Rattle.cal_net.proofs.ShapeLemmas.{top_kept, zip_also, zip_left}
+use Rattle.cal_state.specs.Registers.{HasFewRegisters}
 use Rattle.cal_net.specs.Laws.{FlattenedWiresRefine}
 use Rattle.cal_net.specs.Lowers.{LowersControl}
 use Rattle.cal_net.specs.Refining.{RefinesTop}
@@ -51,6 +54,7 @@ refined source wires net lowers plain flat =
         };
         ports = ports_listed source wires lowers.shape lowers.wired plain c.0 flat.top c.2 among n flat.listed;
         memories = memories_shown c.0 flat.top c.2 wires n flat.listed;
+        registers = few_at source wires (zip_also KeepsComponentShape (λ c d. is_bare c ≡ false → HasFewRegisters c d) source wires lowers.shape lowers.registers) plain c.0 flat.top (c.2, lowers.registers flat.place c.0 flat.top c.1 flat.at) among n flat.flattened.cells;
       };
     }
 

@@ -40,6 +40,13 @@ module _ {X Y : Type 0} (R : X → Y → Type 0) where
   zip_length (v ∷ xs) [] all = absurd all
   zip_length (v ∷ xs) (w ∷ ys) all = ap suc (zip_length xs ys all.1)
 
+-- a further relation of what stands at the same place
+pub zip_also : {X Y : Type 0} (R Q : X → Y → Type 0) (xs : List X) (ys : List Y) → AllZip R xs ys → ((n : ℕ) (x : X) (y : Y) → slice_get xs n ≡ Some x → slice_get ys n ≡ Some y → Q x y) → AllZip (λ (x : X) (y : Y). R x y × Q x y) xs ys
+zip_also R Q [] [] all each = tt
+zip_also R Q [] (y ∷ ys) all each = absurd all
+zip_also R Q (x ∷ xs) [] all each = absurd all
+zip_also R Q (x ∷ xs) (y ∷ ys) all each = ((all.0, each 0 x y refl refl), zip_also R Q xs ys all.1 (λ n v w at at'. each (suc n) v w at at'))
+
 -- ---- the top
 
 names_kept : (source wires : Design) → KeepsShape source wires → component_names wires ≡ component_names source
@@ -82,17 +89,57 @@ cell_named-cases (x ∷ cells) added name cell found = by (bytes_eq x.name name)
 
 -- ---- components by their names
 
+-- designs of components that pair off, each of which keeps the shape of the other
+module _ (R : Component → Component → Type 0) (keeps : (c d : Component) → R c d → KeepsComponentShape c d) where
+  -- none is found in both designs, or a component in each, and these are a pair
+  abbrev pub ArePaired : Option Component → Option Component → Type 0
+  ArePaired None None = Unit {0}
+  ArePaired None (Some d) = ⊥
+  ArePaired (Some c) None = ⊥
+  ArePaired (Some c) (Some d) = R c d
+
+  pub paired_right : (o p : Option Component) (c : Component) → ArePaired o p → o ≡ Some c → (d : Component) × (p ≡ Some d) × R c d
+  paired_right None p c are found = absurd (none-some c found)
+  paired_right (Some x) None c are found = absurd are
+  paired_right (Some x) (Some d) c are found = (d, refl, subst (λ (z : Component). R z d) (same_Some x c found) are)
+
+  components_paired : (source wires : Design) → AllZip R source wires → (name : Text) → ArePaired (component_named source name) (component_named wires name)
+  components_paired [] [] pairs name = tt
+  components_paired [] (d ∷ ds) pairs name = absurd pairs
+  components_paired (c ∷ cs) [] pairs name = absurd pairs
+  components_paired (c ∷ cs) (d ∷ ds) pairs name =
+      subst (λ (x : Text). ArePaired (component_named (c ∷ cs) name) (if bytes_eq x name then Some d else component_named ds name)) (sym (keeps c d pairs.0).name)
+      (by (bytes_eq c.name name) (components_paired cs ds pairs.1 name))
+    where
+      by : (b : Bool) → ArePaired (component_named cs name) (component_named ds name) → ArePaired (if b then Some c else component_named cs name) (if b then Some d else component_named ds name)
+      by true later = pairs.0
+      by false later = later
+
+  module _ (source wires : Design) (pairs : AllZip R source wires) where
+    pub parts_paired : (cell : CellDef) → ArePaired (part_of source cell) (part_of wires cell)
+    parts_paired cell = by (is_primitive cell.made)
+      where
+        by : (b : Bool) → ArePaired (if b then None else component_named source cell.made) (if b then None else component_named wires cell.made)
+        by true = tt
+        by false = components_paired source wires pairs cell.made
+
+    -- what stands at a path of the source stands there, and is its pair
+    pub instance_paired : (path : Path) (c d e : Component) → R c d → component_at source c path ≡ Some e → (f : Component) × (component_at wires d path ≡ Some f) × R e f
+    instance_paired [] c d e is at = (d, refl, subst (λ (x : Component). R x d) (same_Some c e at) is)
+    instance_paired (cell ∷ path) c d e is at =
+        let shape = keeps c d is in
+        let part = component_at-step source c cell path e at in
+        let found = part_in-Some source c cell part.0 part.1 in
+        let other = paired_right (part_of source found.0) (part_of wires found.0) part.0 (parts_paired found.0) found.2 in
+        let at_other : part_in wires d cell ≡ Some other.0
+        = ap (λ (cells : List CellDef). option_and_then (part_of wires) (cell_named cells cell)) shape.cells
+        ∙ ap (option_and_then (part_of wires)) (cell_named-front c.cells shape.added cell found.0 found.1) ∙ other.1 in
+        let rest = instance_paired path part.0 other.0 e other.2 part.2 in
+        (rest.0, ap (option_and_then (λ (x : Component). component_at wires x path)) at_other ∙ rest.1, rest.2)
+
 -- none is found in both designs, or a component in each, of which the second keeps the shape of the first
 abbrev pub AreFound : Option Component → Option Component → Type 0
-AreFound None None = Unit {0}
-AreFound None (Some d) = ⊥
-AreFound (Some c) None = ⊥
-AreFound (Some c) (Some d) = KeepsComponentShape c d
-
-found_right : (o p : Option Component) (c : Component) → AreFound o p → o ≡ Some c → (d : Component) × (p ≡ Some d) × KeepsComponentShape c d
-found_right None p c are found = absurd (none-some c found)
-found_right (Some x) None c are found = absurd are
-found_right (Some x) (Some d) c are found = (d, refl, subst (λ (z : Component). KeepsComponentShape z d) (same_Some x c found) are)
+AreFound = ArePaired KeepsComponentShape (λ c d is. is)
 
 found_left : (o p : Option Component) (d : Component) → AreFound o p → p ≡ Some d → (c : Component) × (o ≡ Some c) × KeepsComponentShape c d
 found_left None None d are found = absurd (none-some d found)
@@ -100,40 +147,15 @@ found_left None (Some y) d are found = absurd are
 found_left (Some c) None d are found = absurd are
 found_left (Some c) (Some y) d are found = (c, refl, subst (KeepsComponentShape c) (same_Some y d found) are)
 
-components_found : (source wires : Design) → KeepsShape source wires → (name : Text) → AreFound (component_named source name) (component_named wires name)
-components_found [] [] shape name = tt
-components_found [] (d ∷ ds) shape name = absurd shape
-components_found (c ∷ cs) [] shape name = absurd shape
-components_found (c ∷ cs) (d ∷ ds) shape name =
-    subst (λ (x : Text). AreFound (component_named (c ∷ cs) name) (if bytes_eq x name then Some d else component_named ds name)) (sym shape.0.name)
-    (by (bytes_eq c.name name) (components_found cs ds shape.1 name))
-  where
-    by : (b : Bool) → AreFound (component_named cs name) (component_named ds name) → AreFound (if b then Some c else component_named cs name) (if b then Some d else component_named ds name)
-    by true later = shape.0
-    by false later = later
-
 -- ---- instances by their paths
 
 module _ (source wires : Design) (shape : KeepsShape source wires) where
   pub parts_found : (cell : CellDef) → AreFound (part_of source cell) (part_of wires cell)
-  parts_found cell = by (is_primitive cell.made)
-    where
-      by : (b : Bool) → AreFound (if b then None else component_named source cell.made) (if b then None else component_named wires cell.made)
-      by true = tt
-      by false = components_found source wires shape cell.made
+  parts_found = parts_paired KeepsComponentShape (λ c d is. is) source wires shape
 
   -- what stands at a path of the source stands there
   pub instance_kept : (path : Path) (c d e : Component) → KeepsComponentShape c d → component_at source c path ≡ Some e → (f : Component) × (component_at wires d path ≡ Some f) × KeepsComponentShape e f
-  instance_kept [] c d e is at = (d, refl, subst (λ (x : Component). KeepsComponentShape x d) (same_Some c e at) is)
-  instance_kept (cell ∷ path) c d e is at =
-      let part = component_at-step source c cell path e at in
-      let found = part_in-Some source c cell part.0 part.1 in
-      let other = found_right (part_of source found.0) (part_of wires found.0) part.0 (parts_found found.0) found.2 in
-      let at_other : part_in wires d cell ≡ Some other.0
-      = ap (λ (cells : List CellDef). option_and_then (part_of wires) (cell_named cells cell)) is.cells
-      ∙ ap (option_and_then (part_of wires)) (cell_named-front c.cells is.added cell found.0 found.1) ∙ other.1 in
-      let rest = instance_kept path part.0 other.0 e other.2 part.2 in
-      (rest.0, ap (option_and_then (λ (x : Component). component_at wires x path)) at_other ∙ rest.1, rest.2)
+  instance_kept = instance_paired KeepsComponentShape (λ c d is. is) source wires shape
 
   -- a component of the source stands at the path below this one, and the found one keeps its shape
   pub record IsFromSource (c : Component) (path : Path) (found : Component) : Type 0 where

@@ -44,6 +44,9 @@ module _ (old new : Netlist) (s : IsSimplified old new) where
       refines = refines_kept design r.top r.refines.refines;
       ports = λ port is. subst (λ (ports : List PortLine). Contains (port_names ports) port) (sym (same_ports old new s)) (r.refines.ports port is);
       memories = ap (filter is_shown) s.cells ∙ r.refines.memories;
+      registers = λ path c at full.
+          let few = r.refines.registers path c at full in
+          record { added = few.added; are = few.are; cells = λ line has stands. few.cells line (subst (λ (cells : List CellLine). Contains cells line) s.cells has) stands };
     };
   }
 

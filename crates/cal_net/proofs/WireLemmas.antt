@@ -1,5 +1,5 @@
 -- The wires of a design keep C1 to C12, its shape, plain names, and its runs.
-use Rattle.std.proofs.Common.{◌≡◌, ℕ, [], ◌∷◌, map, Contains, Some, refl, sym, ap, subst, ◌∙◌}
+use Rattle.std.proofs.Common.{◌≡◌, ℕ, false, [], ◌∷◌, map, Contains, Some, refl, sym, ap, subst, ◌∙◌}
 use Rattle.std.specs.Prelude.{option_map, slice_get}
 use Rattle.std.specs.List.{AllZip}
 use Rattle.std.proofs.lemmas.Option.{slice_get-map}
@@ -9,6 +9,7 @@ use Rattle.cal_ast.specs.Holes.{IsHoleDesign}
 use Rattle.cal_ast.specs.Keeping.{AddsNoStates, KeepsComponentShape, KeepsRuns, KeepsShape}
 use Rattle.cal_ast.specs.NoInvoke.{IsPlainDesign}
 use Rattle.cal_ast.specs.Plain.{HasPlainTree}
+use Rattle.cal_ast.specs.Ports.{is_bare}
 use Rattle.cal_ast.specs.Rules.{CalRules}
 use Rattle.cal_ast.specs.Schedule.{Run}
 use Rattle.cal_ast.specs.Tree.{Component, Design}
@@ -23,11 +24,14 @@ use Rattle.cal_group.proofs.RemovedLemmas.{removed_keeps_runs, removed_keeps_sta
 use Rattle.cal_group.proofs.WiredLemmas.{removed_is_wired}
 use Rattle.cal_group.specs.Expanded.{expanded, expanded_design}
 use Rattle.cal_group.specs.Removed.{removed, removed_design}
-use Rattle.cal_lower.proofs.HoleLemmas.{lowerings_are_holes}
-use Rattle.cal_lower.proofs.KeepLemmas.{lowerings_keep_runs}
-use Rattle.cal_lower.proofs.PlainNameLemmas.{lowerings_are_plain}
-use Rattle.cal_lower.proofs.ShapeLemmas.{lowerings_keep_shape}
 use Rattle.cal_parse.specs.Written.{DesignIsWritten}
+use Rattle.cal_state.proofs.RegisterLemmas.{states_are_few}
+use Rattle.cal_state.proofs.ShapeLemmas.{states_keep_shape}
+use Rattle.cal_state.proofs.StateHoleLemmas.{states_are_holes}
+use Rattle.cal_state.proofs.StatePlainLemmas.{states_are_plain}
+use Rattle.cal_state.proofs.StateRunLemmas.{states_keep_runs}
+use Rattle.cal_state.specs.Registers.{HasFewRegisters}
+use Rattle.cal_net.proofs.FewLemmas.{few_before}
 use Rattle.cal_net.proofs.PlainLemmas.{written_groups, written_plain}
 use Rattle.cal_net.specs.Laws.{AreWiresOf, WiresArePlain, WiresLowerControl}
 use Rattle.cal_net.specs.Lowers.{KeepsMeaning, LowersControl}
@@ -46,13 +50,13 @@ module _ (source wires : Design) (rules : CalRules source) (written : DesignIsWr
   plain = expanded_is_plain source rules
 
   hole : IsHoleDesign are.holes are.rules
-  hole = lowerings_are_holes expanded_source are.holes are.rules plain_tree plain are.lowering
+  hole = states_are_holes expanded_source are.holes are.rules plain_tree plain are.lowering
 
   are_plain : HasPlainTree wires
   are_plain =
       subst HasPlainTree (sym are.removal)
       (removed_is_plain_tree are.holes are.rules
-      (lowerings_are_plain expanded_source are.holes are.rules plain_tree (expanded_has_plain_groups source (written_groups source written)) plain are.lowering))
+      (states_are_plain expanded_source are.holes are.rules plain_tree (expanded_has_plain_groups source (written_groups source written)) plain are.lowering))
 
   -- ---- shape
 
@@ -80,7 +84,7 @@ module _ (source wires : Design) (rules : CalRules source) (written : DesignIsWr
   shape : KeepsShape source wires
   shape =
       subst (KeepsShape source) (sym are.removal)
-      (shapes source are.holes (λ c has. has) (lowerings_keep_shape expanded_source are.holes are.rules plain are.lowering) (removed_keeps_states are.holes are.rules hole))
+      (shapes source are.holes (λ c has. has) (states_keep_shape expanded_source are.holes are.rules plain are.lowering) (removed_keeps_states are.holes are.rules hole))
 
   -- ---- runs
 
@@ -88,7 +92,7 @@ module _ (source wires : Design) (rules : CalRules source) (written : DesignIsWr
     from_wires : KeepsRuns (StoppedBareRun (removed_design are.holes are.rules) (removed are.holes are.rules h)) (Run source c)
     from_wires asked inputs loads height trace stop run =
         expanded_keeps_runs source rules n c at asked inputs loads height trace stop
-        (lowerings_keep_runs expanded_source are.holes are.rules plain_tree plain are.lowering n (expanded source c) h
+        (states_keep_runs expanded_source are.holes are.rules plain_tree plain are.lowering n (expanded source c) h
         (slice_get-map (expanded source) source n ∙ ap (option_map (expanded source)) at) at_hole asked inputs loads height trace stop
         (removed_keeps_runs are.holes are.rules hole n h at_hole asked inputs loads height trace stop run))
 
@@ -104,10 +108,20 @@ module _ (source wires : Design) (rules : CalRules source) (written : DesignIsWr
             runs_are_unique source c plain_source rules (Contains-at source n c at) asked inputs loads a b (runs asked inputs loads a.height a.trace a.stop one) other;
       }
 
+  -- ---- registers
+
+  few_registers : (n : ℕ) (c d : Component) → slice_get source n ≡ Some c → slice_get wires n ≡ Some d → is_bare c ≡ false → HasFewRegisters c d
+  few_registers n c d at at_wires full =
+      let h = replaced_at are.holes (removed are.holes are.rules) n d (subst (λ (ws : Design). slice_get ws n ≡ Some d) are.removal at_wires) in
+      let before = slice_get-map (expanded source) source n ∙ ap (option_map (expanded source)) at in
+      let few = states_are_few expanded_source are.holes are.rules n (expanded source c) h.0 are.lowering before h.1 ((expanded_faces source).bare c (Contains-at source n c at) ∙ full) in
+      subst (HasFewRegisters c) h.2 (record { added = few.added; cells = few.cells; are = few_before source c few.added few.are })
+
   lowers : LowersControl source wires
   lowers = record {
     wired = subst IsWired (sym are.removal) (removed_is_wired are.holes are.rules hole);
     shape = shape;
+    registers = few_registers;
     means = keeps_meaning;
   }
 

@@ -12,6 +12,8 @@ use Rattle.cal_group.specs.Expanded.{invoke_name}
 use Rattle.cal_group.specs.Numeral.{digits_within, numeral}
 use Rattle.cal_lower.specs.Pieces.{Kind, Register, Wire, acts_name, busy_name, done_name, ends_name, made_by, over_name, start_name, token_name}
 use Rattle.cal_parse.specs.Written.{IsCalName}
+use Rattle.cal_state.specs.States.{thread_name}
+use Rattle.cal_state.specs.Threads.{Thread}
 use Rattle.cal_token.specs.Tokens.{Again, Ended, Going, Starting, Token}
 
 -- the bytes can follow the first one of a name
@@ -106,6 +108,9 @@ token_named (Again k) = made_name (codes "turn" ++ decimal k) (decimal_bytes k)
 
 pub ends_named : (k : ℕ) → IsCalName (ends_name k)
 ends_named k = made_name (codes "ends" ++ decimal k) (decimal_bytes k)
+
+pub thread_named : (t : Thread) → IsCalName (thread_name t)
+thread_named t = made_name (codes "fsm" ++ decimal t.part) (decimal_bytes t.part)
 
 pub acts_named : (group : Text) → HasNameBytes group → IsCalName (acts_name group)
 acts_named group are = made_name (codes "acts$" ++ group) are

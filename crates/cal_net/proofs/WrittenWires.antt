@@ -1,11 +1,13 @@
 -- Where a design can be written, so can its wires.
 use Rattle.std.proofs.Common.{◌≡◌, ℕ, ◌+◌, Bool, true, false, List, [], ◌∷◌, ◌++◌, length, flat_map, map, codes, slice_get, Option, Some, None, bytes_eq, if◌then◌else◌, lit<, refl, sym, ap, ◌∙◌, subst}
-use Rattle.std.specs.Prelude.{◌≢◌}
+use Rattle.std.specs.Prelude.{◌≢◌, All, Contains}
 use Rattle.std.specs.List.{AllByRecursion}
 use Rattle.std.proofs.lemmas.Bool.{false≢true}
+use Rattle.std.proofs.lemmas.List.Elements.{All-contains}
 use Rattle.hw_names.specs.Name.{Text}
 use Rattle.hw_prims.specs.Table.{Pin, pin}
 use Rattle.net_core.specs.Guard.{GuardTree, Negates}
+use Rattle.cal_ast.proofs.ListLemmas.{Contains-here, Contains-there}
 use Rattle.cal_ast.specs.Actors.{Actor, GroupNamed}
 use Rattle.cal_ast.specs.Holes.{ActivityRule, guarded_set, is_rule_of, rule_guard, rules_of, when_of, with_guard}
 use Rattle.cal_ast.specs.Items.{items_before_control}
@@ -14,17 +16,21 @@ use Rattle.cal_ast.specs.Ports.{has_pin, inputs_in, is_bare, outputs_in, with_pi
 use Rattle.cal_ast.specs.Tree.{Absent, Assignment, Component, Design, DoneLine, GroupDef, PortName}
 use Rattle.cal_group.specs.Expanded.{expanded, expanded_design}
 use Rattle.cal_group.specs.Removed.{removed, removed_design, ruled_sets}
-use Rattle.cal_lower.specs.Lowered.{acts_guard, control_ends, control_pieces, done_set, done_wire, group_pieces, instance_pieces, lowered, plan_pieces, rule_of, rules_from, start_guard, with_registers}
+use Rattle.cal_lower.specs.Lowered.{HasFewParts, acts_guard, control_ends, done_set, done_wire, group_pieces, plan_pieces, rule_of, rules_from, start_guard}
 use Rattle.cal_lower.specs.Parts.{enabling, part_ends, part_pieces, testing}
-use Rattle.cal_lower.specs.Pieces.{Kind, Piece, Register, Wire, acts_name, any_of, both, busy_name, either, enables_piece, is_done, is_set, never, over_name, piece_cell, piece_sets, start_name}
+use Rattle.cal_lower.specs.Pieces.{Kind, Piece, Register, Wire, acts_name, any_of, both, busy_name, enables_piece, is_done, is_set, never, over_name, piece_cell, piece_sets, start_name}
 use Rattle.cal_parse.specs.Written.{AssignmentIsWritten, CellIsWritten, ComponentIsWritten, DesignIsWritten, DoneIsWritten, GroupIsWritten, GuardIsWritten, InputIsWritten, IsCalName, PinIsWritten, WhenIsWritten}
+use Rattle.cal_state.specs.Encoded.{busy_guard, encoded, instance_wires, over_set, over_state, thread_sets, wires, with_states}
+use Rattle.cal_state.specs.States.{all_next_sets, as_wires, is_in, is_on, thread_cell, thread_enable}
+use Rattle.cal_state.specs.Threads.{ended_state, plan_places, thread_of, threads}
 use Rattle.cal_walk.specs.Left.{is_over}
 use Rattle.cal_net.specs.Laws.{WiresAreWritten}
-use Rattle.cal_net.proofs.WrittenGuards.{PlanIsWritten, any_written, both_written, done_written, either_written, enabling_written, ends_written, guard_chosen, never_written, section_written, set_written, testing_written}
+use Rattle.cal_net.proofs.WrittenGuards.{PlanIsWritten, any_written, both_written, done_written, enabling_written, ends_written, guard_chosen, never_written, section_written, set_written, testing_written}
 use Rattle.cal_net.proofs.WrittenInvokes.{expanded_written}
 use Rattle.cal_net.proofs.WrittenLists.{all_append, all_chosen, all_flat_map, all_kept, all_map, map_some}
-use Rattle.cal_net.proofs.WrittenNames.{acts_named, busy_named, done_named, done_pin_named, enable_named, go_named, in_named, made_named, name_bytes, out_named, over_named, start_named}
+use Rattle.cal_net.proofs.WrittenNames.{acts_named, busy_named, done_named, done_pin_named, enable_named, go_named, in_named, made_named, name_bytes, out_named, over_named, start_named, thread_named}
 use Rattle.cal_net.proofs.WrittenPieces.{ArePieces, PieceIsWritten, one_written, part_written, piece_written}
+use Rattle.cal_net.proofs.WrittenStates.{ArePlaces, all_next_written, each_on_written, enables_written, in_written, literal_written, plan_places_written, registers_written, wires_written}
 
 abbrev Guard : Type 0
 Guard = GuardTree PortName
@@ -57,40 +63,62 @@ control_ends_written plan = guard_chosen (is_over plan) (is_set start_name) (par
 start_guard_written : GuardIsWritten start_guard
 start_guard_written = (tt, ((tt, go_named), (set_written busy_name busy_named, (set_written over_name over_named, tt))))
 
-instance_written : (plan : Plan) → ArePieces (instance_pieces plan)
-instance_written plan =
-    let runs = either (is_set start_name) (is_set busy_name) in
-    let ends = control_ends plan in (
-      piece_written Wire start_name start_guard start_named start_guard_written,
-      (
-        piece_written Register busy_name (both runs (Negates ends)) busy_named
-            (both_written runs (Negates ends) (either_written (is_set start_name) (is_set busy_name) start_is (set_written busy_name busy_named)) (control_ends_written plan)),
-        (piece_written Register over_name ends over_named (control_ends_written plan), tt),
-      ),
-    )
+over_written : (plan : Plan) → GuardIsWritten (is_in (over_state plan))
+over_written plan = in_written (over_state plan) (lit< tt)
+
+busy_written : (plan : Plan) → GuardIsWritten (busy_guard plan)
+busy_written plan =
+    both_written (any_of (map is_on (threads plan))) (Negates (is_set over_name)) (any_written (map is_on (threads plan)) (each_on_written (threads plan)))
+    (set_written over_name over_named)
+
+instance_written : (plan : Plan) → ArePieces (instance_wires plan)
+instance_written plan = (
+  piece_written Wire start_name start_guard start_named start_guard_written,
+  (
+    piece_written Wire busy_name (busy_guard plan) busy_named (busy_written plan),
+    (piece_written Wire over_name (is_in (over_state plan)) over_named (over_written plan), tt),
+  ),
+)
 
 plan_pieces_written : (plan : Plan) → PlanIsWritten plan → ArePieces (plan_pieces plan)
 plan_pieces_written plan is = all_chosen PieceIsWritten (is_over plan) [] (part_pieces 0 plan (is_set start_name)) tt (part_written 0 plan (is_set start_name) is start_is)
 
-pieces_written : (c : Component) → ComponentIsWritten c → ArePieces (control_pieces c)
-pieces_written c is =
-    let plan = plan_of c in
-    let groups = flat_map (group_pieces plan) c.groups in
-    all_append PieceIsWritten (instance_pieces plan ++ groups) (plan_pieces plan)
-    (all_append PieceIsWritten (instance_pieces plan) groups (instance_written plan) (all_flat_map GroupIsWritten PieceIsWritten (group_pieces plan) (group_pieces_written plan) c.groups is.groups))
-    (plan_pieces_written plan (section_written (length (items_before_control c)) c.control is.control))
+module _ (c : Component) (is : ComponentIsWritten c) (few : HasFewParts c) where
+  plan_is : ArePieces (plan_pieces (plan_of c))
+  plan_is = plan_pieces_written (plan_of c) (section_written (length (items_before_control c)) c.control is.control)
+
+  places_are : ArePlaces (plan_places (plan_of c))
+  places_are = plan_places_written (plan_of c) few
+
+  wires_are : ArePieces (wires c)
+  wires_are =
+      let plan = plan_of c in
+      let groups = flat_map (group_pieces plan) c.groups in
+      let shown = as_wires (plan_pieces plan) (plan_places plan) in
+      all_append PieceIsWritten (instance_wires plan ++ groups) shown
+      (all_append PieceIsWritten (instance_wires plan) groups (instance_written plan) (all_flat_map GroupIsWritten PieceIsWritten (group_pieces plan) (group_pieces_written plan) c.groups is.groups))
+      (wires_written (plan_pieces plan) (plan_places plan) plan_is places_are)
+
+  thread_sets_written : AllByRecursion AssignmentIsWritten (thread_sets (plan_of c))
+  thread_sets_written =
+      let plan = plan_of c in
+      let over : AssignmentIsWritten (over_set plan)
+      = ((thread_named (thread_of 0 plan), in_named), (control_ends_written plan, literal_written (thread_of 0 plan) ended_state (lit< tt))) in
+      all_append AssignmentIsWritten (over_set plan ∷ all_next_sets (plan_pieces plan) (plan_places plan)) (map thread_enable (threads plan))
+      (over, all_next_written (plan_pieces plan) (plan_places plan) plan_is places_are)
+      (enables_written (threads plan))
 
 cell_written : (p : Piece) → PieceIsWritten p → CellIsWritten (piece_cell p)
 cell_written p is = (is.0, (made_named p.kind, (lit< tt, tt)))
 
-enables_written : (kind : Kind) (name : Text) → IsCalName name → AllByRecursion AssignmentIsWritten (enables_piece kind name)
-enables_written Wire name named = tt
-enables_written Register name named = (((named, enable_named), (tt, one_written)), tt)
+piece_enables_written : (kind : Kind) (name : Text) → IsCalName name → AllByRecursion AssignmentIsWritten (enables_piece kind name)
+piece_enables_written Wire name named = tt
+piece_enables_written Register name named = (((named, enable_named), (tt, one_written)), tt)
 
 piece_sets_written : (p : Piece) → PieceIsWritten p → AllByRecursion AssignmentIsWritten (piece_sets p)
-piece_sets_written p is = (((is.0, in_named), is.1), enables_written p.kind p.name is.0)
+piece_sets_written p is = (((is.0, in_named), is.1), piece_enables_written p.kind p.name is.0)
 
--- ---- the lowered component
+-- ---- the component with states
 
 go_apart : (other : Text) → bytes_eq (codes "go") other ≡ false → codes "go" ≢ other
 go_apart other apart same = false≢true (sym (ap (bytes_eq (codes "go")) same ∙ apart))
@@ -111,18 +139,23 @@ outputs_written c is =
 done_set_written : AssignmentIsWritten done_set
 done_set_written = ((tt, done_pin_named), (tt, (over_named, out_named)))
 
-registers_written : (c : Component) → ComponentIsWritten c → ComponentIsWritten (with_registers c)
-registers_written c is =
-    let pieces = control_pieces c in
-    let are = pieces_written c is in
+states_written : (c : Component) → ComponentIsWritten c → HasFewParts c → ComponentIsWritten (with_states c)
+states_written c is few =
+    let shown = wires c in
+    let are = wires_are c is few in
+    let registers = map thread_cell (threads (plan_of c)) in
     record {
       name = is.name;
       ins = inputs_written c is;
       outs = outputs_written c is;
-      cells = all_append CellIsWritten c.cells (map piece_cell pieces) is.cells (all_map PieceIsWritten CellIsWritten piece_cell cell_written pieces are);
+      cells = all_append CellIsWritten (c.cells ++ map piece_cell shown) registers
+          (all_append CellIsWritten c.cells (map piece_cell shown) is.cells (all_map PieceIsWritten CellIsWritten piece_cell cell_written shown are))
+          (registers_written (threads (plan_of c)));
       groups = is.groups;
-      sets = all_append AssignmentIsWritten (c.sets ++ flat_map piece_sets pieces) (done_set ∷ [])
-          (all_append AssignmentIsWritten c.sets (flat_map piece_sets pieces) is.sets (all_flat_map PieceIsWritten AssignmentIsWritten piece_sets piece_sets_written pieces are))
+      sets = all_append AssignmentIsWritten (c.sets ++ flat_map piece_sets shown ++ thread_sets (plan_of c)) (done_set ∷ [])
+          (all_append AssignmentIsWritten (c.sets ++ flat_map piece_sets shown) (thread_sets (plan_of c))
+          (all_append AssignmentIsWritten c.sets (flat_map piece_sets shown) is.sets (all_flat_map PieceIsWritten AssignmentIsWritten piece_sets piece_sets_written shown are))
+          (thread_sets_written c is few))
           (done_set_written, tt);
       control = tt;
     }
@@ -130,12 +163,18 @@ registers_written c is =
 bare_written : (c : Component) → ComponentIsWritten c → ComponentIsWritten (record c { control = Absent })
 bare_written c is = record { name = is.name; ins = is.ins; outs = is.outs; cells = is.cells; groups = is.groups; sets = is.sets; control = tt }
 
-lowered_written : (c : Component) → ComponentIsWritten c → ComponentIsWritten (lowered c)
-lowered_written c is = by (is_bare c)
+encoded_written : (c : Component) → ComponentIsWritten c → HasFewParts c → ComponentIsWritten (encoded c)
+encoded_written c is few = by (is_bare c)
   where
-    by : (bare : Bool) → ComponentIsWritten (if bare then record c { control = Absent } else with_registers c)
+    by : (bare : Bool) → ComponentIsWritten (if bare then record c { control = Absent } else with_states c)
     by true = bare_written c is
-    by false = registers_written c is
+    by false = states_written c is few
+
+components_written : (cs : Design) → AllByRecursion ComponentIsWritten cs → ((c : Component) → Contains cs c → HasFewParts c)
+    → AllByRecursion ComponentIsWritten (map encoded cs)
+components_written [] are few = tt
+components_written (c ∷ cs) are few =
+    (encoded_written c are.0 (few c (Contains-here c cs)), components_written cs are.1 (λ d has. few d (Contains-there c cs d has)))
 
 -- ---- the rules
 
@@ -190,8 +229,9 @@ module _ (design : Design) (rules : List ActivityRule) (are : AllByRecursion Rul
 design_expanded : (design : Design) → DesignIsWritten design → DesignIsWritten (expanded_design design)
 design_expanded design is = (map_some (expanded design) design is.0, all_map ComponentIsWritten ComponentIsWritten (expanded design) (expanded_written design) design is.1)
 
-design_lowered : (design : Design) → DesignIsWritten design → DesignIsWritten (map lowered design)
-design_lowered design is = (map_some lowered design is.0, all_map ComponentIsWritten ComponentIsWritten lowered lowered_written design is.1)
+design_encoded : (design : Design) → All HasFewParts design → DesignIsWritten design → DesignIsWritten (map encoded design)
+design_encoded design few is =
+    (map_some encoded design is.0, components_written design is.1 (λ c has. All-contains HasFewParts design c few has))
 
 design_removed : (design : Design) (rules : List ActivityRule) → AllByRecursion RuleIsWritten rules → DesignIsWritten design → DesignIsWritten (removed_design design rules)
 design_removed design rules are is =
@@ -200,6 +240,6 @@ design_removed design rules are is =
 pub wires_are_written : WiresAreWritten
 wires_are_written source wires rules written of =
     let plain = design_expanded source written in
-    let holes = subst DesignIsWritten (sym of.lowering.design) (design_lowered (expanded_design source) plain) in
+    let holes = subst DesignIsWritten (sym of.lowering.design) (design_encoded (expanded_design source) of.lowering.few plain) in
     let acting = subst (λ (rs : List ActivityRule). AllByRecursion RuleIsWritten rs) (sym of.lowering.acting) (rules_written 0 (expanded_design source) plain.1) in
     subst DesignIsWritten (sym of.removal) (design_removed of.holes of.rules acting holes)

@@ -11,8 +11,8 @@ use Rattle.cal_ast.specs.Rules.{CalRules}
 use Rattle.cal_ast.specs.Tree.{Design}
 use Rattle.cal_group.specs.Expanded.{expanded_design}
 use Rattle.cal_group.specs.Removed.{removed_design}
-use Rattle.cal_lower.specs.Lowered.{IsLoweringOf}
 use Rattle.cal_parse.specs.Written.{DesignIsWritten}
+use Rattle.cal_state.specs.Encoded.{IsStatesOf}
 use Rattle.cal_net.specs.Lowers.{LowersControl}
 use Rattle.cal_net.specs.Refining.{RefinesTop}
 
@@ -22,7 +22,7 @@ use Rattle.cal_net.specs.Refining.{RefinesTop}
 pub record AreWiresOf (source wires : Design) : Type 0 where
   pub holes : Design
   pub rules : List ActivityRule
-  pub lowering : IsLoweringOf (expanded_design source) holes rules
+  pub lowering : IsStatesOf (expanded_design source) holes rules
   pub removal : wires ≡ removed_design holes rules
 
 abbrev pub WiresLowerControl : Type 0

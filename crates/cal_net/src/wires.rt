@@ -9,7 +9,7 @@ ghost use Rattle.cal_net.specs.Lowers.{LowersControl};
 
 use cal_ast::{CalOk, WireDesign};
 use cal_group::{expand_invoke, remove_groups};
-use cal_lower::lower_control;
+use cal_state::lower_states;
 use hw_bits::Memory;
 use std::alloc::Global;
 
@@ -25,6 +25,6 @@ pub(crate) fn wires_of(alloc: Global, ok: &CalOk<'_>) -> Result<WireDesign, Memo
     // Read for what it ensures: the design keeps the rules.
     let _design = ok.design();
     let plain = expand_invoke(alloc, ok)?;
-    let holes = lower_control(alloc, &plain)?;
+    let holes = lower_states(alloc, &plain)?;
     remove_groups(alloc, &holes)
 }

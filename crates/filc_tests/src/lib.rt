@@ -6,6 +6,8 @@ mod calyx;
 #[cfg(test)]
 mod calyx_designs;
 #[cfg(test)]
+mod calyx_registers;
+#[cfg(test)]
 mod calyx_runs;
 #[cfg(test)]
 mod calyx_schedule;

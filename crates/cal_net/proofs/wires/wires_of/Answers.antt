@@ -12,11 +12,11 @@ use Rattle.cal_net.proofs.WrittenWires.{wires_are_written}
 use Rattle.cal_net.specs.Lowers.{LowersControl}
 use Rattle.cal_net.proofs.wires.wires_of.Goals as goal
 
-pub lower_control-requires-clause-names : goal.lower_control-requires-clause-names
-lower_control-requires-clause-names c = plain_tree (design_of c.args.ok.now) (design_of c.in_ok-plain.plain.design) c.in_ok-plain.ensures.tree c.requires
+pub lower_states-requires-clause-names : goal.lower_states-requires-clause-names
+lower_states-requires-clause-names c = plain_tree (design_of c.args.ok.now) (design_of c.in_ok-plain.plain.design) c.in_ok-plain.ensures.tree c.requires
 
-pub lower_control-requires-clause-plain : goal.lower_control-requires-clause-plain
-lower_control-requires-clause-plain c =
+pub lower_states-requires-clause-plain : goal.lower_states-requires-clause-plain
+lower_states-requires-clause-plain c =
     let rules = subst (λ (d : CalDesign). CalRules (design_of d)) c.design-design.ensures.same c.design-design.ensures.rules in
     plain_design (design_of c.args.ok.now) (design_of c.in_ok-plain.plain.design) c.in_ok-plain.ensures.tree rules
 

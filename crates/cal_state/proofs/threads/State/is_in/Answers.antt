@@ -1,0 +1,13 @@
+use Rattle.std.proofs.Common.{ℕ, subst}
+use Rattle.net_core.specs.Guard.{Compares}
+use Rattle.net_core.specs.declared.net.Cmp.TheVariants.{Eq}
+use Rattle.net_core.specs.declared.net.Src.TheVariants.{Lit, Port}
+use Rattle.cal_lower.specs.Pieces.{shown}
+use Rattle.cal_lower.specs.Shown.{ShowsGuard}
+use Rattle.cal_state.specs.States.{thread_name, width_of}
+use Rattle.cal_state.proofs.threads.State.is_in.Goals as goal
+
+pub returns : goal.returns
+returns c = λ names state are shows.
+    let P : ℕ → Type 0 = λ n. ShowsGuard names (Compares Eq (Port (shown (thread_name state.thread))) (Lit (width_of state.thread) n)) c.compare.result in
+    subst P shows.number (c.compare.ensures names state.thread are shows.thread)

@@ -1,0 +1,32 @@
+//! The lowering of Calyx's control to states: one register for each sequential thread, which holds the number of its state, and
+//! for each group a rule that says in which states it acts.
+//!
+//! In and out: as in `cal_lower`, and so is its contract. The difference is in what holds control's place:
+//!
+//!     control { seq { one; inc; one; inc; } }
+//!
+//!     cal_lower    c$goes1, c$starts2, c$goes2, .. c$busy, c$over: a register of one bit for each token
+//!     cal_state    c$fsm0: one register of 3 bits; 0 nothing, 1 over, 2 the first `one`, 3 the first `inc`, 4 and 5 the others
+//!
+//! A thread is what runs in sequence: the main one, and one for each branch of a `par` that takes a row. Each part of a thread
+//! that takes a row has a state. The wires of `cal_lower` stay with their names; what was a token's register is a wire that is 1
+//! in its state (`c$fsm0.out == 3'd2`), and what drove that register brings the thread to the state.
+//!
+//! How it goes: `lower_control` makes the tokens; `places` walks the source's control and says for each piece of it in which
+//! state of which thread it is; `threads` makes registers and guards; `component` puts them in.
+//!
+//! What the layer above uses: `lower_states` makes exactly what `IsStatesOf` says. The laws are those of `cal_lower`, and one
+//! more: `states_are_few`, that there are at most as many registers as threads, each no wider than the numbers of its states.
+#![tactic(auto)]
+
+mod component;
+mod laws;
+mod lower;
+mod places;
+mod sizes;
+mod threads;
+
+pub use laws::{
+    states_are_few, states_are_holes, states_are_plain, states_keep_runs, states_keep_shape,
+};
+pub use lower::lower_states;
