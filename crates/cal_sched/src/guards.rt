@@ -11,7 +11,7 @@ use cal_ast::CalPort;
 use hw_bits::Memory;
 use hw_names::Names;
 use net_core::{Cmp, Guard, Src};
-use net_sim::Sim;
+use net_row::Sim;
 use std::alloc::Global;
 
 /// A source over numbers.

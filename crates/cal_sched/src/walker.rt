@@ -14,7 +14,7 @@ use crate::watch::{Watch, numbers_of, reads_one, watches_of};
 use cal_walk::{Controlled, Marks, Seen, Stage};
 use hw_bits::Memory;
 use hw_names::Names;
-use net_sim::Sim;
+use net_row::Sim;
 use std::alloc::Global;
 
 /// The control of a component as far as it has come before a row, and which actors act in the row before.

@@ -13,7 +13,7 @@ use cal_walk::{Controlled, Invoke};
 use hw_bits::Memory;
 use hw_names::Names;
 use net_core::{Guard, Src};
-use net_sim::Sim;
+use net_row::Sim;
 use std::alloc::Global;
 
 /// A done line of an actor.

@@ -12,7 +12,7 @@ use cal_sched::Walker;
 use hw_bits::Memory;
 use itoa::Buffer;
 use net_core::Net;
-use net_sim::Sim;
+use net_row::Sim;
 
 /// Puts more text last.
 pub(crate) fn push_text(text: &mut Vec<u8>, more: &[u8]) -> Result<(), Memory>

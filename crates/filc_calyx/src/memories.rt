@@ -13,7 +13,7 @@ ghost use Rattle.filc_report.specs.Rows.{memories_text, memory_text};
 use crate::lines::{push_number, push_text};
 use hw_bits::Memory;
 use net_core::Net;
-use net_sim::Sim;
+use net_row::Sim;
 
 /// Puts the line of a shown memory last: its name, then its words in order. The shown memories are counted in the order of the cells.
 fn push_memory(text: &mut Vec<u8>, sim: &Sim, mem: usize, name: &[u8]) -> Result<(), Memory>

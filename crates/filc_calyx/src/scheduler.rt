@@ -26,7 +26,7 @@ use filc_report::{Drive, Inputs, make_sim};
 use hw_bits::{Bits, Memory};
 use hw_names::{Names, Word};
 use net_core::CycleList;
-use net_sim::Sim;
+use net_row::Sim;
 use std::alloc::Global;
 
 /// A run of a design's netlist, the walk of its top's control beside it, and the lines of the rows so far.

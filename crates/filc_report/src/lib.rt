@@ -1,6 +1,19 @@
 //! Reports, written as they come: the rows of a run with its memories, and what transactions compute and hold.
+//!
+//! In: what was loaded, and a sink. Out: the report's bytes in the sink, or a prefix of them and the `Stop`.
+//!
+//!     0 p=- q=-                 a line for each row of a run (`stream`, `net_run`), with a dash where no value is promised;
+//!     1 p=15 q=-                after the last row the words of the memories that are shown (`memories`)
+//!     mem table 10 20 30 99
+//!
+//! `drive` says what a row is given, from rows or from transactions (`inputs`, `tx_inputs`); `view` which ports a line shows.
+//! `flows` writes what transactions compute, `holds` which units they hold; `sums` and `summary` add a run's rows up.
+//!
+//! What the layer above uses: a run leaves exactly the lines of the netlist's rows, or up to its Conflict (`RunLeaves`); after a
+//! fault of the sink, a prefix of them. `sum_transactions` gives the sums over the run that `run_transactions` would write.
 #![tactic(auto)]
 
+mod digits;
 mod drive;
 mod flows;
 mod holds;

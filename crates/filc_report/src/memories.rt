@@ -19,7 +19,7 @@ use crate::report::push_texts;
 use hw_io::{Failed, Gather, Sink};
 use itoa::Buffer;
 use net_core::Net;
-use net_sim::Sim;
+use net_row::Sim;
 
 /// Passes the line of a shown memory on: its name, then its words in order. The shown memories are counted in the order
 /// of the cells.

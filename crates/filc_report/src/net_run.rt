@@ -31,7 +31,7 @@ use hw_bits::Memory;
 use hw_io::{Gather, Sink};
 use hw_names::Word;
 use net_core::{CycleList, MemLoad, Table};
-use net_sim::Sim;
+use net_row::Sim;
 use std::alloc::Global;
 
 /// What is asked of a run: what drives it, how many rows it has, the text before them, and whether a row shows all ports.

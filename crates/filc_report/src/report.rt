@@ -8,12 +8,13 @@ ghost use Rattle.filc_report.specs.Views.{line_at};
 ghost use Rattle.filc_load.specs.Slots.{NumbersPortsAsNames};
 ghost use Rattle.filc_stop.specs.Stops.{joined};
 
+use crate::digits::digits_of;
 use crate::view::View;
 use filc_load::name_of;
 use hw_io::{Failed, Gather, Sink, write_whole};
 use itoa::Buffer;
 use net_core::Table;
-use net_sim::Sim;
+use net_row::Sim;
 
 /// Passes the texts on, one after another.
 pub(crate) fn push_texts<O: Sink>(
@@ -51,7 +52,7 @@ pub(crate) fn push_port<O: Sink>(
         " ".as_bytes(),
         port,
         "=".as_bytes(),
-        digits.format(value).as_bytes(),
+        digits_of(&mut digits, value),
     ];
     push_texts(held, out, &texts)
 }

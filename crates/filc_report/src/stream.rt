@@ -19,7 +19,7 @@ use crate::view::View;
 use hw_bits::Bits;
 use hw_io::{Failed, Gather, Sink};
 use net_core::Table;
-use net_sim::Sim;
+use net_row::Sim;
 
 /// How a stream of rows ends.
 #[derive(Clone, Copy, Debug, PartialEq, Eq)]

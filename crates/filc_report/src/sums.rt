@@ -26,7 +26,7 @@ use crate::view::View;
 use filc_load::Built;
 use hw_bits::{Bits, Memory};
 use net_core::Table;
-use net_sim::{Conflict, Sim};
+use net_row::{Conflict, Sim};
 use std::alloc::Global;
 
 /// What the rows of a run add up to, modulo 2^64.

@@ -1,0 +1,14 @@
+pub mod RowLemmas
+pub mod FlatKindLemmas
+pub mod FlatStateLemmas
+pub mod FlatOtherLemmas
+pub mod FlatRowLemmas
+pub mod FlatSimLemmas
+pub mod FlatSourceLemmas
+pub mod OutputLemmas
+pub mod NextLemmas
+pub mod TruthLemmas
+pub mod DrivenLemmas
+pub mod MadeLemmas
+pub mod PortSlotLemmas
+pub mod ProgramLemmas

@@ -1,0 +1,5 @@
+use Rattle.net_row.specs.Compiling.{AddsTruths}
+use Rattle.net_row.proofs.compile.add_truths.Given as goal
+
+abbrev pub invariant-loop-place : goal.invariant-loop-place
+invariant-loop-place l = AddsTruths l.numbered l.fn.made l.made

@@ -1,0 +1,15 @@
+//! A netlist compiled to steps over slots.
+use crate::kinds::Kind;
+use net_steps::{Clash, Operation};
+
+/// A netlist compiled to steps over slots: one for each value that is kept, then one for each input, then one for each step.
+#[derive(Drop)]
+pub struct Program {
+    /// The slot of each port.
+    pub ports: Vec<u32>,
+    pub kinds: Vec<Kind>,
+    /// The slot of what each kept value is after a row.
+    pub next: Vec<u32>,
+    pub steps: Vec<Operation>,
+    pub clashes: Vec<Clash>,
+}

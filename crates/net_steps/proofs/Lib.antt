@@ -1,0 +1,9 @@
+pub mod OperationLemmas
+pub mod GatherLemmas
+pub mod StepLemmas
+pub mod EqualityLemmas
+pub mod TruthLemmas
+pub mod DriverLemmas
+pub mod ClashLemmas
+pub mod EdgeLemmas
+pub mod GateLemmas

@@ -1,0 +1,10 @@
+pub mod Gathered
+pub mod Others
+pub mod Operations
+pub mod StepsValue
+pub mod Steps
+pub mod Truths
+pub mod Drivers
+pub mod Conflicts
+pub mod Gates
+pub mod Edge

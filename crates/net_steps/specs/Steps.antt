@@ -1,0 +1,34 @@
+-- Steps that were added to others, and what is then in a slot of every row that they make. This project's.
+use Rattle.std.specs.Prelude.{◌≡◌, ℕ, ◌<◌, List, slice_index}
+use Rattle.hw_prims.specs.Meaning.{bit}
+use Rattle.net_steps.specs.Operations.{AreMade, IsStep, KeepsSteps, is_on}
+use Rattle.net_steps.specs.StepsValue.{StepsValue}
+use Rattle.net_steps.specs.declared.operation.Operation.{Operation}
+use Rattle.net_steps.specs.declared.other.Other.{Other}
+
+-- the slots are those of a row that these steps make
+abbrev pub IsRowOf : StepsValue → List Other → List ℕ → Type 0
+IsRowOf steps others slots = AreMade others steps.base steps.items slots
+
+-- the old steps stand, with others after them
+pub record Extends (old new : StepsValue) : Type 0 where
+  pub base : new.base ≡ old.base
+  pub keeps : KeepsSteps old.items new.items
+
+-- one step was added, unless it was there
+pub record Defines (old new : StepsValue) (step : Operation) (slot : ℕ) : Type 0 where
+  pub extends : Extends old new
+  pub is_step : IsStep new.base new.items slot step
+
+-- steps were added that make this value in the slot
+pub record AddsSlot (old new : StepsValue) (value : List Other → List ℕ → ℕ) (slot : ℕ) : Type 0 where
+  pub extends : Extends old new
+  pub made : (others : List Other) (slots : List ℕ) → IsRowOf new others slots → slice_index slots slot ≡ value others slots
+
+-- in each row this number is in the slot
+abbrev pub IsConstant : StepsValue → ℕ → ℕ → Type 0
+IsConstant steps slot number = (others : List Other) (slots : List ℕ) → IsRowOf steps others slots → slice_index slots slot ≡ number
+
+-- in each row the slot is 0 or 1
+abbrev pub IsBit : StepsValue → ℕ → Type 0
+IsBit steps slot = (others : List Other) (slots : List ℕ) → IsRowOf steps others slots → slice_index slots slot ≡ bit (is_on slots slot)

@@ -1,0 +1,8 @@
+-- Steps as callers see them. This project's.
+use Rattle.std.specs.Prelude.{ℕ, List}
+use Rattle.net_steps.specs.declared.operation.Operation.{Operation}
+
+-- the slot of the first, and what each makes
+pub record StepsValue : Type 0 where
+  pub base : ℕ
+  pub items : List Operation

@@ -1,0 +1,119 @@
+//! The steps of a row, each once.
+ghost use Rattle.std.specs.Prelude.{◌≡◌, ◌<◌, [], IfOk, IfSome};
+
+use crate::operation::Operation;
+use hw_bits::Memory;
+use indexmap::IndexSet;
+use std::alloc::{AllocError, AllocFailed, Global};
+use std::marker::Model;
+
+/// Why a netlist has no program.
+#[derive(Clone, Copy, Debug, PartialEq, Eq)]
+pub enum ProgramEnd {
+    /// It is simulated otherwise: a port or a literal is wider than a slot.
+    Unfit,
+    Memory,
+}
+
+impl From<Memory> for ProgramEnd {
+    fn from(_memory: Memory) -> ProgramEnd {
+        ProgramEnd::Memory
+    }
+}
+
+impl From<AllocError> for ProgramEnd {
+    fn from(_error: AllocError) -> ProgramEnd {
+        ProgramEnd::Memory
+    }
+}
+
+impl<T: Drop> From<AllocFailed<T>> for ProgramEnd {
+    fn from(_failed: AllocFailed<T>) -> ProgramEnd {
+        ProgramEnd::Memory
+    }
+}
+
+/// The steps so far, each once. The first has the slot `base`.
+#[derive(Drop)]
+pub struct Steps {
+    base: usize,
+    set: IndexSet<Operation>,
+}
+
+impl Model for Steps {
+    ghost use Rattle.net_steps.specs.StepsValue.{StepsValue};
+
+    ghost Value = { StepsValue };
+
+    ghost view = { λ s. record { base = s.base; items = s.set.keys } };
+}
+
+impl Steps {
+    ghost use Rattle.net_steps.specs.Operations.{IsStep};
+    ghost use Rattle.std.specs.Prelude.{◌≡◌, true, [], IfOk, IfSome};
+    ghost use Rattle.net_steps.specs.Steps.{Defines, IsConstant, IsBit};
+
+    /// No steps.
+    pub fn new(alloc: Global, base: usize) -> Steps
+        ensures { result ≡ record { base = base; items = [] } }
+    {
+        Steps {
+            base,
+            set: IndexSet::new(alloc),
+        }
+    }
+
+    /// The slot of the step that makes this; it goes last where there is none yet.
+    pub fn define(&mut self, operation: Operation) -> Result<u32, Memory>
+        ensures { IfOk result (Defines self.old self.new operation) }
+    {
+        let place = u32::MAX as usize;
+        if self.base >= place || self.set.len() >= place - self.base {
+            return Err(Memory);
+        }
+        let (index, _) = self.set.insert_full(operation)?;
+        Ok((self.base + index) as u32)
+    }
+
+    /// What is made in this slot, if it is a step's.
+    pub fn operation(&self, slot: u32) -> Option<Operation>
+        ensures { IfSome result (IsStep self.now.base self.now.items slot) }
+    {
+        let slot = slot as usize;
+        if slot < self.base {
+            return None;
+        }
+        self.set.as_slice().get(slot - self.base).copied()
+    }
+
+    /// Whether this number is in the slot in each row, by what is made in it.
+    pub fn is_constant(&self, slot: u32, number: u64) -> bool
+        ensures { result ≡ true → IsConstant self.now slot number }
+    {
+        match self.operation(slot) {
+            Some(Operation::Constant(there)) => there == number,
+            _ => false,
+        }
+    }
+
+    /// Whether the slot is 0 or 1 in each row, by what is made in it.
+    pub fn is_bit(&self, slot: u32) -> bool
+        ensures { result ≡ true → IsBit self.now slot }
+    {
+        match self.operation(slot) {
+            Some(Operation::Both { .. }) => true,
+            Some(Operation::Either { .. }) => true,
+            Some(Operation::ButNot { .. }) => true,
+            Some(Operation::Equal { .. }) => true,
+            Some(Operation::Less { .. }) => true,
+            _ => false,
+        }
+    }
+
+    /// The steps, in the order of their slots.
+    pub fn operations(&self) -> &[Operation]
+        ensures { result.now ≡ self.now.items }
+    {
+        self.set.as_slice()
+    }
+}
