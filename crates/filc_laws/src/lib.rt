@@ -1,4 +1,16 @@
-//! Laws of the verdict: for the same words and files there is one answer, one report and one line, but for what is left to a program.
+//! Laws of the verdict: for the same words and files there is one answer, one report and one line, but for what is left to a
+//! program: which of several loops is told, and which netlist or lowered Calyx a design is made to.
+//!
+//! In and out: nothing that runs. Each function is a law, whose contract is the statement and whose body is empty:
+//!
+//!     pub fn one_verdict() ensures { OneVerdict } {}
+//!
+//! Two programs that keep the contract of `filc`, and that both give a verdict on the same words and files, answer alike. The
+//! other laws are the steps to it: a text spells one design, a rule is broken first at one place, a stimulus gives one run, a
+//! netlist has one run of the same inputs.
+//!
+//! What stands above: the reader of the headline, who learns from it that the definitions leave nothing open that they should
+//! say.
 #![tactic(auto)]
 
 mod laws;
