@@ -2,9 +2,17 @@
 # The times and the memory of `net` over large Filament designs, which this script makes, the best of five: at full size and
 # at half of it, with their ratio. Each is to take under 10 s and 2 GB, and twice the size at most 2.3 times as long.
 # Then `sim` of examples/mac.fil under 100,000 transactions, which is to take under 2 s.
+#
+# Then what control costs in netlists of Calyx designs, the examples and large ones: cells, assignments and bytes, and the registers
+# of control with their bits. Where a program is named, `bench/lowering.sh OTHER`, its netlists are told beside: one of an older
+# commit, say, whose control had a register of one bit for each token. A design of a weight near 1,000,000 is to be lowered in
+# under 20 s, twice the size in at most 2.3 times as long, and rows are to run no slower than with OTHER.
 top=$(cd "$(dirname "$0")/.." && pwd) || exit
 "$top/filc" net "$top/examples/mac.fil" >/dev/null || exit
 . "$top/bench/best.sh"
+. "$top/bench/shapes.sh"
+own=$program
+other=$1
 
 # $1 components, each with three instances, of which one is of the component before: every name is as deep as its place.
 chain() {
@@ -85,3 +93,49 @@ net offsets 16000
 
 transactions 100000 >"$work/many.json"
 echo "sim mac.fil with 100,000 transactions: $(best sim "$top/examples/mac.fil" "$work/many.json") ms, $(memory sim "$top/examples/mac.fil" "$work/many.json") MB"
+
+# Prints what the program $1 makes of the design $2, whose name is $3.
+cost() {
+    "$1" net "$2" >"$work/net" || exit
+    awk -v name="$3" '
+        /^(cell|ext) / { cells++ }
+        /^set / { sets++ }
+        /^cell c\$[^ ]* std_reg/ { registers++; split($0, part, "std_reg"); gsub(/[^0-9]/, "", part[2]); bits += part[2] }
+        { bytes += length($0) + 1 }
+        END { printf "%s: %d cells, %d assignments, %d bytes; %d registers of control with %d bits\n", name, cells, sets, bytes, registers, bits }' "$work/net"
+}
+
+# The same of both programs.
+compare() {
+    cost "$own" "$1" "$2"
+    if [ -n "$other" ]; then cost "$other" "$1" "$2, by the other program"; fi
+}
+
+# Prints the times of $2 rows of the design $1, under the stimulus $3, with both programs.
+rows() {
+    echo "sim $1: $(best sim "$2" "$3") ms"
+    if [ -n "$other" ]; then
+        program=$other
+        echo "sim $1, by the other program: $(best sim "$2" "$3") ms"
+        program=$own
+    fi
+}
+
+for design in "$top"/examples/*.futil; do
+    compare "$design" "$(basename "$design")"
+done
+for shape in "enables 20000" "together 2000" "loops 1600" "levels 60"; do
+    $shape >"$work/$(echo "$shape" | tr ' ' '_').futil" || exit
+    compare "$work/$(echo "$shape" | tr ' ' '_').futil" "$shape"
+done
+half=$(levels 30 >"$work/half.futil" && best net "$work/half.futil") || exit
+whole=$(best net "$work/levels_60.futil") || exit
+echo "net levels 60: half $half ms, whole $whole ms, $(memory net "$work/levels_60.futil") MB"
+awk "BEGIN { printf \"ratio: %.2f\\n\", $whole / $half }"
+
+loops 20 >"$work/loops.futil" || exit
+echo '{"version":1,"cycles":50000,"inputs":[{"from":0,"set":{"go":1,"a":1}}]}' >"$work/loops.json"
+rows "loops 20, 50,000 rows" "$work/loops.futil" "$work/loops.json"
+for design in double cube divisor; do
+    rows "$design.futil" "$top/examples/$design.futil" "$top/examples/$design.json"
+done
