@@ -124,13 +124,13 @@ rows() {
 for design in "$top"/examples/*.futil; do
     compare "$design" "$(basename "$design")"
 done
-for shape in "enables 20000" "together 2000" "loops 1600" "levels 60"; do
+for shape in "enables 20000" "together 2000" "loops 1600" "levels 57"; do
     $shape >"$work/$(echo "$shape" | tr ' ' '_').futil" || exit
     compare "$work/$(echo "$shape" | tr ' ' '_').futil" "$shape"
 done
-half=$(levels 30 >"$work/half.futil" && best net "$work/half.futil") || exit
-whole=$(best net "$work/levels_60.futil") || exit
-echo "net levels 60: half $half ms, whole $whole ms, $(memory net "$work/levels_60.futil") MB"
+half=$(levels 28 >"$work/half.futil" && best net "$work/half.futil") || exit
+whole=$(best net "$work/levels_57.futil") || exit
+echo "net levels 57: half $half ms, whole $whole ms, $(memory net "$work/levels_57.futil") MB"
 awk "BEGIN { printf \"ratio: %.2f\\n\", $whole / $half }"
 
 loops 20 >"$work/loops.futil" || exit
