@@ -135,7 +135,7 @@ row() {
 
 # The nanoseconds of a row in $2 rows of the netlist $1 in Icarus Verilog.
 icarus() {
-    echo "module bench; reg clk = 0; \\$(sed -n 's/^net //p' "$work/$1.net")  it(.\\\$clk (clk));
+    printf '%s\n' "module bench; reg clk = 0; \\$(sed -n 's/^net //p' "$work/$1.net")  it(.\\\$clk (clk));
         initial begin repeat ($2) begin #1 clk = 1; #1 clk = 0; end \$finish; end endmodule" >"$work/bench.v"
     "$program" verilog "$work/$1.net" >"$work/text.v" || exit
     iverilog -s bench -o "$work/icarus" "$work/bench.v" "$work/text.v" || exit
@@ -182,8 +182,8 @@ begun() {
 
 measure soak 1000000
 measure ctl 1000000
-measure deep 20000
 measure big 20000
+measure deep 2000
 
 big 25000 | counted >"$work/half.net" || exit
 big 50000 | counted >"$work/whole.net" || exit
