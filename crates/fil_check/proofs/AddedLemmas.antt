@@ -1,5 +1,5 @@
 -- The uses by one more invocation, event by event.
-use Rattle.std.proofs.Common.{◌≡◌, ℕ, ◌+◌, ◌<◌, ◌≤◌, ◌⊎◌, inl, inr, List, length, slice_get, Option, Some, None, refl, sym, ap, ap₂, subst, ◌∙◌, arith}
+use Rattle.std.proofs.Common.{◌≡◌, ℕ, ◌+◌, ◌<◌, ◌≤◌, ◌⊎◌, inl, inr, List, length, Option, Some, None, refl, sym, ap, ap₂, subst, ◌∙◌, arith}
 use Rattle.std.specs.BTreeMap.{get}
 use Rattle.std.specs.Option.{IsSome}
 use Rattle.std.proofs.lemmas.Bool.{cases_eq, cases_lt}
@@ -8,12 +8,12 @@ use Rattle.hw_names.specs.Name.{Text}
 use Rattle.fil_ast.specs.Signature.{Delay, Signature}
 use Rattle.fil_ast.specs.Timeline.{IsUse, Use}
 use Rattle.fil_ast.specs.Tree.{TimeAt}
-use Rattle.fil_check.specs.Keys.{Key, key_cmp}
-use Rattle.fil_check.specs.Sharing.{HasDelay, IsShownBy}
-use Rattle.fil_check.specs.Starts.{AddsUses, PutsUse, use_at}
-use Rattle.fil_check.specs.Uses.{ShowsUse}
-use Rattle.fil_check.specs.declared.starts.Starts.{Starts}
-use Rattle.fil_check.specs.declared.uses.Use as numbers
+use Rattle.fil_check.specs.inside.Keys.{key_cmp}
+use Rattle.fil_check.specs.inside.Sharing.{HasDelay, IsShownBy}
+use Rattle.fil_check.specs.inside.Starts.{AddsUses, PutsUse, use_at}
+use Rattle.fil_check.specs.inside.Uses.{ShowsUse}
+use Rattle.fil_check.specs.declared.sharing.starts.Starts.{Starts}
+use Rattle.fil_check.specs.declared.timeline.uses.Use as numbers
 use Rattle.fil_check.proofs.SharingLemmas.{a_use, no_use, same_use}
 
 -- without a signature nothing is added

@@ -12,12 +12,12 @@ use Rattle.fil_ast.specs.Signature.{SigPort, Signature, event_number, sig_port}
 use Rattle.fil_ast.specs.Timeline as tree
 use Rattle.fil_ast.specs.Tree.{TimeAt, Event, Component, ValueTree, OutputValue, port_tree}
 use Rattle.fil_ast.specs.declared.tree.FilPort.{FilPort}
-use Rattle.fil_check.specs.Available.{IsDuring, IsMissingIn, ShowsDuring, result_interval}
-use Rattle.fil_check.specs.Times.{IsFirstMissing, IsThroughout, ShowsAvailable, ShowsInterval, known}
-use Rattle.fil_check.specs.Tables.{times_of}
-use Rattle.fil_check.specs.declared.times.Available.{Available}
-use Rattle.fil_check.specs.declared.times.Available.TheVariants.{Within, Never}
-use Rattle.fil_check.specs.declared.times.Interval.{Interval}
+use Rattle.fil_check.specs.inside.Available.{IsDuring, IsMissingIn, ShowsDuring, result_interval}
+use Rattle.fil_check.specs.inside.Times.{IsFirstMissing, IsThroughout, ShowsAvailable, ShowsInterval, known}
+use Rattle.fil_check.specs.inside.Tables.{times_of}
+use Rattle.fil_check.specs.declared.timeline.times.Available.{Available}
+use Rattle.fil_check.specs.declared.timeline.times.Available.TheVariants.{Within, Never}
+use Rattle.fil_check.specs.declared.timeline.times.Interval.{Interval}
 
 pub among : {X : Type 0} (P : X → Type 0) (xs : List X) (x : X) → All P xs → Contains xs x → P x
 among P xs x all (k, within, is) = subst P is (all k x within)

@@ -10,7 +10,7 @@ use Rattle.fil_ast.specs.Tree.{DataPort, ValueTree, component_tree, port_tree}
 use Rattle.fil_ast.specs.declared.tree.FilComp.{FilComp}
 use Rattle.fil_ast.specs.declared.tree.FilPort.{FilPort}
 use Rattle.fil_sig.proofs.ListLemmas.{All-mapped, All-unmap}
-use Rattle.fil_check.specs.Available.{IsMissingIn}
+use Rattle.fil_check.specs.inside.Available.{IsMissingIn}
 
 module _ (names : List Text) (comp : FilComp) (connected : List Text) (are : connected ≡ flat_map connected_at (component_tree names comp).body) where
   abbrev IsConnected : DataPort → Type 0

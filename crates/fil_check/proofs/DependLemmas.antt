@@ -16,7 +16,7 @@ use Rattle.fil_ast.specs.declared.tree.FilComp.{FilComp}
 use Rattle.fil_ast.specs.declared.tree.FilPort.{FilPort}
 use Rattle.fil_check.proofs.InstanceLemmas.{front_at, last_at}
 use Rattle.fil_check.proofs.MeaningLemmas.{not_found}
-use Rattle.fil_check.specs.Reached.{IsReachedFrom, ReachesInputs}
+use Rattle.fil_check.specs.inside.Reached.{IsReachedFrom, ReachesInputs}
 
 pushed : {X : Type 0} (xs : List X) (x i : X) → Contains (xs ++ x ∷ []) i ↔ (Contains xs i ⊎ (x ≡ i))
 pushed xs x i = (to, from)

@@ -19,11 +19,13 @@ use Rattle.fil_ast.specs.Tree.{Event, Interface, DataPort, Component, Design, co
 use Rattle.fil_ast.specs.Typing.{HasWidths, HasShape}
 use Rattle.fil_ast.specs.declared.tree.FilComp.{FilComp}
 use Rattle.fil_ast.specs.declared.tree.FilDesign.{FilDesign}
-use Rattle.fil_check.specs.Callees.{HasGoodDelay, HasSmallInterval, HasGoodTimes}
-use Rattle.fil_check.specs.First.{ComponentIs, IsFirstItem, TellsFirst, TellsItem}
+use Rattle.fil_check.specs.inside.Callees.{HasGoodDelay, HasSmallInterval, HasGoodTimes}
+use Rattle.fil_check.specs.First.{TellsFirst}
+use Rattle.fil_check.specs.inside.First.{ComponentIs, IsFirstItem, TellsItem}
 use Rattle.fil_check.specs.Least.{evidence_of}
-use Rattle.fil_check.specs.Outputs.{output_names}
-use Rattle.fil_check.specs.Wired.{IsFirstLoop}
+use Rattle.fil_check.specs.inside.Least.{number_of}
+use Rattle.fil_check.specs.inside.Outputs.{output_names}
+use Rattle.fil_check.specs.inside.Wired.{IsFirstLoop}
 use Rattle.fil_check.specs.declared.rules.CompEnd.{CompEnd}
 use Rattle.fil_check.specs.declared.rules.CompEnd.TheVariants as component
 use Rattle.fil_check.specs.declared.rules.FilEnd.{FilEnd}
@@ -131,7 +133,7 @@ refused d n comp number item evidence at before first =
 pub component_ends : (d : FilDesign) (n : ℕ) (comp : FilComp) (end : CompEnd) (r : FilEnd) → slice_get (design_of d) n ≡ Some (component_tree d.names comp) → KeepBefore (design_of d) n
     → TellsItem (take n (design_of d)) (component_tree d.names comp) end → ComponentIs comp.name end r → TellsFirst d r
 component_ends d n comp (component.Broken item broken) r at before first is =
-    subst (TellsFirst d) (sym is) (refused d n comp broken.rule item (evidence_of broken.evidence) at before first)
+    subst (TellsFirst d) (sym is) (refused d n comp (number_of broken.rule) item (evidence_of broken.evidence) at before first)
 component_ends d n comp component.Memory r at before first is = subst (TellsFirst d) (sym is) tt
 
 -- where all components keep the rules, the first loop is what is refused

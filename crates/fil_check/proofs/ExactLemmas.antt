@@ -10,15 +10,15 @@ use Rattle.std.proofs.lemmas.List.Elements.{All-cons, All-contains, All-head, Al
 use Rattle.std.proofs.lemmas.Option.{none-some, same_Some, slice_get-get_or, slice_get_within, get_or_from_slice_get}
 use Rattle.std.proofs.lemmas.Slice.Eq.{bytes_eq-Decides}
 use Rattle.hw_names.specs.Name.{Text, AreDistinct}
-use Rattle.fil_ast.specs.Evidence.{AreApart, Fits}
+use Rattle.fil_ast.specs.Evidence.{AreKeptApart, Fits}
 use Rattle.fil_ast.specs.Holds as held
-use Rattle.fil_ast.specs.Holds.{Start, Hold, IsLegal, IsHeldIn, holds_of}
+use Rattle.fil_ast.specs.Holds.{Start, Hold, AreLegalStarts, IsHeldIn, holds_of}
 use Rattle.fil_ast.specs.Items.{Item, TheSignature, TheStatement, TheEnd, scope_after, scope_with}
 use Rattle.fil_ast.specs.Naming.{event_names, instance_names}
 use Rattle.fil_ast.specs.Primitives.{is_filament_primitive, primitive_signature}
 use Rattle.fil_ast.specs.Rules.{Rule, F1, F11, F12, Keeps, KeepsComponent, KeepsRules, OfInvocation}
 use Rattle.fil_ast.specs.Scope.{Scope, Instance, Invocation, bare_signature, component_named, instance_named, instance_signature, instances_at, invocations_at, signature_in}
-use Rattle.fil_ast.specs.Sharing.{EndsInTime, IsUseOf, KeepsApart}
+use Rattle.fil_ast.specs.Sharing.{EndsInTime, IsUseOf, KeepsUsesApart}
 use Rattle.fil_ast.specs.Signature.{Delay, Fixed, Gap, End, SigEvent, Signature, component_signature, sig_event}
 use Rattle.fil_ast.specs.Timeline.{HoldsSome, IsUse, Use, hold_of, until}
 use Rattle.fil_ast.specs.Tree.{Component, Design, Event, Statement, New, Call, Both, Connect, TimeAt}
@@ -28,9 +28,9 @@ use Rattle.fil_share.specs.Instances.{signature_of}
 use Rattle.fil_share.proofs.CalleeLemmas.{named_among}
 use Rattle.fil_share.proofs.ListLemmas.{All-flat_map, Contains-at}
 use Rattle.fil_share.proofs.OwnLemmas.{FoundIn, IsFound, KeepsNames, KeepsShared, cut_before, cut_with, find_last, found_all, found_more, found_own, made_in, own_apart, same_meaning, some_there}
-use Rattle.fil_check.specs.Callees.{HasGoodDelay, IsGoodDelay}
+use Rattle.fil_check.specs.inside.Callees.{HasGoodDelay, IsGoodDelay}
 use Rattle.fil_check.specs.Needed.{Collide, HoldsTwice, NothingIsHeldTwice, SharingRulesAreExact, first_ten, gap_starts, later_of, meeting_starts, sharing_rules}
-use Rattle.fil_check.specs.Place.{AreHeld}
+use Rattle.fil_check.specs.Held.{AreHeld}
 use Rattle.fil_check.proofs.MadeLemmas.{primitive_times}
 use Rattle.fil_check.proofs.NeededLemmas.{in_flat, meet, overrun}
 
@@ -86,10 +86,10 @@ in_drop [] k x at = absurd (cc)
 in_drop (y ∷ xs) zero x at = Contains-at (y ∷ xs) 0 x at
 in_drop (y ∷ xs) (suc k) x at = in_drop xs k x at
 
-apart_or_not : (u x : Use) → AreApart u x ⊎ (¬ AreApart u x)
+apart_or_not : (u x : Use) → AreKeptApart u x ⊎ (¬ AreKeptApart u x)
 apart_or_not u x = by (bytes_eq u.at.event x.at.event) refl
   where
-    by : (b : Bool) → bytes_eq u.at.event x.at.event ≡ b → AreApart u x ⊎ (¬ AreApart u x)
+    by : (b : Bool) → bytes_eq u.at.event x.at.event ≡ b → AreKeptApart u x ⊎ (¬ AreKeptApart u x)
     by true is =
         let same = (bytes_eq-Decides u.at.event x.at.event).0 is in
         elim (cases_lt x.at.plus (u.at.plus + u.hold)) [
@@ -102,14 +102,14 @@ apart_or_not u x = by (bytes_eq u.at.event x.at.event) refl
     by false is = inr (λ apart. (let bad : true ≡ false = sym ((bytes_eq-Decides u.at.event x.at.event).1 apart.0) ∙ is in absurd (cc)))
 
 -- holds that are apart don't meet
-not_twice : (holds : List Hold) (inst : Text) (event row : ℕ) → AllPairs held.AreApart holds → HoldsTwice holds inst event row → ⊥
+not_twice : (holds : List Hold) (inst : Text) (event row : ℕ) → AllPairs held.NeverMeet holds → HoldsTwice holds inst event row → ⊥
 not_twice holds inst event row apart two =
     let within_i = slice_get_within holds two.i two.one two.at_one in
     let within_j = slice_get_within holds two.j two.other two.at_other in
     let one : get_or holds two.i two.one ≡ two.one = get_or_from_slice_get holds two.i two.one two.one two.at_one in
     let other : get_or holds two.j two.one ≡ two.other = get_or_from_slice_get holds two.j two.other two.one two.at_other in
-    let P : Hold → Hold → Type 0 = held.AreApart in
-    let both : held.AreApart two.one two.other =
+    let P : Hold → Hold → Type 0 = held.NeverMeet in
+    let both : held.NeverMeet two.one two.other =
     subst (P two.one) other (subst (λ (h : Hold). P h (get_or holds two.j two.one)) one (apart two.i two.j two.one two.differ within_j)) in
     let a = two.held_one in
     let b = two.held_other in
@@ -243,7 +243,7 @@ module _ (earlier : Design) (c : Component) (others : KeepsRules first_ten earli
         ]
 
     module _ (k : ℕ) (s : Statement) (at : slice_get c.body k ≡ Some s) (w : Invocation) (there : Contains (invocations_at s) w) where
-      keeps_apart : KeepsApart (with k s at w there) w
+      keeps_apart : KeepsUsesApart (with k s at w there) w
       keeps_apart u other used known = elim (apart_or_not other u) [
         | inl good ↦ good
         | inr met ↦

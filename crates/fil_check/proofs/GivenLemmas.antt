@@ -19,7 +19,7 @@ use Rattle.fil_sig.specs.declared.time_sig.SigEvent.{SigEvent}
 use Rattle.fil_sig.specs.declared.time_sig.SigPort.{SigPort}
 use Rattle.fil_sig.specs.declared.time_sig.TimeSig.{TimeSig}
 use Rattle.fil_sig.proofs.ListLemmas.{All-mapped, All-unmap, told_false}
-use Rattle.fil_check.specs.Given.{AreWide}
+use Rattle.fil_check.specs.inside.Given.{AreWide}
 
 -- texts that a test tells apart
 pub texts_differ : (a b : Text) (r : Bool) → r ≡ not (bytes_eq a b) → r ≡ true → a ≡ b → ⊥

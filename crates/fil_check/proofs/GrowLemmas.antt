@@ -12,12 +12,12 @@ use Rattle.fil_ast.specs.Connections.{connected_at}
 use Rattle.fil_ast.specs.Naming.{instance_names, invocation_names, port_names}
 use Rattle.fil_ast.specs.Scope.{Scope, Instance, Invocation, signature_in}
 use Rattle.fil_ast.specs.Tree.{Giving, Statement, New, Call, Both, TimeAt}
-use Rattle.fil_check.specs.Tables.{AddsInstance, AddsInvocation, Shows, calls_from, calls_of, grown, instance_of, listed, made_signature, meant_signature, times_of, times_shown}
-use Rattle.fil_check.specs.Times.{AreTimes}
+use Rattle.fil_check.specs.inside.Tables.{AddsInstance, AddsInvocation, Shows, calls_from, calls_of, grown, instance_of, listed, made_signature, meant_signature, times_of, times_shown}
+use Rattle.fil_check.specs.inside.Times.{AreTimes}
 use Rattle.fil_check.specs.declared.tables.Earlier.{Earlier}
 use Rattle.fil_check.specs.declared.tables.Made.{Made}
 use Rattle.fil_check.specs.declared.tables.Tables.{Tables}
-use Rattle.fil_check.specs.declared.times.Offset.{Offset}
+use Rattle.fil_check.specs.declared.timeline.times.Offset.{Offset}
 use Rattle.fil_check.proofs.PlaceLemmas.{instance_listed_of, no_calls}
 
 -- what follows where there was memory

@@ -22,16 +22,16 @@ use Rattle.fil_ast.specs.Scope.{Scope, Instance, bare_signature, component_named
 use Rattle.fil_ast.specs.Signature.{SigPort, Signature, component_signature, sig_port}
 use Rattle.fil_ast.specs.Tree.{Component, DataPort, Design}
 use Rattle.fil_ast.specs.Wires.{DependsWithin, OfComponent, OfPrimitive, Reaches, through_before, through_of, whole_scope}
-use Rattle.fil_sig.specs.Kinds.{table_name_in}
+use Rattle.fil_sig.specs.inside.Kinds.{table_name_in}
 use Rattle.fil_check.proofs.Lookup.{find_at_place}
 use Rattle.fil_check.proofs.ReadingLemmas.{instance_found}
-use Rattle.fil_check.specs.PortGraph.{Below}
-use Rattle.fil_check.specs.Readings.{ReadsAll, ReadsMade, ReadsWired, ReadsWithin}
-use Rattle.fil_check.specs.Tables.{IsPlace}
-use Rattle.fil_check.specs.Wiring.{DependsOn, ShowsWires}
+use Rattle.fil_check.specs.inside.PortGraph.{Below}
+use Rattle.fil_check.specs.inside.Readings.{ReadsAll, ReadsMade, ReadsWired, ReadsWithin}
+use Rattle.fil_check.specs.inside.Tables.{IsPlace}
+use Rattle.fil_check.specs.inside.Wiring.{DependsOn, ShowsWires}
 use Rattle.fil_check.specs.declared.tables.Earlier.{Earlier}
 use Rattle.fil_check.specs.declared.tables.Tables.{Tables}
-use Rattle.fil_check.specs.declared.wires.Wires.{Wires}
+use Rattle.fil_check.specs.declared.loops.Wires.{Wires}
 use Rattle.fil_ast.specs.declared.tree.FilComp.{FilComp}
 
 -- ---- Filament's primitives: none is a memory, so all outputs of one depend on all inputs, or none on any

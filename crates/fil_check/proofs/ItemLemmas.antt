@@ -8,19 +8,21 @@ use Rattle.hw_names.specs.Name.{Text}
 use Rattle.fil_ast.specs.Connections.{ConnectsAll}
 use Rattle.fil_ast.specs.Evidence as shown
 use Rattle.fil_ast.specs.Items.{Item, TheSignature, TheStatement, TheEnd, scope_after, scope_with}
-use Rattle.fil_ast.specs.Refusal.{Shows, ShowsAtStatement}
+use Rattle.fil_ast.specs.Refusal.{ShowsBroken, ShowsAtStatement}
 use Rattle.fil_ast.specs.Rules.{Rule, F5, F6, F7, F8, F9, Keeps, KeepsItem, KeepsComponent, AtSignature, AtStatement, all_rules}
 use Rattle.fil_ast.specs.Scope.{Scope, Instance, Invocation, instances_at, invocations_at}
 use Rattle.fil_ast.specs.Tree.{Statement, Component, Design, component_tree}
 use Rattle.fil_ast.specs.declared.tree.FilComp.{FilComp}
-use Rattle.fil_check.specs.First.{KeepsBefore, IsFirstItem, ItemIs, TellsItem}
-use Rattle.fil_check.specs.Least.{IsLeastBroken, TellsLeast, evidence_of}
-use Rattle.fil_check.specs.Place.{StandsAt}
-use Rattle.fil_check.specs.Tables.{grown}
+use Rattle.fil_check.specs.inside.First.{KeepsBefore, IsFirstItem, ItemIs, TellsItem}
+use Rattle.fil_check.specs.Least.{evidence_of}
+use Rattle.fil_check.specs.inside.Least.{IsLeastBroken, TellsLeast, number_of}
+use Rattle.fil_check.specs.inside.Place.{StandsAt}
+use Rattle.fil_check.specs.inside.Tables.{grown}
 use Rattle.fil_check.specs.declared.rules.CompEnd.{CompEnd}
 use Rattle.fil_check.specs.declared.rules.Evidence.TheVariants.{Nothing}
 use Rattle.fil_check.specs.declared.rules.ItemEnd.{ItemEnd}
 use Rattle.fil_check.specs.declared.rules.ItemEnd.TheVariants.{Broken, Memory}
+use Rattle.fil_check.specs.declared.rules.Rule.TheVariants as code_rule
 use Rattle.fil_check.specs.declared.tables.Earlier.{Earlier}
 use Rattle.fil_check.specs.declared.tables.Tables.{Tables}
 use Rattle.fil_check.proofs.LeastLemmas.{all_thirteen, breaks, first_four, one_more_rule}
@@ -82,12 +84,12 @@ module _ (comps : Design) (c : Component) where
   -- what the end of the signature tells, and the end of a statement
   pub signature_ends : (end : ItemEnd) (r : CompEnd) → TellsLeast (λ rule. AtSignature rule comps c) (λ rule e. e ≡ shown.Nothing) end → ItemIs 0 end r → TellsItem comps c r
   signature_ends (Broken broken) r least is =
-      subst (TellsItem comps c) (sym is) (signature_told broken.rule (evidence_of broken.evidence) least)
+      subst (TellsItem comps c) (sym is) (signature_told (number_of broken.rule) (evidence_of broken.evidence) least)
   signature_ends Memory r least is = subst (TellsItem comps c) (sym is) tt
 
   pub statement_ends : (k : ℕ) (s : Statement) (end : ItemEnd) (r : CompEnd) → slice_get c.body k ≡ Some s → KeepsBefore comps c (k + 1) → TellsLeast (AtItem k s) (ShownAtItem k s) end → ItemIs (k + 1) end r → TellsItem comps c r
   statement_ends k s (Broken broken) r at before least is =
-      subst (TellsItem comps c) (sym is) (statement_told k s broken.rule (evidence_of broken.evidence) at before least)
+      subst (TellsItem comps c) (sym is) (statement_told k s (number_of broken.rule) (evidence_of broken.evidence) at before least)
   statement_ends k s Memory r at before least is = subst (TellsItem comps c) (sym is) tt
 
   -- F9 is the only rule at the end of the body
@@ -99,11 +101,11 @@ module _ (comps : Design) (c : Component) where
   end_told : (k : ℕ) → k ≡ length c.body → KeepsBefore comps c (k + 1) → ¬ ConnectsAll c → IsFirstItem comps c (k + 1) 9 shown.Nothing
   end_told k end before unconnected =
       let P : ℕ → Type 0 = λ n. IsFirstItem comps c n 9 shown.Nothing in
-      let least = breaks (Keeps comps c TheEnd) (Shows comps c TheEnd) 8 F9 shown.Nothing refl eight_at_end unconnected refl in
+      let least = breaks (Keeps comps c TheEnd) (ShowsBroken comps c TheEnd) 8 F9 shown.Nothing refl eight_at_end unconnected refl in
       let here : IsFirstItem comps c (suc k) 9 shown.Nothing = record { items = (λ j below. before j (omega arith)); item = TheEnd; here = inr (end, refl); least = least } in
       subst P (sym (add-one k)) here
 
-  pub body_ends : (k : ℕ) (end : ItemEnd) (r : CompEnd) → k ≡ length c.body → KeepsBefore comps c (k + 1) → ¬ ConnectsAll c → end ≡ Broken (record { rule = 9; evidence = Nothing }) → ItemIs (k + 1) end r → TellsItem comps c r
+  pub body_ends : (k : ℕ) (end : ItemEnd) (r : CompEnd) → k ≡ length c.body → KeepsBefore comps c (k + 1) → ¬ ConnectsAll c → end ≡ Broken (record { rule = code_rule.F9; evidence = Nothing }) → ItemIs (k + 1) end r → TellsItem comps c r
   body_ends k end r last before unconnected breaks_9 is =
       let I : ItemEnd → Type 0 = λ e. ItemIs (k + 1) e r in
       subst (TellsItem comps c) (sym (subst I breaks_9 is)) (end_told k last before unconnected)

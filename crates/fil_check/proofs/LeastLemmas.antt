@@ -4,10 +4,11 @@ use Rattle.std.proofs.lemmas.List.Elements.{All-append, All-cons, All-nil}
 use Rattle.std.proofs.lemmas.Option.{same_Some, slice_get_within}
 use Rattle.fil_ast.specs.Evidence as shown
 use Rattle.fil_ast.specs.Rules.{Rule, F1, F2, F3, F4, F5, F6, F7, F8, F9, F10, F11, F12, F13, all_rules}
-use Rattle.fil_check.specs.Least.{IsLeastBroken, TellsLeast}
+use Rattle.fil_check.specs.inside.Least.{IsLeastBroken, TellsLeast, number_of}
 use Rattle.fil_check.specs.declared.rules.Evidence.TheVariants.{Nothing}
 use Rattle.fil_check.specs.declared.rules.ItemEnd.{ItemEnd}
 use Rattle.fil_check.specs.declared.rules.ItemEnd.TheVariants.{Broken}
+use Rattle.fil_check.specs.declared.rules.Rule as code
 use Rattle.fil_share.proofs.ListLemmas.{take_next}
 
 -- what holds of the first elements holds of each of them
@@ -52,7 +53,8 @@ module _ (keeps : Rule → Type 0) where
       }
 
   -- so tells the end by a rule that shows nothing
-  pub ends_by : (shows : Rule → shown.Evidence → Type 0) (place : ℕ) (rule : Rule) → slice_get all_rules place ≡ Some rule → All keeps (take place all_rules) → ¬ keeps rule → shows rule shown.Nothing
-      → (end : ItemEnd) → end ≡ Broken (record { rule = place + 1; evidence = Nothing }) → TellsLeast keeps shows end
-  ends_by shows place rule numbered before unkept shows_it end is =
-      subst (TellsLeast keeps shows) (sym is) (breaks shows place rule shown.Nothing numbered before unkept shows_it)
+  pub ends_by : (shows : Rule → shown.Evidence → Type 0) (place : ℕ) (rule : Rule) (its_code : code.Rule) → number_of its_code ≡ place + 1 → slice_get all_rules place ≡ Some rule → All keeps (take place all_rules) → ¬ keeps rule → shows rule shown.Nothing
+      → (end : ItemEnd) → end ≡ Broken (record { rule = its_code; evidence = Nothing }) → TellsLeast keeps shows end
+  ends_by shows place rule its_code counted numbered before unkept shows_it end is =
+      let L : ℕ → Type 0 = λ n. IsLeastBroken keeps shows n shown.Nothing in
+      subst (TellsLeast keeps shows) (sym is) (subst L (sym counted) (breaks shows place rule shown.Nothing numbered before unkept shows_it))

@@ -4,10 +4,10 @@ use Rattle.std.specs.Option.{IsSome}
 use Rattle.std.proofs.lemmas.Bool.{cases_lt}
 use Rattle.std.proofs.lemmas.List.{append-nil, get_or_past, length-map, map-append}
 use Rattle.std.proofs.lemmas.List.Elements.{Contains-append_left, Contains-append_right}
-use Rattle.std.proofs.lemmas.Option.{none-some, same_Some, get_or_from_slice_get, slice_get_past, slice_get_within, slice_get-get_or}
+use Rattle.std.proofs.lemmas.Option.{none-some, same_Some, get_or_from_slice_get, slice_get_past, slice_get-get_or}
 use Rattle.hw_names.specs.Name.{Text, AreDistinct}
 use Rattle.hw_names.proofs.NameLemmas.{KeepsTexts-append, same_number}
-use Rattle.fil_ast.specs.Evidence.{AreApart}
+use Rattle.fil_ast.specs.Evidence.{AreKeptApart}
 use Rattle.fil_ast.specs.Naming.{MakesNewNames, instance_names}
 use Rattle.fil_ast.specs.Scope.{Scope, Instance, Invocation, instance_signature, instances_at, invocations_at}
 use Rattle.fil_ast.specs.Sharing.{IsEarlierUse, IsUseOf}
@@ -15,19 +15,18 @@ use Rattle.fil_ast.specs.Signature.{Delay, Signature}
 use Rattle.fil_ast.specs.Timeline.{IsUse, Use}
 use Rattle.fil_ast.specs.Tree.{Connect, Statement, ValueTree}
 use Rattle.fil_ast.specs.declared.tree.FilComp.{FilComp}
-use Rattle.fil_check.specs.Place.{AreShared, with_instance}
-use Rattle.fil_check.specs.Shared.{IsInvoked}
-use Rattle.fil_check.specs.Sharing.{HasDelay, IsShownBy, IsUsedBefore, KeepsApartAt}
-use Rattle.fil_check.specs.Starts.{AddsUses, HasRoom, IsFirstFrom, IsLastUntil, IsStart, ListsAllUses, ListsUses, StartsNoneFrom, use_at}
-use Rattle.fil_check.specs.Tables.{AddsInstance, Shows, calls_at, grown, listed, made_signature, meant_signature, signature_at}
-use Rattle.fil_check.specs.Times.{AreTimes}
-use Rattle.fil_check.specs.Uses.{ShowsUse}
-use Rattle.fil_check.specs.declared.starts.Starts.{Starts}
+use Rattle.fil_check.specs.inside.Place.{AreShared, with_instance}
+use Rattle.fil_check.specs.inside.Shared.{IsInvoked}
+use Rattle.fil_check.specs.inside.Sharing.{HasDelay, IsShownBy, IsUsedBefore, KeepsApartAt}
+use Rattle.fil_check.specs.inside.Starts.{AddsUses, HasRoom, IsFirstFrom, IsLastUntil, IsStart, ListsAllUses, ListsUses, StartsNoneFrom, use_at}
+use Rattle.fil_check.specs.inside.Tables.{AddsInstance, Shows, calls_at, grown, listed, made_signature, meant_signature, signature_at}
+use Rattle.fil_check.specs.inside.Uses.{ShowsUse}
+use Rattle.fil_check.specs.declared.sharing.starts.Starts.{Starts}
 use Rattle.fil_check.specs.declared.tables.Earlier.{Earlier}
 use Rattle.fil_check.specs.declared.tables.Made.{Made}
 use Rattle.fil_check.specs.declared.tables.Tables.{Tables}
-use Rattle.fil_check.specs.declared.times.Offset.{Offset}
-use Rattle.fil_check.specs.declared.uses.Use as numbers
+use Rattle.fil_check.specs.declared.timeline.times.Offset.{Offset}
+use Rattle.fil_check.specs.declared.timeline.uses.Use as numbers
 use Rattle.fil_check.proofs.GivenLemmas.{mapped_at}
 use Rattle.fil_check.proofs.PlaceLemmas.{at_of, in_parts, instance_listed_of, signed_with, use_after, use_before}
 use Rattle.fil_check.proofs.SharingLemmas.{AreAlike, a_use, alike_back, apart_alike, apart_texts, from_own, no_use, same_use}
@@ -47,7 +46,7 @@ calls_gone tables n past =
 -- ---- F11
 
 -- a use before another, from which a third is apart, is apart from the third
-apart_before : (scope : Scope) (e y x : Use) → 0 < e.hold → 0 < y.hold → AreAlike e y ⊎ (AreShared scope e y ⊎ AreShared scope y e) → AreApart y x → e.at.plus ≤ y.at.plus → y.at.plus ≤ x.at.plus → AreApart e x
+apart_before : (scope : Scope) (e y x : Use) → 0 < e.hold → 0 < y.hold → AreAlike e y ⊎ (AreShared scope e y ⊎ AreShared scope y e) → AreKeptApart y x → e.at.plus ≤ y.at.plus → y.at.plus ≤ x.at.plus → AreKeptApart e x
 apart_before scope e y x held_e held_y two apart before then = elim two [
   | inl like ↦ apart_alike y x e x (alike_back e y like) (refl, refl) apart
   | inr (inl shared) ↦ elim shared.disjoint [
@@ -60,7 +59,7 @@ apart_before scope e y x held_e held_y two apart before then = elim two [
   ]
 ]
 
-apart_after : (scope : Scope) (e y x : Use) → 0 < y.hold → AreAlike e y ⊎ (AreShared scope e y ⊎ AreShared scope y e) → AreApart y x → x.at.plus ≤ y.at.plus → y.at.plus ≤ e.at.plus → AreApart e x
+apart_after : (scope : Scope) (e y x : Use) → 0 < y.hold → AreAlike e y ⊎ (AreShared scope e y ⊎ AreShared scope y e) → AreKeptApart y x → x.at.plus ≤ y.at.plus → y.at.plus ≤ e.at.plus → AreKeptApart e x
 apart_after scope e y x held_y two apart then after = elim two [
   | inl like ↦ apart_alike y x e x (alike_back e y like) (refl, refl) apart
   | inr (inl shared) ↦ elim apart.1 [
@@ -110,7 +109,7 @@ module _ (names : List Text) (comp : FilComp) (tables : Tables) (instance : ℕ)
           held_y : 0 < s.use_then.hold
           held_y = is.held s.invocation s.use_then s.is_earlier s.triggered
 
-        by_before : (held : numbers.Use) (last : IsLastUntil tables.starts instance k o.at.plus held) → AreApart (s last.start held last.there).use_then x.0 → e.at.plus ≤ o.at.plus → AreApart e x.0
+        by_before : (held : numbers.Use) (last : IsLastUntil tables.starts instance k o.at.plus held) → AreKeptApart (s last.start held last.there).use_then x.0 → e.at.plus ≤ o.at.plus → AreKeptApart e x.0
         by_before held last apart le =
             let y = s last.start held last.there in
             let at_x : o.at.plus ≡ x.0.at.plus = x.3.plus in
@@ -119,7 +118,7 @@ module _ (names : List Text) (comp : FilComp) (tables : Tables) (instance : ℕ)
             let reach : e.at.plus ≤ last.start = last.greatest e.at.plus le starts_here in
             apart_before with e y.use_then x.0 held_e (held_y last.start held last.there) (two last.start held last.there) apart (omega arith) (omega arith)
 
-        by_after : (held : numbers.Use) (first : IsFirstFrom tables.starts instance k o.at.plus held) → AreApart (s first.start held first.there).use_then x.0 → o.at.plus ≤ e.at.plus → AreApart e x.0
+        by_after : (held : numbers.Use) (first : IsFirstFrom tables.starts instance k o.at.plus held) → AreKeptApart (s first.start held first.there).use_then x.0 → o.at.plus ≤ e.at.plus → AreKeptApart e x.0
         by_after held first apart le =
             let y = s first.start held first.there in
             let at_x : o.at.plus ≡ x.0.at.plus = x.3.plus in
@@ -131,7 +130,7 @@ module _ (names : List Text) (comp : FilComp) (tables : Tables) (instance : ℕ)
         nowhere : use_at tables.starts instance k e.at.plus ≡ None → ⊥
         nowhere none = let bad = subst (λ (r : Option numbers.Use). IsSome r) none starts_here in absurd (cc)
 
-        apart_x : AreApart e x.0
+        apart_x : AreKeptApart e x.0
         apart_x = elim (cases_lt o.at.plus e.at.plus) [
           | inl later ↦ elim room.after [
             | inl none ↦ absurd (nowhere (none e.at.plus (omega arith)))
@@ -147,7 +146,7 @@ module _ (names : List Text) (comp : FilComp) (tables : Tables) (instance : ℕ)
           ]
         ]
 
-        apart_u : AreApart e u
+        apart_u : AreKeptApart e u
         apart_u = apart_alike e x.0 e u (refl, refl) (same_use sig v.gives.times v.inst v.inst x.0 u x.1 (own u is_u) (x.2 ∙ sym here)) apart_x
 
       pub room_apart : KeepsApartAt with v k

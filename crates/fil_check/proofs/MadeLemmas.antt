@@ -23,9 +23,9 @@ use Rattle.fil_sig.specs.declared.named.SigEnd.TheVariants.{Refused}
 use Rattle.fil_sig.proofs.UseLemmas.{primitive_shape, primitive_signed, primitive_usable}
 use Rattle.fil_ast.specs.declared.tree.TheConstants.{MOST_OFFSET}
 use Rattle.fil_sig.proofs.ListLemmas.{All-mapped}
-use Rattle.fil_check.specs.Callees.{HasGoodDelay, HasGoodTimes, HasSmallInterval}
-use Rattle.fil_check.specs.Outputs.{output_names}
-use Rattle.fil_check.specs.Tables.{ShowsEarlier, made_signature}
+use Rattle.fil_check.specs.inside.Callees.{HasGoodDelay, HasGoodTimes, HasSmallInterval}
+use Rattle.fil_check.specs.inside.Outputs.{output_names}
+use Rattle.fil_check.specs.inside.Tables.{ShowsEarlier, made_signature}
 use Rattle.fil_check.specs.declared.tables.Earlier.{Earlier}
 use Rattle.fil_check.specs.declared.tables.Made.{Made}
 use Rattle.fil_check.proofs.Lookup.{find_at_place, find_nowhere}

@@ -1,27 +1,27 @@
 -- F13, event by event.
-use Rattle.std.proofs.Common.{◌≡◌, ℕ, ◌+◌, ◌<◌, ◌≤◌, ◌⊎◌, inl, inr, true, false, is_some, List, length, map, slice_get, get_or, Option, Some, None, refl, sym, ap, subst, ◌∙◌, arith}
+use Rattle.std.proofs.Common.{◌≡◌, ℕ, ◌+◌, ◌<◌, ◌≤◌, ◌⊎◌, inl, inr, List, length, map, slice_get, get_or, Option, Some, None, refl, sym, ap, subst, ◌∙◌, arith}
 use Rattle.std.specs.Prelude.{IsSome}
 use Rattle.std.proofs.lemmas.Bool.{cases_lt}
 use Rattle.std.proofs.lemmas.Option.{none-some, same_Some, slice_get-get_or, slice_get_within, get_or_from_slice_get}
 use Rattle.hw_names.specs.Name.{Text, text_of}
 use Rattle.fil_ast.specs.Naming.{event_names}
 use Rattle.fil_ast.specs.Scope.{Scope, Invocation}
-use Rattle.fil_ast.specs.Sharing.{HasInterface, IsEarlierUse, IsUseOf, KeepsApart, TriggersWithInterface}
+use Rattle.fil_ast.specs.Sharing.{HasInterface, IsEarlierUse, IsUseOf, KeepsUsesApart, TriggersWithInterface}
 use Rattle.fil_ast.specs.Signature.{Delay, Fixed, Gap, End, SigEvent, Signature}
 use Rattle.fil_ast.specs.Timeline.{IsUse, Use, hold_of, until}
 use Rattle.fil_ast.specs.Tree.{Component, Interface, TimeAt, component_tree, interface_tree}
 use Rattle.fil_ast.specs.declared.tree.EventDef.{EventDef}
 use Rattle.fil_ast.specs.declared.tree.FilComp.{FilComp}
 use Rattle.fil_ast.specs.declared.tree.GoPort.{GoPort}
-use Rattle.fil_check.specs.Shared.{IsInvoked}
-use Rattle.fil_check.specs.Sharing.{HasDelay, IsMarkedAt, IsShownBy, IsUsedBefore}
-use Rattle.fil_check.specs.Uses.{ShowsUse}
+use Rattle.fil_check.specs.inside.Shared.{IsInvoked}
+use Rattle.fil_check.specs.inside.Sharing.{HasDelay, IsMarkedAt, IsShownBy, IsUsedBefore}
+use Rattle.fil_check.specs.inside.Uses.{ShowsUse}
 use Rattle.fil_check.specs.declared.tables.Tables.{Tables}
-use Rattle.fil_check.specs.declared.times.Offset.{Offset}
-use Rattle.fil_check.specs.declared.uses.Use as numbers
+use Rattle.fil_check.specs.declared.timeline.times.Offset.{Offset}
+use Rattle.fil_check.specs.declared.timeline.uses.Use as numbers
 use Rattle.fil_check.proofs.EachLemmas.{EachBelow}
 use Rattle.fil_check.proofs.GivenLemmas.{mapped_at, unmapped}
-use Rattle.fil_check.proofs.SharingLemmas.{a_use, from_earlier, from_own, no_use, place_of, same_use, to_earlier, to_own}
+use Rattle.fil_check.proofs.SharingLemmas.{a_use, from_earlier, from_own, no_use, same_use, to_earlier, to_own}
 use Rattle.fil_check.proofs.UseLemmas.{event_there, its_name}
 
 -- the interface ports of an event
@@ -110,7 +110,7 @@ more_times sig inst times others u is none = elim (cases_lt (length others) (len
 ]
 
 module _ (names : List Text) (comp : FilComp) (tables : Tables) (calls : List ℕ) (sig : Signature) (at : List Offset) (with : Scope) (v : Invocation) (is : IsInvoked names comp tables calls sig at with v) where
-  module _ (kept : KeepsApart with v) where
+  module _ (kept : KeepsUsesApart with v) where
     pub marked_all : ((k : ℕ) → IsMarkedAt with v k) → TriggersWithInterface with v
     marked_all marked = record {
       triggers = λ u is_u some. marked u.event u is_u refl (inl some);

@@ -23,10 +23,10 @@ use Rattle.fil_ast.specs.declared.tree.Value.{Value}
 use Rattle.fil_ast.specs.declared.tree.Value.TheVariants as values
 use Rattle.hw_names.proofs.NameLemmas.{text_of-slice_get}
 use Rattle.hw_names.specs.declared.names.NameId.{NameId}
-use Rattle.fil_check.specs.Tables.{IsPlace, instance_of, made_signature, meant_signature, times_of, times_shown}
+use Rattle.fil_check.specs.inside.Tables.{IsPlace, instance_of, made_signature, meant_signature, times_of, times_shown}
 use Rattle.fil_check.specs.declared.tables.Earlier.{Earlier}
 use Rattle.fil_check.specs.declared.tables.Tables.{Tables}
-use Rattle.fil_check.specs.declared.times.Offset.{Offset}
+use Rattle.fil_check.specs.declared.timeline.times.Offset.{Offset}
 use Rattle.fil_check.proofs.Lookup.{find_at_place, find_nowhere}
 
 -- what `get` answers, as a look-up

@@ -13,7 +13,7 @@ use Rattle.fil_ast.specs.declared.tree.FilComp.{FilComp}
 use Rattle.fil_ast.specs.declared.tree.FilPort.{FilPort}
 use Rattle.fil_ast.specs.declared.tree.GoPort.{GoPort}
 use Rattle.fil_sig.proofs.ListLemmas.{All-mapped, All-unmap}
-use Rattle.fil_check.specs.Names.{event_ids, port_ids, time_ids, used_event_ids}
+use Rattle.fil_check.specs.inside.Names.{event_ids, port_ids, time_ids, used_event_ids}
 
 All-front : {X : Type 0} (P : X → Type 0) (xs ys : List X) → All P (xs ++ ys) → All P xs
 All-front P xs ys all k d below =

@@ -10,11 +10,11 @@ use Rattle.std.proofs.lemmas.List.Elements.{All-contains, Contains-append_left, 
 use Rattle.std.proofs.lemmas.Option.{same_Some, slice_get-get_or, slice_get_within, get_or_from_slice_get}
 use Rattle.std.proofs.lemmas.Slice.Eq.{bytes_eq-Decides}
 use Rattle.hw_names.specs.Name.{Text, AreDistinct}
-use Rattle.fil_ast.specs.Evidence.{AreApart, Fits, UsesEvent, Own, Another}
-use Rattle.fil_ast.specs.Holds.{Start, Hold, Follows, IsLegal, IsHeldIn, listed, use_of, uses_from, uses_by, uses_of, hold_from, holds_by, holds_of}
+use Rattle.fil_ast.specs.Evidence.{AreKeptApart, Fits, UsesEvent, Own, Another}
+use Rattle.fil_ast.specs.Holds.{Start, Hold, Follows, AreLegalStarts, IsHeldIn, uses_listed, use_of, uses_from, uses_by, uses_of, hold_from, holds_by, holds_of}
 use Rattle.fil_ast.specs.Naming.{event_names}
 use Rattle.fil_ast.specs.Scope.{Scope, Invocation}
-use Rattle.fil_ast.specs.Sharing.{IsUseOf, KeepsApart}
+use Rattle.fil_ast.specs.Sharing.{IsUseOf, KeepsUsesApart}
 use Rattle.fil_ast.specs.Signature.{SigEvent, Signature}
 use Rattle.fil_ast.specs.Timeline.{Use, IsUse, hold_of}
 use Rattle.fil_ast.specs.Tree.{TimeAt, Event, Component}
@@ -83,7 +83,7 @@ apart_left xs ys x y two = record {
   at_y = at_left xs ys two.j y two.at_y;
 }
 
--- each use of a callee's event is listed
+-- each use of a callee's event is uses_listed
 module _ (sig : Signature) (inst : Text) (times : List TimeAt) (u : Use) (used : IsUse sig inst times u) where
   use_there : use_of u.event used.event inst times ≡ Some u
   use_there =
@@ -97,10 +97,10 @@ module _ (sig : Signature) (inst : Text) (times : List TimeAt) (u : Use) (used :
   listed_from k (e ∷ es) zero number at =
       let here : use_of k e inst times ≡ Some u =
       ap₂ (λ (k : ℕ) (e : SigEvent). use_of k e inst times) (omega arith) (same_Some e used.event at) ∙ use_there in
-      Contains-append_left (listed (use_of k e inst times)) (uses_from (suc k) es inst times) u
-      (subst (λ (o : Option Use). Contains (listed o) u) (sym here) (0, omega arith, refl))
+      Contains-append_left (uses_listed (use_of k e inst times)) (uses_from (suc k) es inst times) u
+      (subst (λ (o : Option Use). Contains (uses_listed o) u) (sym here) (0, omega arith, refl))
   listed_from k (e ∷ es) (suc j) number at =
-      Contains-append_right (listed (use_of k e inst times)) (uses_from (suc k) es inst times) u (listed_from (suc k) es j (omega arith) at)
+      Contains-append_right (uses_listed (use_of k e inst times)) (uses_from (suc k) es inst times) u (listed_from (suc k) es j (omega arith) at)
 
 use_listed : (scope : Scope) (v : Invocation) (u : Use) → IsUseOf scope v u → Contains (uses_of scope v) u
 use_listed scope v u (sig, is, used) =
@@ -112,7 +112,7 @@ hold_there scope m s v u used on =
     let test = λ (u : Use). bytes_eq u.at.event s.event in
     in_map (hold_from m s.row v.name) (filter test (uses_of scope v)) u (in_filter test (uses_of scope v) u (use_listed scope v u used) ((bytes_eq-Decides u.at.event s.event).1 on))
 
-legal_two : (c : Component) (s t : Start) → Follows c s t → IsLegal c (s ∷ t ∷ [])
+legal_two : (c : Component) (s t : Start) → Follows c s t → AreLegalStarts c (s ∷ t ∷ [])
 legal_two c s t follows zero zero d less within = absurd (omega arith)
 legal_two c s t follows zero (suc zero) d less within = follows
 legal_two c s t follows zero (suc (suc j)) d less within = absurd (omega arith)
@@ -168,7 +168,7 @@ module _ (scope : Scope) (v w : Invocation) (u x : Use) (of_v : IsUseOf scope v 
         (subst (C v) cut (Contains-append_left before after v has_v), subst (C w) cut (Contains-append_right before after w has_w))
 
     -- F11 is needed
-    pub meet : 0 < u.hold → 0 < x.hold → ¬ AreApart u x → Collide scope (meeting_starts u.at x.at) u.inst u.event (later_of u.at x.at)
+    pub meet : 0 < u.hold → 0 < x.hold → ¬ AreKeptApart u x → Collide scope (meeting_starts u.at x.at) u.inst u.event (later_of u.at x.at)
     meet held_u held_x met = by (bytes_eq u.at.event x.at.event) refl
       where
         by : (b : Bool) → bytes_eq u.at.event x.at.event ≡ b
@@ -257,7 +257,7 @@ module _ (scope : Scope) (v : Invocation) where
       same_Some u.at x.at (sym used.time ∙ ap (slice_get v.gives.times) same ∙ used'.time)
 
   -- under F11 all uses of the event are on one event of the component
-  pub on_one : KeepsApart scope v → (event : ℕ) (u x : Use) → UsesEvent scope v event u → UsesEvent scope v event x → u.at.event ≡ x.at.event
+  pub on_one : KeepsUsesApart scope v → (event : ℕ) (u x : Use) → UsesEvent scope v event u → UsesEvent scope v event x → u.at.event ≡ x.at.event
   on_one kept event u x (Own used number) (Own used' number') = ap (λ (t : TimeAt). t.event) (one_use u x used used' (number ∙ sym number'))
   on_one kept event u x (Own used number) (Another own used' number' earlier) =
       ap (λ (t : TimeAt). t.event) (one_use u own used used' (number ∙ sym number')) ∙ sym (kept own x used' earlier).0

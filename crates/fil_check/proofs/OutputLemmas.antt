@@ -10,7 +10,7 @@ use Rattle.fil_sig.specs.Seen.{seen, seen_port}
 use Rattle.fil_sig.specs.declared.time_sig.SigPort.{SigPort}
 use Rattle.fil_sig.specs.declared.time_sig.TimeSig.{TimeSig}
 use Rattle.fil_sig.proofs.ListLemmas.{comes_twice, map_at, map_more}
-use Rattle.fil_check.specs.Outputs.{output_names}
+use Rattle.fil_check.specs.inside.Outputs.{output_names}
 use Rattle.fil_check.proofs.Lookup.{find_at_place, find_nowhere}
 
 -- a port's name, before and after it is seen

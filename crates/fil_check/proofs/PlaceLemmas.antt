@@ -1,32 +1,33 @@
 -- What a statement leaves of the places before it: what its invocation means, and that the uses so far share their instances well.
-use Rattle.std.proofs.Common.{◌≡◌, ℕ, zero, suc, ◌+◌, ◌-◌, ◌<◌, ◌≤◌, ◌⊎◌, inl, inr, Bool, true, false, cond, List, [], ◌∷◌, ◌++◌, length, map, flat_map, option_map, All, Contains, Option, Some, None, Vec, Global, get_or, slice_get, refl, sym, ap, subst, ◌∙◌, arith}
+use Rattle.std.proofs.Common.{◌≡◌, ℕ, zero, suc, ◌+◌, ◌-◌, ◌<◌, ◌≤◌, ◌⊎◌, inl, inr, Bool, true, false, cond, List, [], ◌∷◌, ◌++◌, length, map, flat_map, All, Contains, Option, Some, None, get_or, slice_get, refl, sym, ap, subst, ◌∙◌, arith}
 use Rattle.std.specs.Option.{IfSome, option_and_then}
 use Rattle.std.specs.Str.{bytes_eq}
 use Rattle.std.proofs.lemmas.Bool.{false_from_ne_true}
 use Rattle.std.proofs.lemmas.List.{append-nil, get_or_past, length-map}
 use Rattle.std.proofs.lemmas.List.Elements.{All-cons, All-head, All-nil, Contains-get_or}
-use Rattle.std.proofs.lemmas.Option.{none-some, same_Some, get_or_from_slice_get, slice_get-get_or, slice_get-map, slice_get_within}
+use Rattle.std.proofs.lemmas.Option.{none-some, same_Some, get_or_from_slice_get, slice_get-get_or, slice_get_within}
 use Rattle.std.proofs.lemmas.Slice.Eq.{bytes_eq-Decides}
 use Rattle.hw_names.specs.Name.{Text, AreDistinct}
 use Rattle.fil_ast.specs.Connections.{connected_at}
 use Rattle.fil_ast.specs.Naming.{MakesNewNames, instance_names}
 use Rattle.fil_ast.specs.Rules.{Rule, F1, F7, F10, F11, F12, F13}
 use Rattle.fil_ast.specs.Scope.{Scope, Instance, Invocation, instance_named, instance_signature, instances_at, invocations_at, signature_in}
-use Rattle.fil_ast.specs.Sharing.{IsEarlierUse, IsUseOf, KeepsApart, EndsInTime, TriggersWithInterface}
+use Rattle.fil_ast.specs.Sharing.{IsEarlierUse, IsUseOf, KeepsUsesApart, EndsInTime, TriggersWithInterface}
 use Rattle.fil_ast.specs.Signature.{Delay, Fixed, Gap, End, Signature}
 use Rattle.fil_ast.specs.Timeline.{HoldsSome, IsUse, KeepsDelays, Use, hold_of, until}
 use Rattle.fil_ast.specs.Tree.{Giving, Statement, New, Call, Both, Connect, TimeAt, ValueTree}
-use Rattle.fil_check.specs.Callees.{HasGoodDelay, HasGoodTimes, IsGoodDelay}
+use Rattle.fil_check.specs.inside.Callees.{HasGoodDelay, HasGoodTimes, IsGoodDelay}
 use Rattle.fil_ast.specs.declared.tree.FilComp.{FilComp}
-use Rattle.fil_check.specs.Place.{AreHeld, AreShared, SharesWell, StandsAt, with_instance}
-use Rattle.fil_check.specs.Shared.{IsInvoked, KeepsSharing}
-use Rattle.fil_check.specs.Starts.{ListsAllUses}
-use Rattle.fil_check.specs.Stages.{HoldsUses, KeepsFrom, KeptAt}
-use Rattle.fil_check.specs.Tables.{Shows, calls_at, calls_from, calls_of, grown, instance_of, listed, signature_at, times_of, times_shown}
-use Rattle.fil_check.specs.Times.{AreTimes}
+use Rattle.fil_check.specs.Held.{AreHeld}
+use Rattle.fil_check.specs.inside.Place.{AreShared, SharesWell, StandsAt, with_instance}
+use Rattle.fil_check.specs.inside.Shared.{IsInvoked, KeepsSharing}
+use Rattle.fil_check.specs.inside.Starts.{ListsAllUses}
+use Rattle.fil_check.specs.inside.Stages.{HoldsUses, KeepsFrom, KeptAt}
+use Rattle.fil_check.specs.inside.Tables.{Shows, calls_at, calls_from, calls_of, grown, instance_of, listed, signature_at, times_of, times_shown}
+use Rattle.fil_check.specs.inside.Times.{AreTimes}
 use Rattle.fil_check.specs.declared.tables.Earlier.{Earlier}
 use Rattle.fil_check.specs.declared.tables.Tables.{Tables}
-use Rattle.fil_check.specs.declared.times.Offset.{Offset}
+use Rattle.fil_check.specs.declared.timeline.times.Offset.{Offset}
 use Rattle.fil_check.proofs.AvailableLemmas.{among}
 use Rattle.fil_check.proofs.GivenLemmas.{mapped_at, unmapped}
 use Rattle.fil_check.proofs.StageLemmas.{keeps_more, keeps_none}
@@ -239,7 +240,7 @@ module _ (scope : Scope) (before : List Statement) (s : Statement) (signed : (v 
       by (inl (i_in, at_v)) (inr (j_out, at_w)) =
           let last = j - length scope.invocations in
           let w_in : Contains (invocations_at s) w = (last, slice_get_within (invocations_at s) last w at_w, get_or_from_slice_get (invocations_at s) last w w at_w) in
-          let apart : KeepsApart (with_instance scope s) w = among (KeepsApart (with_instance scope s)) (invocations_at s) w (kept 10 F11 (omega arith) (omega arith) refl) w_in in
+          let apart : KeepsUsesApart (with_instance scope s) w = among (KeepsUsesApart (with_instance scope s)) (invocations_at s) w (kept 10 F11 (omega arith) (omega arith) refl) w_in in
           let in_time : EndsInTime (with_instance scope s) w = among (EndsInTime (with_instance scope s)) (invocations_at s) w (kept 11 F12 (omega arith) (omega arith) refl) w_in in
           let by_earlier : IsEarlierUse (with_instance scope s) x u =
           record {
@@ -325,7 +326,7 @@ none_used scope before s new none =
     λ P of k v within. of (get_or (invocations_at s) k v) (each (get_or (invocations_at s) k v) (Contains-get_or (invocations_at s) k v within)) in
     keeps_more keeps 10 12 F13 refl
     (keeps_more keeps 10 11 F12 refl
-    (keeps_more keeps 10 10 F11 refl (keeps_none keeps 10) (all (KeepsApart with) (λ v kept. kept.apart)))
+    (keeps_more keeps 10 10 F11 refl (keeps_none keeps 10) (all (KeepsUsesApart with) (λ v kept. kept.apart)))
     (all (EndsInTime with) (λ v kept. kept.in_time)))
     (all (TriggersWithInterface with) (λ v kept. kept.triggers))
 

@@ -8,8 +8,8 @@ use Rattle.hw_graph.proofs.MemberLemmas.{In, in_of, contains_of, in_left, in_rig
 use Rattle.hw_graph.specs.declared.groups.Entry.{Entry}
 use Rattle.hw_names.proofs.NameLemmas.{length-KeepsTexts}
 use Rattle.hw_names.specs.Name.{Text, KeepsTexts}
-use Rattle.fil_check.specs.PortGraph.{NoPair, HasReading, Adds, IsPair, Below}
-use Rattle.fil_check.specs.declared.port_graph.PortGraph.{PortGraph}
+use Rattle.fil_check.specs.inside.PortGraph.{NoPair, HasReading, Adds, IsPair, Below}
+use Rattle.fil_check.specs.declared.loops.graph.PortGraph.{PortGraph}
 
 -- ---- entries and names
 

@@ -1,5 +1,5 @@
 -- The numbers of an instance's ports among the names of all ports.
-use Rattle.std.proofs.Common.{◌≡◌, ◌↔◌, ℕ, ◌+◌, ◌<◌, Bool, eqb, List, [], ◌∷◌, ◌++◌, All, length, map, take, slice_get, Option, Some, None, Vec, Global, refl, sym, ap, ap₂, subst, ◌∙◌, arith}
+use Rattle.std.proofs.Common.{◌≡◌, ◌↔◌, ℕ, ◌+◌, ◌<◌, Bool, eqb, List, [], ◌∷◌, ◌++◌, All, length, map, take, slice_get, Option, Some, None, Vec, Global, refl, sym, ap, ap₂, ◌∙◌, arith}
 use Rattle.std.specs.Bool.{IsTrue}
 use Rattle.std.specs.Prelude.{vec_len}
 use Rattle.std.proofs.lemmas.Bool.Decides.{Decides-eqb}
@@ -12,9 +12,9 @@ use Rattle.fil_sig.specs.Seen.{seen, seen_port}
 use Rattle.fil_sig.specs.declared.time_sig.SigPort.{SigPort}
 use Rattle.fil_sig.specs.declared.time_sig.TimeSig.{TimeSig}
 use Rattle.fil_share.proofs.ListLemmas.{take_next}
-use Rattle.fil_check.specs.PortGraph.{Adds, Below}
-use Rattle.fil_check.specs.Readings.{ArePorts, ReadsWired, full_name_of}
-use Rattle.fil_check.specs.declared.port_graph.PortGraph.{PortGraph}
+use Rattle.fil_check.specs.inside.PortGraph.{Adds, Below}
+use Rattle.fil_check.specs.inside.Readings.{ArePorts, ReadsWired, full_name_of}
+use Rattle.fil_check.specs.declared.loops.graph.PortGraph.{PortGraph}
 use Rattle.fil_check.proofs.GivenLemmas.{mapped_at, unmapped}
 use Rattle.fil_check.proofs.PortGraphLemmas.{adds_none}
 

@@ -4,15 +4,15 @@ use Rattle.std.specs.Option.{IfSome, MatchOption, is_some}
 use Rattle.std.proofs.lemmas.Bool.{cases_lt}
 use Rattle.std.proofs.lemmas.Option.{same_Some, slice_get_within}
 use Rattle.hw_names.specs.Name.{Text}
-use Rattle.fil_ast.specs.Evidence.{IsMissingOffset, ReadsArgument}
+use Rattle.fil_ast.specs.Evidence.{IsMissingOffset}
 use Rattle.fil_ast.specs.Scope.{Scope}
 use Rattle.fil_ast.specs.Signature as tree
-use Rattle.fil_ast.specs.Timeline.{Covers, ReadsAvailable, interval_at}
+use Rattle.fil_ast.specs.Timeline.{Covers, ReadsAvailable, interval_at, ReadsArgument}
 use Rattle.fil_ast.specs.Tree.{Giving, TimeAt, ValueTree, value_tree}
 use Rattle.fil_ast.specs.declared.tree.Value.{Value}
 use Rattle.fil_sig.specs.Seen.{seen_port}
 use Rattle.fil_sig.specs.declared.time_sig.SigPort.{SigPort}
-use Rattle.fil_check.specs.Available.{IsMissingIn}
+use Rattle.fil_check.specs.inside.Available.{IsMissingIn}
 use Rattle.fil_check.proofs.GivenLemmas.{mapped_at, unmapped}
 
 module _ (names : List Text) (scope : Scope) (times : List TimeAt) (ports : List SigPort) (args : List Value) where

@@ -23,9 +23,9 @@ use Rattle.fil_ast.specs.declared.tree.Value.TheVariants as values
 use Rattle.fil_sig.specs.Seen.{seen, seen_port}
 use Rattle.fil_sig.specs.declared.time_sig.SigPort.{SigPort}
 use Rattle.fil_sig.specs.declared.time_sig.TimeSig.{TimeSig}
-use Rattle.fil_check.specs.PortGraph.{Adds, Below, IsPair}
-use Rattle.fil_check.specs.declared.port_graph.PortGraph.{PortGraph}
-use Rattle.fil_check.specs.Readings.{port_of_value, ReadsArgument, ReadsAll, ReadsEach, ReadsGiven, ReadsMade, ReadsNumbered, ReadsWired, ReadsValue, ReadsBy, ReadsAt}
+use Rattle.fil_check.specs.inside.PortGraph.{Adds, Below, IsPair}
+use Rattle.fil_check.specs.declared.loops.graph.PortGraph.{PortGraph}
+use Rattle.fil_check.specs.inside.Readings.{port_of_value, ReadsArgument, ReadsAll, ReadsEach, ReadsGiven, ReadsMade, ReadsNumbered, ReadsWired, ReadsValue, ReadsBy, ReadsAt}
 use Rattle.fil_check.proofs.Lookup.{find_at_place}
 use Rattle.fil_check.proofs.PortGraphLemmas.{adds_none, adds_same, below_more, below_skip}
 

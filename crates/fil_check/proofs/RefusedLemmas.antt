@@ -8,10 +8,10 @@ use Rattle.hw_names.specs.Name.{Text, AreDistinct}
 use Rattle.fil_ast.specs.Evidence.{Evidence, Nothing, ACycle, AGap, IsGap, IsMeetingCycle, MeetsAt, OverrunsAt}
 use Rattle.fil_ast.specs.Items.{Item, TheSignature, TheStatement, TheEnd, scope_after, scope_with}
 use Rattle.fil_ast.specs.Naming.{MakesNewNames, UsesKnownNames, event_names}
-use Rattle.fil_ast.specs.Refusal.{IsRefusal, BreaksRule, HasLoop, Shows}
+use Rattle.fil_ast.specs.Refusal.{IsRefusal, BreaksRule, HasLoop, ShowsBroken}
 use Rattle.fil_ast.specs.Rules.{Rule, F1, F2, F7, F11, F12, IsFirstBroken, Keeps, OfInvocation, all_rules}
 use Rattle.fil_ast.specs.Scope.{Scope, Instance, Invocation, instances_at, invocations_at}
-use Rattle.fil_ast.specs.Sharing.{KeepsApart}
+use Rattle.fil_ast.specs.Sharing.{KeepsUsesApart}
 use Rattle.fil_ast.specs.Timeline.{HoldsSome}
 use Rattle.fil_ast.specs.Tree.{Component, Design, Statement, New, Call, Both, Connect}
 use Rattle.fil_ast.specs.Typing.{HasShape}
@@ -19,7 +19,7 @@ use Rattle.fil_share.proofs.ListLemmas.{Contains-at, slice_get-take}
 use Rattle.fil_share.proofs.MakesLemmas.{flat_next}
 use Rattle.fil_share.proofs.OwnLemmas.{KeepsNames}
 use Rattle.fil_check.specs.Needed.{Collide, MeetsTwice, OverrunsTwice, RefusedGapIsReal, RefusedMeetingIsReal, gap_starts, meeting_starts, with_invocation}
-use Rattle.fil_check.specs.Place.{AreHeld}
+use Rattle.fil_check.specs.Held.{AreHeld}
 use Rattle.fil_check.proofs.ExactLemmas.{are_held}
 use Rattle.fil_check.proofs.NeededLemmas.{gap_is_real, meeting_is_real}
 
@@ -116,11 +116,11 @@ module _ (earlier : Design) (c : Component) (k : ℕ) (s : Statement) (at : slic
         subst (λ (scope : Scope). Collide scope (meeting_starts first.other.at first.own.at) v.inst first.own.event cycle) (sym same_scope)
         (meeting_is_real (scope_with earlier c (take k c.body) s) v cycle held_called first)
 
-    pub gap_after : (gap cycle : ℕ) → AreDistinct (event_names c) → HasShape c → All (KeepsApart (scope_with earlier c (take k c.body) s)) (invocations_at s) → (first : IsGap (scope_with earlier c (take k c.body) s) v gap cycle)
+    pub gap_after : (gap cycle : ℕ) → AreDistinct (event_names c) → HasShape c → All (KeepsUsesApart (scope_with earlier c (take k c.body) s)) (invocations_at s) → (first : IsGap (scope_with earlier c (take k c.body) s) v gap cycle)
         → Collide after (gap_starts first.first.at.event gap) v.inst first.event cycle
     gap_after gap cycle distinct shape apart first =
         subst (λ (scope : Scope). Collide scope (gap_starts first.first.at.event gap) v.inst first.event cycle) (sym same_scope)
-        (gap_is_real (scope_with earlier c (take k c.body) s) v gap cycle held_called distinct shape (All-contains (KeepsApart (scope_with earlier c (take k c.body) s)) (invocations_at s) v apart there) first)
+        (gap_is_real (scope_with earlier c (take k c.body) s) v gap cycle held_called distinct shape (All-contains (KeepsUsesApart (scope_with earlier c (take k c.body) s)) (invocations_at s) v apart there) first)
 
 -- what stands before the first broken rule
 module _ (comps : Design) (n k r : ℕ) (first : IsFirstBroken all_rules comps n (suc k) r) (s : Statement) (at : slice_get first.c.body k ≡ Some s) (is : first.item ≡ TheStatement (take k first.c.body) s) (late : 10 ≤ r) where
@@ -159,7 +159,7 @@ the_rule comps n k r first m rule same numbered =
 
 -- what the first broken rule shows at an item
 abbrev ShowsAt : (comps : Design) (n : ℕ) (c : Component) → Evidence → Item → Rule → Type 0
-ShowsAt comps n c evidence item rule = Shows (take n comps) c item rule evidence
+ShowsAt comps n c evidence item rule = ShowsBroken (take n comps) c item rule evidence
 
 told_at : (comps : Design) (n : ℕ) (c : Component) (evidence : Evidence) (item i : Item) (rule r : Rule) → item ≡ i → rule ≡ r → ShowsAt comps n c evidence item rule → ShowsAt comps n c evidence i r
 told_at comps n c evidence item i rule r same_item same_rule told =
@@ -221,7 +221,7 @@ gap_told comps name n (suc k) r gap cycle first place named told = by first.here
         let shown = told_at comps n c (AGap gap cycle) first.item (TheStatement (take k c.body) s) first.rule F12 is rule told in
         let same = gap_of shown.0 gap shown.1 cycle (sym shown.2) in
         let overruns : OverrunsAt with s gap cycle = subst (λ (y : ℕ). OverrunsAt with s gap y) same.1 (subst (λ (x : ℕ). OverrunsAt with s x shown.1) same.0 shown.3) in
-        let apart : All (KeepsApart with) (invocations_at s) = subst (λ (i : Item). Keeps (take n comps) c i F11) is (first.lesser 10 F11 (omega arith) refl) in
+        let apart : All (KeepsUsesApart with) (invocations_at s) = subst (λ (i : Item). Keeps (take n comps) c i F11) is (first.lesser 10 F11 (omega arith) refl) in
         let v = overruns.0 in
         let there = overruns.1 in
         let told = overruns.2 in

@@ -7,9 +7,9 @@ use Rattle.std.proofs.lemmas.Option.{same_Some, slice_get-get_or, slice_get_with
 use Rattle.std.proofs.lemmas.Slice.Eq.{bytes_eq-Decides}
 use Rattle.hw_names.specs.Name.{Text, AreDistinct}
 use Rattle.hw_names.proofs.NameLemmas.{same_number}
-use Rattle.fil_ast.specs.Evidence.{AreApart, IsApartFrom, IsMeetingCycle}
+use Rattle.fil_ast.specs.Evidence.{AreKeptApart, IsApartFrom, IsMeetingCycle}
 use Rattle.fil_ast.specs.Scope.{Scope, Invocation, instance_signature}
-use Rattle.fil_ast.specs.Sharing.{AreDisjoint, IsEarlierUse, IsUseOf, KeepsApart}
+use Rattle.fil_ast.specs.Sharing.{AreDisjoint, IsEarlierUse, IsUseOf, KeepsUsesApart}
 use Rattle.fil_ast.specs.Signature.{Delay, SigEvent, Signature}
 use Rattle.fil_ast.specs.Timeline.{IsUse, Use, hold_of}
 use Rattle.fil_ast.specs.Tree.{TimeAt}
@@ -17,14 +17,14 @@ use Rattle.fil_ast.specs.declared.tree.FilComp.{FilComp}
 use Rattle.fil_sig.specs.Seen.{seen, seen_delay, seen_event}
 use Rattle.fil_sig.specs.declared.time_sig.SigEvent as time_sig
 use Rattle.fil_sig.specs.declared.time_sig.TimeSig.{TimeSig}
-use Rattle.fil_check.specs.Shared.{IsInvoked}
-use Rattle.fil_check.specs.Sharing.{AreApartAt, AreNumbersApart, GivesTimes, HasDelay, IsFoundFirst, IsShownBy, MeetAt}
-use Rattle.fil_check.specs.Tables.{calls_from, times_of, times_shown}
-use Rattle.fil_check.specs.Times.{AreTimes}
-use Rattle.fil_check.specs.Uses.{ShowsUse}
+use Rattle.fil_check.specs.inside.Shared.{IsInvoked}
+use Rattle.fil_check.specs.inside.Sharing.{AreApartAt, AreNumbersApart, GivesTimes, HasDelay, IsFoundFirst, IsShownBy, MeetAt}
+use Rattle.fil_check.specs.inside.Tables.{calls_from, times_of, times_shown}
+use Rattle.fil_check.specs.inside.Times.{AreTimes}
+use Rattle.fil_check.specs.inside.Uses.{ShowsUse}
 use Rattle.fil_check.specs.declared.tables.Tables.{Tables}
-use Rattle.fil_check.specs.declared.times.Offset.{Offset}
-use Rattle.fil_check.specs.declared.uses.Use as numbers
+use Rattle.fil_check.specs.declared.timeline.times.Offset.{Offset}
+use Rattle.fil_check.specs.declared.timeline.uses.Use as numbers
 use Rattle.fil_check.proofs.GivenLemmas.{mapped_at}
 use Rattle.fil_check.proofs.TimeLemmas.{shown_parts}
 
@@ -54,7 +54,7 @@ disjoint_alike a b c d (at_a, hold_a) (at_b, hold_b) rows =
 pub disjoint_back : (a b : Use) → AreDisjoint a b → AreDisjoint b a
 disjoint_back a b rows = elim rows [ inl h ↦ inr h | inr h ↦ inl h ]
 
-pub apart_alike : (a b c d : Use) → AreAlike a c → AreAlike b d → AreApart a b → AreApart c d
+pub apart_alike : (a b c d : Use) → AreAlike a c → AreAlike b d → AreKeptApart a b → AreKeptApart c d
 apart_alike a b c d like_a like_b (event, rows) =
     (ap (λ (t : TimeAt). t.event) (sym like_a.0) ∙ event ∙ ap (λ (t : TimeAt). t.event) like_b.0, disjoint_alike a b c d like_a like_b rows)
 
@@ -99,7 +99,7 @@ event_within sig inst times u is =
 
 -- two uses are apart as their numbers are
 module _ (events : List Text) (distinct : AreDistinct events) (o p : numbers.Use) (u w : Use) (shows_o : IsShownBy events o u) (shows_p : IsShownBy events p w) where
-  pub apart_texts : AreNumbersApart o p → AreApart u w
+  pub apart_texts : AreNumbersApart o p → AreKeptApart u w
   apart_texts (same, rows) =
       let plus_o : o.at.plus ≡ u.at.plus = shows_o.plus in
       let plus_p : p.at.plus ≡ w.at.plus = shows_p.plus in
@@ -109,7 +109,7 @@ module _ (events : List Text) (distinct : AreDistinct events) (o p : numbers.Use
         elim rows [ inl h ↦ inl (omega arith) | inr h ↦ inr (omega arith) ],
       )
 
-  pub apart_numbers : AreApart u w → AreNumbersApart o p
+  pub apart_numbers : AreKeptApart u w → AreNumbersApart o p
   apart_numbers (same, rows) =
       let plus_o : o.at.plus ≡ u.at.plus = shows_o.plus in
       let plus_p : p.at.plus ≡ w.at.plus = shows_p.plus in
@@ -270,7 +270,7 @@ module _ (names : List Text) (comp : FilComp) (tables : Tables) (calls : List �
         apart w (ap (slice_get with.invocations) (sym same_call) ∙ at_w)
   ]
 
-  pub apart_all : (n : ℕ) → length calls ≤ n → ApartBelow n → KeepsApart with v
+  pub apart_all : (n : ℕ) → length calls ≤ n → ApartBelow n → KeepsUsesApart with v
   apart_all n all below u earlier is_u known =
       let w = known.invocation in
       let k = known.is_earlier.0 in
@@ -305,7 +305,7 @@ module _ (names : List Text) (comp : FilComp) (tables : Tables) (calls : List �
       }
 
   -- what the cycle is told of breaks F11
-  pub meeting_breaks : (cycle : ℕ) → IsMeetingCycle with v cycle → KeepsApart with v → ⊥
+  pub meeting_breaks : (cycle : ℕ) → IsMeetingCycle with v cycle → KeepsUsesApart with v → ⊥
   meeting_breaks cycle m kept =
       let within = slice_get_within with.invocations m.number m.earlier m.at in
       let known : IsEarlierUse with m.own m.other = record { invocation = m.earlier; is_earlier = (m.number, within, get_or_from_slice_get with.invocations m.number m.earlier m.earlier m.at); uses = m.triggered; same_instance = m.same_instance; same_event = m.same_event } in

@@ -7,7 +7,7 @@ use Rattle.fil_ast.specs.Naming.{HasNewNames, NamesEvents, component_names, even
 use Rattle.fil_ast.specs.Primitives.{is_any_primitive}
 use Rattle.fil_ast.specs.Tree.{Design, component_tree}
 use Rattle.fil_ast.specs.declared.tree.FilComp.{FilComp}
-use Rattle.fil_check.specs.Names.{event_ids, port_ids, used_event_ids}
+use Rattle.fil_check.specs.inside.Names.{event_ids, port_ids, used_event_ids}
 use Rattle.fil_check.proofs.NameLemmas.{event_texts, port_texts, events_named, events_used}
 
 module _ (names : List Text) (c : FilComp) where

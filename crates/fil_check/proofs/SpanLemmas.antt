@@ -4,10 +4,10 @@ use Rattle.std.specs.Prelude.{max, IfNone, IfSome, MatchOption}
 use Rattle.std.proofs.lemmas.Bool.{cases_lt}
 use Rattle.std.proofs.lemmas.Option.{same_Some, slice_get-get_or, slice_get_within, get_or_from_slice_get}
 use Rattle.hw_names.specs.Name.{Text}
-use Rattle.fil_ast.specs.Evidence.{AreApart, Fits, IsGap, IsSpan, UsesEvent, Own, Another}
+use Rattle.fil_ast.specs.Evidence.{AreKeptApart, Fits, IsGap, IsSpan, UsesEvent, Own, Another}
 use Rattle.fil_ast.specs.Naming.{event_names}
 use Rattle.fil_ast.specs.Scope.{Scope, Invocation}
-use Rattle.fil_ast.specs.Sharing.{AreDisjoint, EndsInTime, IsUseOf, KeepsApart}
+use Rattle.fil_ast.specs.Sharing.{AreDisjoint, EndsInTime, IsUseOf, KeepsUsesApart}
 use Rattle.fil_ast.specs.Signature.{Delay, Fixed, Gap, End, Signature}
 use Rattle.fil_ast.specs.Timeline.{IsUse, Use, hold_of, until}
 use Rattle.fil_ast.specs.Tree.{Component, Event, TimeAt, component_tree, event_tree}
@@ -17,14 +17,14 @@ use Rattle.fil_share.specs.declared.hold.Meet.{Meet}
 use Rattle.fil_sig.specs.Seen.{seen, seen_delay, seen_event}
 use Rattle.fil_sig.specs.declared.time_sig.SigEvent as time_sig
 use Rattle.fil_sig.specs.declared.time_sig.TimeSig.{TimeSig}
-use Rattle.fil_check.specs.Callees.{HasGoodDelay, HasGoodTimes, IsGoodDelay}
-use Rattle.fil_check.specs.Place.{AreShared}
-use Rattle.fil_check.specs.Shared.{IsInvoked}
-use Rattle.fil_check.specs.Sharing.{EndsAt, GapAt, IsFirstOf, IsLastOf, IsSpanOf, MOST_HOLD, SpanFits, SpanMeets}
-use Rattle.fil_check.specs.declared.span.Span.{Span}
+use Rattle.fil_check.specs.inside.Callees.{HasGoodDelay, HasGoodTimes, IsGoodDelay}
+use Rattle.fil_check.specs.inside.Place.{AreShared}
+use Rattle.fil_check.specs.inside.Shared.{IsInvoked}
+use Rattle.fil_check.specs.inside.Sharing.{EndsAt, GapAt, IsFirstOf, IsLastOf, IsSpanOf, MOST_HOLD, SpanFits, SpanMeets}
+use Rattle.fil_check.specs.declared.sharing.in_time.Span.{Span}
 use Rattle.fil_check.specs.declared.tables.Tables.{Tables}
-use Rattle.fil_check.specs.declared.times.Offset.{Offset}
-use Rattle.fil_check.specs.declared.uses.Use as numbers
+use Rattle.fil_check.specs.declared.timeline.times.Offset.{Offset}
+use Rattle.fil_check.specs.declared.timeline.uses.Use as numbers
 use Rattle.fil_check.proofs.GivenLemmas.{mapped_at}
 use Rattle.fil_check.proofs.SharingLemmas.{AreAlike, alike_back, apart_alike, disjoint_back, from_own, same_use}
 use Rattle.fil_check.proofs.UseLemmas.{event_there, is_there, its_name, only_delay}
@@ -77,7 +77,7 @@ module _ (names : List Text) (comp : FilComp) (tables : Tables) (calls : List �
         ]
       ]
 
-  module _ (good : HasGoodTimes sig) (kept : KeepsApart with v) where
+  module _ (good : HasGoodTimes sig) (kept : KeepsUsesApart with v) where
     own_held : (u : Use) → IsUseOf with v u → 0 < u.hold
     own_held u is_u =
         let x = own u is_u in
@@ -101,7 +101,7 @@ module _ (names : List Text) (comp : FilComp) (tables : Tables) (calls : List �
       inst_of a (Own is_a here) = (own a is_a).named
       inst_of a (Another u is_u here earlier) = earlier.same_instance ∙ (own u is_u).named
 
-      own_other : (u a : Use) → IsUseOf with v u → u.event ≡ k → Uses a → AreAlike u a ⊎ AreApart a u
+      own_other : (u a : Use) → IsUseOf with v u → u.event ≡ k → Uses a → AreAlike u a ⊎ AreKeptApart a u
       own_other u a is_u here (Own is_a there) = inl (alike_in v u a is_u is_a (here ∙ sym there))
       own_other u a is_u here (Another x is_x there earlier) =
           inr (apart_alike a x a u (refl, refl) (alike_in v x u is_x is_u (there ∙ sym here)) (kept x a is_x earlier))

@@ -1,5 +1,5 @@
 -- The span of an event's uses by the first and the last of them so far.
-use Rattle.std.proofs.Common.{◌≡◌, ℕ, ◌+◌, ◌<◌, ◌≤◌, ◌^◌, ◌⊎◌, inl, inr, Bool, true, false, List, Option, Some, None, ◌↔◌, is_some, refl, sym, ap, subst, ◌∙◌, arith}
+use Rattle.std.proofs.Common.{◌≡◌, ℕ, ◌<◌, ◌≤◌, ◌^◌, ◌⊎◌, inl, inr, Bool, List, Option, Some, None, ◌↔◌, is_some, refl, sym, ap, subst, ◌∙◌, arith}
 use Rattle.std.specs.Bool.{IsTrue}
 use Rattle.std.specs.Option.{IfSome, IsSome}
 use Rattle.std.specs.Prelude.{IfNone, MatchOption}
@@ -11,14 +11,14 @@ use Rattle.fil_ast.specs.Signature.{Signature}
 use Rattle.fil_ast.specs.Timeline.{IsUse, Use}
 use Rattle.fil_ast.specs.Tree.{TimeAt}
 use Rattle.fil_ast.specs.declared.tree.FilComp.{FilComp}
-use Rattle.fil_check.specs.Shared.{IsInvoked}
-use Rattle.fil_check.specs.Sharing.{IsFirstOf, IsLastOf, IsShownBy, IsSpanOf, IsUsedBefore}
-use Rattle.fil_check.specs.Starts.{IsFirstFrom, IsLastUntil, IsStart, ListsUses, StartsNoneFrom, StartsNoneUntil, use_at}
-use Rattle.fil_check.specs.Tables.{calls_at}
-use Rattle.fil_check.specs.declared.span.Span.{Span}
+use Rattle.fil_check.specs.inside.Shared.{IsInvoked}
+use Rattle.fil_check.specs.inside.Sharing.{IsFirstOf, IsLastOf, IsShownBy, IsSpanOf, IsUsedBefore}
+use Rattle.fil_check.specs.inside.Starts.{IsFirstFrom, IsLastUntil, IsStart, ListsUses, StartsNoneFrom, StartsNoneUntil, use_at}
+use Rattle.fil_check.specs.inside.Tables.{calls_at}
+use Rattle.fil_check.specs.declared.sharing.in_time.Span.{Span}
 use Rattle.fil_check.specs.declared.tables.Tables.{Tables}
-use Rattle.fil_check.specs.declared.times.Offset.{Offset}
-use Rattle.fil_check.specs.declared.uses.Use as numbers
+use Rattle.fil_check.specs.declared.timeline.times.Offset.{Offset}
+use Rattle.fil_check.specs.declared.timeline.uses.Use as numbers
 use Rattle.fil_check.proofs.ListedLemmas.{unused_from, used_from}
 use Rattle.fil_check.proofs.SharingLemmas.{AreAlike, from_own}
 use Rattle.fil_check.proofs.SpanLemmas.{alike_in}

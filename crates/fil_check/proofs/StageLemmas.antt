@@ -12,19 +12,21 @@ use Rattle.fil_ast.specs.Evidence.{IsMissingOffset}
 use Rattle.fil_ast.specs.Naming.{MakesNewNames, UsesKnownNames}
 use Rattle.fil_ast.specs.Rules.{Rule, F1, F2, F3, F4, F5, F6, F7, F8, F9, F10, F11, F12, F13, all_rules}
 use Rattle.fil_ast.specs.Scope.{Scope, Invocation, instance_signature, invocations_at, signature_in}
-use Rattle.fil_ast.specs.Sharing.{KeepsApart, EndsInTime, TriggersWithInterface}
+use Rattle.fil_ast.specs.Sharing.{KeepsUsesApart, EndsInTime, TriggersWithInterface}
 use Rattle.fil_ast.specs.Signature.{Signature}
 use Rattle.fil_ast.specs.Timeline.{HoldsSome, KeepsDelays, ReadsAvailable, interval_at}
 use Rattle.fil_ast.specs.Tree.{Giving, Statement, New, Call, Both, Connect, ValueTree}
 use Rattle.fil_ast.specs.Typing.{KeepsNumbers, KeepsWidths}
-use Rattle.fil_check.specs.Invocation.{IsBroken, KeepsTimes, TellsTimes, HoldsNone, Misses, Outlasts}
-use Rattle.fil_check.specs.Least.{IsLeastBroken, TellsLeast}
-use Rattle.fil_check.specs.Place.{with_instance}
-use Rattle.fil_check.specs.Shared.{IsUnshared, KeepsSharing, TellsSharing, Meets, Overruns, Unmarked}
-use Rattle.fil_check.specs.Stages.{IsLeastFrom, KeepsFrom, KeptAt, ShownAt, TellsFrom}
+use Rattle.fil_check.specs.inside.Invocation.{IsBroken, KeepsTimes, TellsTimes, HoldsNone, Misses, Outlasts}
+use Rattle.fil_check.specs.inside.Least.{IsLeastBroken, TellsLeast, number_of}
+use Rattle.fil_check.specs.inside.Place.{with_instance}
+use Rattle.fil_check.specs.inside.Shared.{IsUnshared, KeepsSharing, TellsSharing, Meets, Overruns, Unmarked}
+use Rattle.fil_check.specs.inside.Stages.{IsLeastFrom, KeepsFrom, KeptAt, ShownAt, TellsFrom}
 use Rattle.fil_check.specs.declared.rules.Evidence.TheVariants as evidence
 use Rattle.fil_check.specs.declared.rules.ItemEnd.{ItemEnd}
 use Rattle.fil_check.specs.declared.rules.ItemEnd.TheVariants.{Broken, Memory}
+use Rattle.fil_check.specs.declared.rules.Rule as code
+use Rattle.fil_check.specs.declared.rules.Rule.TheVariants as code_rule
 use Rattle.fil_check.proofs.ConnectLemmas.{missing_refutes}
 
 -- what an error tells, told otherwise
@@ -76,11 +78,11 @@ module _ (keeps : Rule → Type 0) where
     told_from_start from Memory kept told = tt
 
     -- the refusal by a rule that shows nothing
-    pub breaks_at : (from place : ℕ) (rule : Rule) (end : ItemEnd) → end ≡ Broken (record { rule = place + 1; evidence = evidence.Nothing }) → from ≤ place → slice_get all_rules place ≡ Some rule → KeepsFrom keeps from place → ¬ keeps rule
+    pub breaks_at : (from place : ℕ) (rule : Rule) (its_code : code.Rule) (end : ItemEnd) → number_of its_code ≡ place + 1 → end ≡ Broken (record { rule = its_code; evidence = evidence.Nothing }) → from ≤ place → slice_get all_rules place ≡ Some rule → KeepsFrom keeps from place → ¬ keeps rule
         → shows rule shown.Nothing → TellsFrom keeps shows from end
-    breaks_at from place rule end is after here kept broken showing =
+    breaks_at from place rule its_code end numbered is after here kept broken showing =
         let T : ItemEnd → Type 0 = TellsFrom keeps shows from in
-        subst T (sym is) (record { place = place; counted = refl; after = after; lesser = kept; rule = rule; numbered = here; broken = broken; is_shown = showing })
+        subst T (sym is) (record { place = place; counted = sym numbered; after = after; lesser = kept; rule = rule; numbered = here; broken = broken; is_shown = showing })
 
 -- F1 to F6 at a statement
 module _ (scope : Scope) (before : List Statement) (s : Statement) where
@@ -220,8 +222,8 @@ module _ (scope : Scope) (before : List Statement) where
     pub connection_kept : ConnectsOnce scope before a_connection → KeepsFrom (KeptAt scope before a_connection) 6 10
     connection_kept once = let K : Rule → Type 0 = KeptAt scope before a_connection in keeps_more K 6 9 F10 refl (keeps_more K 6 8 F9 refl upto_9 once) tt
 
-    pub connection_told : (end : ItemEnd) → end ≡ Broken (record { rule = 9; evidence = evidence.Nothing }) → ¬ ConnectsOnce scope before a_connection → TellsFrom (KeptAt scope before a_connection) (ShownAt scope a_connection) 6 end
-    connection_told end is not_once = breaks_at (KeptAt scope before a_connection) (ShownAt scope a_connection) 6 8 F9 end is (omega arith) refl upto_9 not_once refl
+    pub connection_told : (end : ItemEnd) → end ≡ Broken (record { rule = code_rule.F9; evidence = evidence.Nothing }) → ¬ ConnectsOnce scope before a_connection → TellsFrom (KeptAt scope before a_connection) (ShownAt scope a_connection) 6 end
+    connection_told end is not_once = breaks_at (KeptAt scope before a_connection) (ShownAt scope a_connection) 6 8 F9 code_rule.F9 end refl is (omega arith) refl upto_9 not_once refl
 
   pub new_kept : (name made : Text) (params : List ℕ) → KeepsFrom (KeptAt scope before (New name made params)) 6 10
   new_kept name made params =
@@ -235,7 +237,7 @@ none_invoked scope before s is =
     let with = with_instance scope s in
     let none : (P : Invocation → Type 0) → All P (invocations_at s) = λ P. (let A : List Invocation → Type 0 = All P in subst A (sym is) (All-nil P)) in
     keeps_more keeps 10 12 F13 refl
-    (keeps_more keeps 10 11 F12 refl (keeps_more keeps 10 10 F11 refl (keeps_none keeps 10) (none (KeepsApart with))) (none (EndsInTime with)))
+    (keeps_more keeps 10 11 F12 refl (keeps_more keeps 10 10 F11 refl (keeps_none keeps 10) (none (KeepsUsesApart with))) (none (EndsInTime with)))
     (none (TriggersWithInterface with))
 
 -- F11 to F13 at a statement with this invocation
@@ -258,10 +260,10 @@ module _ (scope : Scope) (before : List Statement) (s : Statement) (v : Invocati
   there : Contains (invocations_at s) v
   there = let C : List Invocation → Type 0 = λ vs. Contains vs v in subst C (sym is) (0, omega arith, refl)
 
-  upto_11 : KeepsApart with v → KeepsFrom AtS 10 11
-  upto_11 f11 = keeps_more AtS 10 10 F11 refl (keeps_none AtS 10) (of_all (KeepsApart with) f11)
+  upto_11 : KeepsUsesApart with v → KeepsFrom AtS 10 11
+  upto_11 f11 = keeps_more AtS 10 10 F11 refl (keeps_none AtS 10) (of_all (KeepsUsesApart with) f11)
 
-  upto_12 : KeepsApart with v → EndsInTime with v → KeepsFrom AtS 10 12
+  upto_12 : KeepsUsesApart with v → EndsInTime with v → KeepsFrom AtS 10 12
   upto_12 f11 f12 = keeps_more AtS 10 11 F12 refl (upto_11 f11) (of_all (EndsInTime with) f12)
 
   pub sharing_kept : KeepsSharing with v → KeepsFrom AtS 10 13
@@ -275,7 +277,7 @@ module _ (scope : Scope) (before : List Statement) (s : Statement) (v : Invocati
     lesser = keeps_none AtS 10;
     rule = F11;
     numbered = refl;
-    broken = λ all. not_so (of_one (KeepsApart with) all);
+    broken = λ all. not_so (of_one (KeepsUsesApart with) all);
     is_shown = (cycle, is_cycle, (v, there, meeting));
   }
   unshared rule e (Overruns f11 not_so gap cycle is_gap number is_gap_shown) = record {

@@ -7,9 +7,9 @@ use Rattle.fil_ast.specs.Items.{scope_after}
 use Rattle.fil_ast.specs.Naming.{HasNewNames, event_names, port_names}
 use Rattle.fil_ast.specs.Tree.{Component, Design, component_tree}
 use Rattle.fil_ast.specs.declared.tree.FilComp.{FilComp}
-use Rattle.fil_check.specs.Place.{StandsAt}
-use Rattle.fil_check.specs.Starts.{use_at}
-use Rattle.fil_check.specs.Tables.{Shows, ShowsEarlier, listed, made_signature, times_shown}
+use Rattle.fil_check.specs.inside.Place.{StandsAt}
+use Rattle.fil_check.specs.inside.Starts.{use_at}
+use Rattle.fil_check.specs.inside.Tables.{Shows, ShowsEarlier, listed, made_signature, times_shown}
 use Rattle.fil_check.specs.declared.tables.Earlier.{Earlier}
 use Rattle.fil_check.specs.declared.tables.Tables.{Tables}
 

@@ -1,5 +1,5 @@
 -- The uses so far, by the offsets at which they start.
-use Rattle.std.proofs.Common.{◌≡◌, ◌≤◌, ◌<◌, ◌^◌, ◌⊎◌, inl, inr, ℕ, Bool, true, false, List, [], ◌∷◌, ◌++◌, slice_get, Option, Some, None, cond, Result, Ok, Err, refl, sym, ap, ap₂, subst, ◌∙◌, arith}
+use Rattle.std.proofs.Common.{◌≡◌, ◌≤◌, ◌<◌, ◌^◌, ℕ, false, List, [], ◌∷◌, ◌++◌, slice_get, Option, Some, None, cond, Result, Ok, Err, refl, sym, ap, ap₂, subst, ◌∙◌}
 use Rattle.std.specs.Option.{IfSome, IsSome}
 use Rattle.std.specs.Prelude.{OnErr, OnOk, ⊤}
 use Rattle.std.specs.BTreeMap.{BTreeMap, Updates, get}
@@ -8,12 +8,12 @@ use Rattle.std.specs.declared.cmp.Ordering.{Ordering}
 use Rattle.std.specs.declared.cmp.Ordering.TheVariants.{Less, Equal, Greater}
 use Rattle.std.specs.Ordering.{is_eq, is_gt, is_lt}
 use Rattle.std.specs.declared.ops.Bound.TheVariants.{Included, Unbounded}
-use Rattle.std.proofs.lemmas.Option.{none-some, same_Some}
-use Rattle.fil_check.specs.Keys.{Key, key_cmp}
-use Rattle.fil_check.specs.Starts.{IsFirstFrom, IsLastUntil, PutsUse, StartsNoneFrom, StartsNoneUntil, use_at}
-use Rattle.fil_check.specs.declared.starts.Starts.{Starts}
-use Rattle.fil_check.specs.declared.uses.Use as numbers
-use Rattle.fil_check.proofs.KeyLemmas.{ComesBy, between, comes_back, comes_by, in_order, key_same, starts_by}
+use Rattle.std.proofs.lemmas.Option.{same_Some}
+use Rattle.fil_check.specs.inside.Keys.{Key, key_cmp}
+use Rattle.fil_check.specs.inside.Starts.{IsFirstFrom, IsLastUntil, PutsUse, StartsNoneFrom, StartsNoneUntil, use_at}
+use Rattle.fil_check.specs.declared.sharing.starts.Starts.{Starts}
+use Rattle.fil_check.specs.declared.timeline.uses.Use as numbers
+use Rattle.fil_check.proofs.KeyLemmas.{between, comes_back, comes_by, in_order, key_same, starts_by}
 
 abbrev Uses : Type 0
 Uses = BTreeMap Key numbers.Use

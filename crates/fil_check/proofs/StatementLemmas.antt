@@ -12,7 +12,7 @@ use Rattle.fil_ast.specs.Scope.{Scope, Instance, Invocation, instance_named}
 use Rattle.fil_ast.specs.Signature.{SigPort}
 use Rattle.fil_ast.specs.Tree.{Giving, New, Call, Both}
 use Rattle.fil_ast.specs.declared.tree.FilComp.{FilComp}
-use Rattle.fil_check.specs.Tables.{IsPlace}
+use Rattle.fil_check.specs.inside.Tables.{IsPlace}
 use Rattle.fil_check.specs.declared.tables.Earlier.{Earlier}
 use Rattle.fil_check.specs.declared.tables.Tables.{Tables}
 use Rattle.fil_check.proofs.GivenLemmas.{told_no, unmapped}

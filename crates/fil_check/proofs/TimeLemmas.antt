@@ -7,9 +7,9 @@ use Rattle.hw_names.specs.Name.{Text}
 use Rattle.fil_ast.specs.Signature as signature
 use Rattle.fil_ast.specs.Timeline as tree
 use Rattle.fil_ast.specs.Tree.{TimeAt}
-use Rattle.fil_check.specs.Times.{AreTimes, ShowsInterval, known, time_shown}
-use Rattle.fil_check.specs.declared.times.Interval.{Interval}
-use Rattle.fil_check.specs.declared.times.Offset.{Offset}
+use Rattle.fil_check.specs.inside.Times.{AreTimes, ShowsInterval, known, time_shown}
+use Rattle.fil_check.specs.declared.timeline.times.Interval.{Interval}
+use Rattle.fil_check.specs.declared.timeline.times.Offset.{Offset}
 use Rattle.fil_check.proofs.MeaningLemmas.{got}
 
 -- the event and the rows of an offset

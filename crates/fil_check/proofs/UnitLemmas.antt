@@ -15,7 +15,7 @@ use Rattle.fil_ast.specs.Holds.{Hold, Start, hold_from, holds_by, uses_of}
 use Rattle.fil_ast.specs.Items.{IsItem, Item, TheSignature, TheStatement, TheEnd, scope_with}
 use Rattle.fil_ast.specs.Rules.{F11, F12, Keeps, KeepsComponent, KeepsRules}
 use Rattle.fil_ast.specs.Scope.{Scope, Invocation, instances_at, invocations_at}
-use Rattle.fil_ast.specs.Sharing.{AreDisjoint, EndsInTime, IsEarlierUse, IsUseOf, IsWithin, KeepsApart}
+use Rattle.fil_ast.specs.Sharing.{AreDisjoint, EndsInTime, IsEarlierUse, IsUseOf, IsWithin, KeepsUsesApart}
 use Rattle.fil_ast.specs.Timeline.{Use}
 use Rattle.fil_ast.specs.Tree.{Component, Design, Event, Statement}
 use Rattle.fil_share.specs.Sharing as sharing
@@ -51,13 +51,13 @@ filter-flat {X} p f (x ∷ xs) = filter-append p (f x) (flat_map f xs) ∙ ap (�
 abbrev pub AreShared : ℕ → Hold → Hold → Type 0
 AreShared delay h k = ((h.to ≤ k.from) ⊎ (k.to ≤ h.from)) × (k.to ≤ h.from + delay) × (h.to ≤ k.from + delay)
 
-pub kept_by_holds : (delay : ℕ) (names : List Text) (uses : List shown.Hold) (holds : List Hold) → map (shown_hold names) uses ≡ holds → AllPairs (AreShared delay) holds → sharing.KeepsRules delay uses
+pub kept_by_holds : (delay : ℕ) (names : List Text) (uses : List shown.Hold) (holds : List Hold) → map (shown_hold names) uses ≡ holds → AllPairs (AreShared delay) holds → sharing.CanShare delay uses
 kept_by_holds delay names uses holds are pairs =
     let P : List Hold → Type 0 = AllPairs (AreShared delay) in
     let shown = AllPairs-unmapped (AreShared delay) (shown_hold names) uses (subst P (sym are) pairs) in
     (λ i j d less within. (shown i j d less within).0, λ i j d less within. (let two = shown i j d less within in (two.1, two.2)))
 
-holds_by_kept : (delay : ℕ) (names : List Text) (uses : List shown.Hold) (holds : List Hold) → map (shown_hold names) uses ≡ holds → sharing.KeepsRules delay uses → AllPairs (AreShared delay) holds
+holds_by_kept : (delay : ℕ) (names : List Text) (uses : List shown.Hold) (holds : List Hold) → map (shown_hold names) uses ≡ holds → sharing.CanShare delay uses → AllPairs (AreShared delay) holds
 holds_by_kept delay names uses holds are rules =
     let P : List Hold → Type 0 = AllPairs (AreShared delay) in
     subst P are (AllPairs-mapped (AreShared delay) (shown_hold names) uses
@@ -259,7 +259,7 @@ pub sharing_goes_by_events : SharingGoesByEvents
 sharing_goes_by_events earlier c = (
   λ rules.
       (let both : (k : ℕ) (s : Statement) → slice_get c.body k ≡ Some s → All (Keeps earlier c (TheStatement (take k c.body) s)) sharing_rules = λ k s at. rules (suc k) (TheStatement (take k c.body) s) (inl (s, at, refl)) in
-      let apart : (k : ℕ) (s : Statement) → slice_get c.body k ≡ Some s → All (KeepsApart (scope_with earlier c (take k c.body) s)) (invocations_at s) = λ k s at. both k s at 0 F11 (omega arith) in
+      let apart : (k : ℕ) (s : Statement) → slice_get c.body k ≡ Some s → All (KeepsUsesApart (scope_with earlier c (take k c.body) s)) (invocations_at s) = λ k s at. both k s at 0 F11 (omega arith) in
       let in_time : (k : ℕ) (s : Statement) → slice_get c.body k ≡ Some s → All (EndsInTime (scope_with earlier c (take k c.body) s)) (invocations_at s) = λ k s at. both k s at 1 F11 (omega arith) in (
         λ k s at j d within u other used known. (apart k s at j d within u other used known).0,
         λ unit k s at j d within. record {

@@ -13,7 +13,7 @@ use Rattle.fil_ast.specs.Holds.{Hold, hold_from}
 use Rattle.fil_ast.specs.Items.{TheStatement, scope_with}
 use Rattle.fil_ast.specs.Rules.{F1, KeepsComponent, KeepsRules}
 use Rattle.fil_ast.specs.Scope.{Scope, Invocation, instances_at, invocations_at}
-use Rattle.fil_ast.specs.Sharing.{AreDisjoint, IsEarlierUse, IsUseOf, KeepsApart}
+use Rattle.fil_ast.specs.Sharing.{AreDisjoint, IsEarlierUse, IsUseOf, KeepsUsesApart}
 use Rattle.fil_ast.specs.Timeline.{Use}
 use Rattle.fil_ast.specs.Tree.{Component, Design, Event, Statement, TimeAt}
 use Rattle.fil_sig.proofs.ListLemmas.{All-unmap}
@@ -111,7 +111,7 @@ module _ (earlier : Design) (c : Component) (others : KeepsRules first_ten earli
       ∙ ap (λ (vs : List Invocation). take (length (flat_map held vs)) (flat_map held full.invocations)) (sym called_before)
       ∙ take_blocks held full.invocations (length calls) ∙ ap (flat_map held) called_before
 
-  kept_before : sharing.KeepsRules delay (take number uses)
+  kept_before : sharing.CanShare delay (take number uses)
   kept_before =
       let shared = holds_shared earlier c others kept unit on.event.delay calls (calls_shared earlier c others kept unit on.event on.is_own on.named k short first.before) in
       let S : ℕ → Type 0 = λ d. AllPairs (AreShared d) (flat_map held calls) in
@@ -194,7 +194,7 @@ module _ (earlier : Design) (c : Component) (others : KeepsRules first_ten earli
       }
 
   -- F12 is broken at the invocation, and F11 is kept
-  module _ (gap cycle : ℕ) (apart : KeepsApart scope v) (g : IsGap scope v gap cycle) (on_first : IsUseOn unit g.first) where
+  module _ (gap cycle : ℕ) (apart : KeepsUsesApart scope v) (g : IsGap scope v gap cycle) (on_first : IsUseOn unit g.first) where
     -- every use of the event is on the same event of the component
     on_all : (u : Use) → UsesEvent scope v g.event u → IsUseOn unit u
     on_all u uses_it =

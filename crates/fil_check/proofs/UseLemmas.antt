@@ -18,10 +18,10 @@ use Rattle.fil_ast.specs.declared.tree.FilComp.{FilComp}
 use Rattle.fil_sig.specs.Seen.{seen, seen_delay, seen_event}
 use Rattle.fil_sig.specs.declared.time_sig.SigEvent.{SigEvent}
 use Rattle.fil_sig.specs.declared.time_sig.TimeSig.{TimeSig}
-use Rattle.fil_check.specs.Times.{AreTimes, time_shown}
-use Rattle.fil_check.specs.Uses.{HoldsAt, KeepsDelayAt, ShowsUse, next_plus, plus_of}
-use Rattle.fil_check.specs.declared.times.Offset.{Offset}
-use Rattle.fil_check.specs.declared.uses.Use as uses
+use Rattle.fil_check.specs.inside.Times.{AreTimes, time_shown}
+use Rattle.fil_check.specs.inside.Uses.{HoldsAt, KeepsDelayAt, ShowsUse, next_plus, plus_of}
+use Rattle.fil_check.specs.declared.timeline.times.Offset.{Offset}
+use Rattle.fil_check.specs.declared.timeline.uses.Use as uses
 use Rattle.fil_check.proofs.GivenLemmas.{mapped_at, unmapped}
 use Rattle.fil_check.proofs.MeaningLemmas.{got}
 use Rattle.fil_check.proofs.TimeLemmas.{no_time_at, shown_parts, time_at}

@@ -21,24 +21,24 @@ use Rattle.std.proofs.lemmas.Grind.{flat_map-append}
 use Rattle.fil_ast.specs.Signature as tree
 use Rattle.fil_ast.specs.Scope.{Instance, Invocation, Scope}
 use Rattle.fil_ast.specs.Timeline.{interval_at}
-use Rattle.fil_ast.specs.Weight.{listed, needs_in, times_in, rows_of, greatest_on}
+use Rattle.fil_ast.specs.Weight.{intervals_listed, needs_in, times_in, rows_of, greatest_on}
 use Rattle.fil_sig.specs.Seen.{seen_port}
 use Rattle.fil_sig.specs.declared.time_sig.SigPort.{SigPort}
 use Rattle.fil_sig.proofs.ListLemmas.{map_more}
-use Rattle.fil_check.specs.Tables.{Shows, instance_of, times_of, times_shown}
-use Rattle.fil_check.specs.Times.{AreTimes, ShowsInterval}
-use Rattle.fil_check.specs.declared.times.Interval as numbers
+use Rattle.fil_check.specs.inside.Tables.{Shows, instance_of, times_of, times_shown}
+use Rattle.fil_check.specs.inside.Times.{AreTimes, ShowsInterval}
+use Rattle.fil_check.specs.declared.timeline.times.Interval as numbers
 use Rattle.fil_check.specs.declared.weight.Asked.{Asked}
 use Rattle.fil_check.specs.declared.tables.Earlier.{Earlier}
 use Rattle.fil_check.specs.declared.tables.Tables.{Tables}
-use Rattle.fil_check.specs.declared.times.Offset.{Offset}
+use Rattle.fil_check.specs.declared.timeline.times.Offset.{Offset}
 use Rattle.fil_share.proofs.ListLemmas.{slice_get-take, take_next}
 use Rattle.fil_ast.specs.Naming.{component_names, event_names}
 use Rattle.fil_ast.specs.Rules.{Rule, Keeps, KeepsComponent, all_rules}
-use Rattle.fil_check.specs.First.{TellsItem}
+use Rattle.fil_check.specs.inside.First.{TellsItem}
 use Rattle.fil_check.specs.declared.rules.Broken.{Broken}
 use Rattle.fil_check.specs.declared.rules.CompEnd.TheVariants as component
-use Rattle.fil_check.specs.Weights.{AreWeights, IsAsked, capped, last_need, last_time, last_row, needs_for, weight_after, weight_among}
+use Rattle.fil_check.specs.inside.Weights.{AreWeights, IsAsked, capped, last_need, last_time, last_row, needs_for, weight_after, weight_among}
 
 same_name : (a b : Text) → a ≡ b → bytes_eq a b ≡ true
 same_name a b same = (bytes_eq-Decides a b).1 same
@@ -208,10 +208,10 @@ pub flat_more : {X Y : Type 0} (f : X → List Y) (xs : List X) (x : X) → flat
 flat_more f xs x = flat_map-append f xs (x ∷ []) ∙ ap (λ ys. flat_map f xs ++ ys) (no_more (f x))
 
 pub needs_more : (needs : List Interval) (gives : List TimeAt) (ins : List SigPort) (k : ℕ) (port : SigPort) → k < length ins → port ≡ get_or ins k port
-    → (needs ++ needs_for gives (map seen_port (take k ins))) ++ listed (interval_at gives (seen_port port)) ≡ needs ++ needs_for gives (map seen_port (take (k + 1) ins))
+    → (needs ++ needs_for gives (map seen_port (take k ins))) ++ intervals_listed (interval_at gives (seen_port port)) ≡ needs ++ needs_for gives (map seen_port (take (k + 1) ins))
 needs_more needs gives ins k port within is =
-    let f = λ (p : tree.SigPort). listed (interval_at gives p) in
-    three needs (needs_for gives (map seen_port (take k ins))) (listed (interval_at gives (seen_port port)))
+    let f = λ (p : tree.SigPort). intervals_listed (interval_at gives p) in
+    three needs (needs_for gives (map seen_port (take k ins))) (intervals_listed (interval_at gives (seen_port port)))
     ∙ ap (λ ns. needs ++ ns) (sym (ap (flat_map f) (map_more seen_port ins k port within ∙ ap (λ p. map seen_port (take k ins) ++ seen_port p ∷ []) (sym is)) ∙ flat_more f (map seen_port (take k ins)) (seen_port port)))
 
 pub times_more : (times gives : List TimeAt) (k : ℕ) (t : TimeAt) → slice_get gives k ≡ Some t → (times ++ take k gives) ++ t ∷ [] ≡ times ++ take (k + 1) gives
@@ -234,7 +234,7 @@ shown_invocation earlier tables scope shows k instance at first second =
 
 -- what holds of the one need that is shown
 pub need_shown : (events : List Text) (i : numbers.Interval) (P : List Interval → Type 0) (o : Option Interval) → ShowsInterval events (Some i) o
-    → ((j : Interval) → ShowsInterval events (Some i) (Some j) → P (j ∷ [])) → P (listed o)
+    → ((j : Interval) → ShowsInterval events (Some i) (Some j) → P (j ∷ [])) → P (intervals_listed o)
 need_shown events i P None shown each = absurd shown
 need_shown events i P (Some j) shown each = each j shown
 

@@ -5,9 +5,9 @@ use Rattle.std.proofs.lemmas.Option.{same_Some, slice_get_within}
 use Rattle.hw_names.specs.Name.{Text}
 use Rattle.fil_ast.specs.Tree.{Component, Design}
 use Rattle.fil_ast.specs.Wires.{HasNoLoop, IsLeastLoop}
-use Rattle.fil_check.specs.Wired.{HaveNoLoop, IsFirstLoop}
-use Rattle.fil_check.specs.Wiring.{DependsOn, ShowsWires}
-use Rattle.fil_check.specs.declared.wires.Wires.{Wires}
+use Rattle.fil_check.specs.inside.Wired.{HaveNoLoop, IsFirstLoop}
+use Rattle.fil_check.specs.inside.Wiring.{DependsOn, ShowsWires}
+use Rattle.fil_check.specs.declared.loops.Wires.{Wires}
 
 pub slice_get-left : {X : Type 0} (xs ys : List X) (k : ℕ) → k < length xs → slice_get (xs ++ ys) k ≡ slice_get xs k
 slice_get-left [] ys k below = absurd (omega arith)

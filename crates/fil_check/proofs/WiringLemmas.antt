@@ -27,12 +27,12 @@ use Rattle.fil_check.proofs.DependLemmas.{middle_distinct}
 use Rattle.fil_check.proofs.InstanceLemmas.{unmap_at}
 use Rattle.fil_check.proofs.PortGraphLemmas.{IsWithin}
 use Rattle.fil_check.proofs.ReadingLemmas.{by_statements, of_statements}
-use Rattle.fil_check.specs.PortGraph.{Adds, Below, HasReading}
-use Rattle.fil_check.specs.Readings.{ReadsAt}
-use Rattle.fil_check.specs.Reached.{AreReached, IsGraphOf, input_names}
-use Rattle.fil_check.specs.Wiring.{DependsOn}
-use Rattle.fil_check.specs.declared.port_graph.PortGraph.{PortGraph}
-use Rattle.fil_check.specs.declared.wires.Wires.{Wires}
+use Rattle.fil_check.specs.inside.PortGraph.{Adds, Below, HasReading}
+use Rattle.fil_check.specs.inside.Readings.{ReadsAt}
+use Rattle.fil_check.specs.inside.Reached.{AreReached, IsGraphOf, input_names}
+use Rattle.fil_check.specs.inside.Wiring.{DependsOn}
+use Rattle.fil_check.specs.declared.loops.graph.PortGraph.{PortGraph}
+use Rattle.fil_check.specs.declared.loops.Wires.{Wires}
 
 -- all statements make the graph of the component
 pub whole_graph : (comps : Design) (names : List Text) (comp : FilComp) (start g : PortGraph) → start.entries.items ≡ []

@@ -2,17 +2,17 @@
 use Rattle.std.specs.Prelude.{◌≡◌, ℕ, ◌+◌, ◌-◌, ◌<◌, max, List, [], ◌∷◌, ◌++◌, take, slice_get, Some, ◌↔◌, AllPairs, Contains, if◌then◌else◌, bytes_eq}
 use Rattle.hw_names.specs.Name.{Text, AreDistinct}
 use Rattle.fil_ast.specs.Evidence.{ACycle, AGap, IsMeetingCycle, IsGap}
-use Rattle.fil_ast.specs.Holds.{Start, Hold, AreApart, IsLegal, IsHeldIn, holds_of}
+use Rattle.fil_ast.specs.Holds.{Start, Hold, NeverMeet, AreLegalStarts, IsHeldIn, holds_of}
 use Rattle.fil_ast.specs.Items.{scope_after, scope_with}
 use Rattle.fil_ast.specs.Naming.{event_names}
 use Rattle.fil_ast.specs.Refusal.{IsRefusal}
 use Rattle.fil_ast.specs.Rules.{Rule, F1, F2, F3, F4, F5, F6, F7, F8, F9, F10, F11, F12, KeepsComponent, KeepsRules}
 use Rattle.fil_ast.specs.Scope.{Scope, Invocation, invocations_at}
-use Rattle.fil_ast.specs.Sharing.{KeepsApart}
+use Rattle.fil_ast.specs.Sharing.{KeepsUsesApart}
 use Rattle.fil_ast.specs.Tree.{TimeAt, Component, Design, Statement}
 use Rattle.fil_ast.specs.Typing.{HasShape}
 use Rattle.fil_ast.specs.Wires.{whole_scope}
-use Rattle.fil_check.specs.Place.{AreHeld}
+use Rattle.fil_check.specs.Held.{AreHeld}
 
 -- two holds of the list are of this event of the instance, and both hold it in the row
 pub record HoldsTwice (holds : List Hold) (inst : Text) (event row : ℕ) : Type 0 where
@@ -30,7 +30,7 @@ pub record HoldsTwice (holds : List Hold) (inst : Text) (event row : ℕ) : Type
 
 -- these starts are legal, and hold this event of the instance twice in the row
 pub record Collide (scope : Scope) (starts : List Start) (inst : Text) (event row : ℕ) : Type 0 where
-  pub legal : IsLegal scope.comp starts
+  pub legal : AreLegalStarts scope.comp starts
   pub twice : HoldsTwice (holds_of scope starts) inst event row
 
 -- the scope with one more invocation
@@ -68,7 +68,7 @@ MeetingIsReal =
 abbrev pub GapIsReal : Type 0
 GapIsReal =
     (scope : Scope) (v : Invocation) (gap cycle : ℕ) → AreHeld (with_invocation scope v) → AreDistinct (event_names scope.comp) → HasShape scope.comp →
-    KeepsApart scope v →
+    KeepsUsesApart scope v →
     (first : IsGap scope v gap cycle) →
     Collide (with_invocation scope v) (gap_starts first.first.at.event gap) v.inst first.event cycle
 
@@ -81,7 +81,7 @@ sharing_rules = F11 ∷ F12 ∷ []
 
 -- of what a legal list of transactions of the component holds, each two are apart
 abbrev pub NothingIsHeldTwice : Design → Component → Type 0
-NothingIsHeldTwice earlier c = (starts : List Start) → IsLegal c starts → AllPairs AreApart (holds_of (whole_scope earlier c) starts)
+NothingIsHeldTwice earlier c = (starts : List Start) → AreLegalStarts c starts → AllPairs NeverMeet (holds_of (whole_scope earlier c) starts)
 
 -- where F1 to F10 hold, F11 and F12 hold exactly if legal transactions hold nothing twice
 abbrev pub SharingRulesAreExact : Type 0

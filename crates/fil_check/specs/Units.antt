@@ -6,7 +6,7 @@ use Rattle.fil_ast.specs.Holds.{Hold, holds_of}
 use Rattle.fil_ast.specs.Items.{scope_with}
 use Rattle.fil_ast.specs.Rules.{KeepsComponent, KeepsRules}
 use Rattle.fil_ast.specs.Scope.{Scope, Invocation, invocations_at}
-use Rattle.fil_ast.specs.Sharing.{IsUseOf, IsEarlierUse, AreDisjoint, IsWithin, KeepsApart}
+use Rattle.fil_ast.specs.Sharing.{IsUseOf, IsEarlierUse, AreDisjoint, IsWithin, KeepsUsesApart}
 use Rattle.fil_ast.specs.Timeline.{Use}
 use Rattle.fil_ast.specs.Tree.{Event, Component, Design, Statement}
 use Rattle.fil_ast.specs.Wires.{whole_scope}
@@ -74,7 +74,7 @@ abbrev pub SharingHasOneMeaning : Type 0
 SharingHasOneMeaning =
     (earlier : Design) (c : Component) → KeepsRules first_ten earlier → KeepsComponent first_ten earlier c →
     (unit : UnitEvent) (delay : ℕ) (uses : List shown.Hold) → AreHoldsOn (whole_scope earlier c) unit delay uses →
-    Shares earlier c unit ↔ sharing.KeepsRules delay uses
+    Shares earlier c unit ↔ sharing.CanShare delay uses
 
 -- each two uses of an event of an instance are on one event of the component
 abbrev pub NamesOneEvent : Scope → Invocation → Type 0
@@ -109,6 +109,6 @@ abbrev pub GapHasOneMeaning : Type 0
 GapHasOneMeaning =
     (earlier : Design) (c : Component) → KeepsRules first_ten earlier → KeepsComponent first_ten earlier c →
     (unit : UnitEvent) (delay : ℕ) (uses : List shown.Hold) → AreHoldsOn (whole_scope earlier c) unit delay uses →
-    (k : ℕ) (s : Statement) (v : Invocation) → IsFirstAt earlier c unit k s v → KeepsApart (scope_with earlier c (take k c.body) s) v →
+    (k : ℕ) (s : Statement) (v : Invocation) → IsFirstAt earlier c unit k s v → KeepsUsesApart (scope_with earlier c (take k c.body) s) v →
     (gap cycle : ℕ) (first : IsGap (scope_with earlier c (take k c.body) s) v gap cycle) → IsUseOn unit first.first →
     IsFirstMeet delay uses (record { gap = gap; cycle = cycle })

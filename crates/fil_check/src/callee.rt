@@ -3,8 +3,8 @@ ghost use Rattle.std.specs.Prelude.{◌≡◌, option_map, IfOk};
 ghost use Rattle.hw_names.specs.Name.{AreDistinct};
 ghost use Rattle.fil_ast.specs.Scope.{sig_port_named};
 ghost use Rattle.fil_sig.specs.Seen.{seen, seen_port};
-ghost use Rattle.fil_check.specs.Callees.{HasGoodTimes};
-ghost use Rattle.fil_check.specs.Outputs.{output_names};
+ghost use Rattle.fil_check.specs.inside.Callees.{HasGoodTimes};
+ghost use Rattle.fil_check.specs.inside.Outputs.{output_names};
 
 use fil_sig::{SigPort, TimeSig, add_name};
 use hw_bits::Memory;
@@ -24,8 +24,8 @@ impl Model for Callee {
     ghost use Rattle.hw_names.specs.Name.{AreDistinct};
     ghost use Rattle.fil_ast.specs.Signature.{Signature};
     ghost use Rattle.fil_sig.specs.Seen.{seen};
-    ghost use Rattle.fil_check.specs.Callees.{HasGoodTimes};
-    ghost use Rattle.fil_check.specs.Outputs.{output_names};
+    ghost use Rattle.fil_check.specs.inside.Callees.{HasGoodTimes};
+    ghost use Rattle.fil_check.specs.inside.Outputs.{output_names};
 
     ghost Value = { Signature };
 

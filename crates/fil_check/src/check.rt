@@ -4,14 +4,16 @@ ghost use Rattle.fil_ast.specs.Limits.{KeepsLimits, HasSmallOffsets};
 ghost use Rattle.fil_ast.specs.Numbers.{ComponentHasNumbers, HasNumbers};
 ghost use Rattle.fil_ast.specs.Rules.{FilRules, KeepsComponent, all_rules};
 ghost use Rattle.fil_ast.specs.Tree.{Design, component_tree, design_of};
-ghost use Rattle.fil_check.specs.First.{ComponentIs, TellsFirst};
-ghost use Rattle.fil_check.specs.Tables.{ShowsEarlier};
+ghost use Rattle.fil_check.specs.First.{TellsFirst};
+ghost use Rattle.fil_check.specs.inside.First.{ComponentIs};
+ghost use Rattle.fil_check.specs.inside.Tables.{ShowsEarlier};
 
 use crate::callee::Callee;
 use crate::component::judge_component;
-use crate::rules::{Broken, CompEnd, Evidence, FilEnd};
+use crate::loops::{Wired, add_wires};
+use crate::place::Place;
+use crate::rules::{CompEnd, Evidence, FilEnd};
 use crate::tables::Earlier;
-use crate::wired::{Wired, add_wires};
 use fil_ast::{FilComp, FilDesign, FilOk};
 use fil_sig::{add_name, component_signature};
 use hw_bits::Memory;
@@ -38,7 +40,13 @@ pub fn check_fil<'a>(alloc: Global, design: &'a FilDesign) -> Result<FilOk<'a>, 
             Ok(tables) => tables,
             Err(end) => return Err(in_component(comp.name, end)),
         };
-        wired = add_wires(alloc, &design.names, &earlier, wired, comp, &tables)?;
+        let place = Place {
+            names: &design.names,
+            earlier: &earlier,
+            comp,
+            tables: &tables,
+        };
+        wired = add_wires(alloc, &place, wired)?;
         add_component(alloc, &design.names, &mut earlier, comp)?;
     }
     match wired {
@@ -57,14 +65,11 @@ fn in_component(comp: NameId, end: CompEnd) -> FilEnd
     ensures { ComponentIs comp end result }
 {
     match end {
-        CompEnd::Broken {
-            item,
-            broken: Broken { rule, evidence },
-        } => FilEnd::Refused {
-            rule,
+        CompEnd::Broken { item, broken } => FilEnd::Refused {
+            rule: broken.rule.number(),
             comp,
             item,
-            evidence,
+            evidence: broken.evidence,
         },
         CompEnd::Memory => FilEnd::Memory,
     }

@@ -6,14 +6,15 @@ ghost use Rattle.fil_ast.specs.Numbers.{ComponentHasNumbers};
 ghost use Rattle.fil_ast.specs.Rules.{KeepsComponent, all_rules};
 ghost use Rattle.fil_ast.specs.Tree.{Design, component_tree};
 ghost use Rattle.fil_ast.specs.Wires.{whole_scope};
-ghost use Rattle.fil_check.specs.First.{ItemIs, KeepsBefore, TellsItem};
-ghost use Rattle.fil_check.specs.Place.{StandsAt};
-ghost use Rattle.fil_check.specs.Tables.{IsPlace, ShowsEarlier};
+ghost use Rattle.fil_check.specs.inside.First.{ItemIs, KeepsBefore, TellsItem};
+ghost use Rattle.fil_check.specs.inside.Place.{StandsAt};
+ghost use Rattle.fil_check.specs.inside.Tables.{IsPlace, ShowsEarlier};
 
-use crate::connected::connects_all;
-use crate::rules::{CompEnd, ItemEnd, breaks};
+use crate::connections::connects_all;
+use crate::place::Around;
+use crate::rules::{CompEnd, ItemEnd, Rule, breaks};
+use crate::sharing::starts::Starts;
 use crate::signature::judge_signature;
-use crate::starts::Starts;
 use crate::statement::judge_statement;
 use crate::tables::{Earlier, Tables};
 use fil_ast::FilComp;
@@ -38,7 +39,12 @@ pub fn judge_component(
 {
     let mut events = Names::new(alloc);
     let mut ports = Names::new(alloc);
-    match judge_signature(alloc, names, &earlier.names, comp, &mut events, &mut ports) {
+    let around = Around {
+        names,
+        earlier,
+        comp,
+    };
+    match judge_signature(alloc, &around, &mut events, &mut ports) {
         Ok(()) => {}
         Err(end) => return Err(at_item(0, end)),
     }
@@ -53,7 +59,7 @@ pub fn judge_component(
         starts: Starts::new(alloc),
         connected: Names::new(alloc),
     };
-    judge_body(alloc, names, earlier, comp, &mut tables)?;
+    judge_body(alloc, &around, &mut tables)?;
     Ok(tables)
 }
 
@@ -69,34 +75,28 @@ fn at_item(item: u64, end: ItemEnd) -> CompEnd
 
 /// Judges the statements of a component whose signature keeps the rules, and the end of its body, and puts what the
 /// statements make into the tables.
-fn judge_body(
-    alloc: Global,
-    names: &Names,
-    earlier: &Earlier,
-    comp: &FilComp,
-    tables: &mut Tables,
-) -> Result<(), CompEnd>
-    requires numbers { ComponentHasNumbers names.now comp.now }
-    requires small { KeepsLimits comp.now }
-    ensures kept { (comps : Design) → StandsAt names.now earlier.now comp.now tables.old (scope_after comps (component_tree names.now comp.now) []) []
-        → KeepsBefore comps (component_tree names.now comp.now) 1
-        → OnOk result (KeepsComponent all_rules comps (component_tree names.now comp.now)) }
-    ensures tables { (comps : Design) → StandsAt names.now earlier.now comp.now tables.old (scope_after comps (component_tree names.now comp.now) []) []
-        → OnOk result (IsPlace names.now earlier.now comp.now tables.new (whole_scope comps (component_tree names.now comp.now))) }
-    ensures broken { (comps : Design) → StandsAt names.now earlier.now comp.now tables.old (scope_after comps (component_tree names.now comp.now) []) []
-        → KeepsBefore comps (component_tree names.now comp.now) 1
-        → IfErr result (TellsItem comps (component_tree names.now comp.now)) }
+fn judge_body(alloc: Global, around: &Around, tables: &mut Tables) -> Result<(), CompEnd>
+    requires numbers { ComponentHasNumbers around.now.names.now around.now.comp.now }
+    requires small { KeepsLimits around.now.comp.now }
+    ensures kept { (comps : Design) → StandsAt around.now.names.now around.now.earlier.now around.now.comp.now tables.old (scope_after comps (component_tree around.now.names.now around.now.comp.now) []) []
+        → KeepsBefore comps (component_tree around.now.names.now around.now.comp.now) 1
+        → OnOk result (KeepsComponent all_rules comps (component_tree around.now.names.now around.now.comp.now)) }
+    ensures tables { (comps : Design) → StandsAt around.now.names.now around.now.earlier.now around.now.comp.now tables.old (scope_after comps (component_tree around.now.names.now around.now.comp.now) []) []
+        → OnOk result (IsPlace around.now.names.now around.now.earlier.now around.now.comp.now tables.new (whole_scope comps (component_tree around.now.names.now around.now.comp.now))) }
+    ensures broken { (comps : Design) → StandsAt around.now.names.now around.now.earlier.now around.now.comp.now tables.old (scope_after comps (component_tree around.now.names.now around.now.comp.now) []) []
+        → KeepsBefore comps (component_tree around.now.names.now around.now.comp.now) 1
+        → IfErr result (TellsItem comps (component_tree around.now.names.now around.now.comp.now)) }
 {
     let mut item = 0;
-    for stmt in &comp.body {
+    for stmt in &around.comp.body {
         item += 1;
-        match judge_statement(alloc, names, earlier, comp, tables, stmt) {
+        match judge_statement(alloc, around, tables, stmt) {
             Ok(()) => {}
             Err(end) => return Err(at_item(item, end)),
         }
     }
-    if !connects_all(names, comp, &tables.connected) {
-        return Err(at_item(item + 1, breaks(9)));
+    if !connects_all(around.names, around.comp, &tables.connected) {
+        return Err(at_item(item + 1, breaks(Rule::F9)));
     }
     Ok(())
 }

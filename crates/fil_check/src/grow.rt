@@ -9,17 +9,18 @@ ghost use Rattle.fil_ast.specs.Tree.{Statement, TimeAt, statement_tree};
 ghost use Rattle.fil_ast.specs.Typing.{KeepsWidths};
 ghost use Rattle.fil_ast.specs.declared.tree.FilComp.{FilComp};
 ghost use Rattle.fil_sig.specs.Seen.{seen};
-ghost use Rattle.fil_check.specs.Callees.{HasGoodTimes};
-ghost use Rattle.fil_check.specs.Starts.{AddsUses, ListsAllUses};
-ghost use Rattle.fil_check.specs.Tables.{AddsInstance, AddsInvocation, AreTimesOf, IsMadeAt, IsPlace, Shows, grown, listed, made_signature};
-ghost use Rattle.fil_check.specs.Times.{AreTimes};
+ghost use Rattle.fil_check.specs.inside.Callees.{HasGoodTimes};
+ghost use Rattle.fil_check.specs.inside.Starts.{AddsUses, ListsAllUses};
+ghost use Rattle.fil_check.specs.inside.Tables.{AddsInstance, AddsInvocation, AreTimesOf, IsMadeAt, IsPlace, Shows, grown, listed, made_signature};
+ghost use Rattle.fil_check.specs.inside.Times.{AreTimes};
 
 use crate::callee::Callee;
 use crate::meaning::callee_made;
-use crate::starts::Starts;
+use crate::place::Around;
+use crate::sharing::starts::Starts;
 use crate::tables::{Earlier, Made, Tables};
-use crate::times::Offset;
-use crate::uses::use_of;
+use crate::timeline::times::Offset;
+use crate::timeline::uses::use_of;
 use fil_ast::Stmt;
 use fil_sig::{TimeSig, add_name};
 use hw_bits::Memory;
@@ -121,51 +122,71 @@ fn add_connected(connected: &mut Names, name: &[u8]) -> Result<(), Memory>
     Ok(())
 }
 
-/// Puts what a statement makes into the tables: an instance of what `made` says, an invocation at these times or
-/// both, or the output that it connects.
+/// What a statement that keeps the rules makes.
+#[derive(Drop)]
+pub struct Growth {
+    /// What its instance is made of, where it makes one.
+    pub made: Option<Made>,
+    /// The times at which it invokes.
+    pub at: Vec<Offset>,
+}
+
+/// Puts what a statement makes into the tables: an instance, an invocation or both, or the output that
+/// it connects.
 pub fn grow(
     alloc: Global,
-    names: &Names,
-    earlier: &Earlier,
+    around: &Around,
     tables: &mut Tables,
-    made: Option<Made>,
-    at: Vec<Offset>,
+    growth: Growth,
     stmt: &Stmt,
 ) -> Result<(), Memory>
-    requires { StatementHasNumbers names.now stmt.now }
-    ensures shown { (comp : FilComp) (scope : Scope) → IsPlace names.now earlier.now comp tables.old scope
-        → MakesNewNames scope (statement_tree names.now stmt.now) → UsesKnownNames scope (statement_tree names.now stmt.now)
-        → KeepsWidths scope (statement_tree names.now stmt.now) → IsMadeAt earlier.now scope.comps made (statement_tree names.now stmt.now)
-        → AreTimesOf tables.old.events at.items (statement_tree names.now stmt.now)
-        → OnOk result (Shows earlier.now tables.new (grown scope (statement_tree names.now stmt.now))) }
-    ensures listed { (comp : FilComp) (scope : Scope) → IsPlace names.now earlier.now comp tables.old scope
-        → MakesNewNames scope (statement_tree names.now stmt.now) → UsesKnownNames scope (statement_tree names.now stmt.now)
-        → KeepsWidths scope (statement_tree names.now stmt.now) → IsMadeAt earlier.now scope.comps made (statement_tree names.now stmt.now)
-        → AreTimesOf tables.old.events at.items (statement_tree names.now stmt.now) → ListsAllUses tables.old scope
-        → OnOk result (ListsAllUses tables.new (grown scope (statement_tree names.now stmt.now))) }
+    requires { StatementHasNumbers around.now.names.now stmt.now }
+    ensures shown { (scope : Scope) → IsPlace around.now.names.now around.now.earlier.now around.now.comp.now tables.old scope
+        → MakesNewNames scope (statement_tree around.now.names.now stmt.now) → UsesKnownNames scope (statement_tree around.now.names.now stmt.now)
+        → KeepsWidths scope (statement_tree around.now.names.now stmt.now) → IsMadeAt around.now.earlier.now scope.comps growth.made (statement_tree around.now.names.now stmt.now)
+        → AreTimesOf tables.old.events growth.at.items (statement_tree around.now.names.now stmt.now)
+        → OnOk result (Shows around.now.earlier.now tables.new (grown scope (statement_tree around.now.names.now stmt.now))) }
+    ensures listed { (scope : Scope) → IsPlace around.now.names.now around.now.earlier.now around.now.comp.now tables.old scope
+        → MakesNewNames scope (statement_tree around.now.names.now stmt.now) → UsesKnownNames scope (statement_tree around.now.names.now stmt.now)
+        → KeepsWidths scope (statement_tree around.now.names.now stmt.now) → IsMadeAt around.now.earlier.now scope.comps growth.made (statement_tree around.now.names.now stmt.now)
+        → AreTimesOf tables.old.events growth.at.items (statement_tree around.now.names.now stmt.now) → ListsAllUses tables.old scope
+        → OnOk result (ListsAllUses tables.new (grown scope (statement_tree around.now.names.now stmt.now))) }
     ensures connected { (scope : Scope) (before : List Statement) → tables.old.connected ≡ flat_map connected_at before
-        → ConnectsOnce scope before (statement_tree names.now stmt.now)
-        → OnOk result (tables.new.connected ≡ flat_map connected_at (before ++ statement_tree names.now stmt.now ∷ [])) }
+        → ConnectsOnce scope before (statement_tree around.now.names.now stmt.now)
+        → OnOk result (tables.new.connected ≡ flat_map connected_at (before ++ statement_tree around.now.names.now stmt.now ∷ [])) }
 {
+    let Growth { made, at } = growth;
     match stmt {
         Stmt::New { name, .. } => match made {
-            Some(made) => add_instance(alloc, tables, names.text(*name), made),
+            Some(made) => add_instance(alloc, tables, around.names.text(*name), made),
             None => Ok(()),
         },
-        Stmt::Call { name, inst, .. } => match tables.instances.find(names.text(*inst)) {
+        Stmt::Call { name, inst, .. } => match tables.instances.find(around.names.text(*inst)) {
             Some(instance) => {
-                add_invocation(earlier, tables, names.text(*name), instance.0 as usize, at)
+                add_invocation(
+                    around.earlier,
+                    tables,
+                    around.names.text(*name),
+                    instance.0 as usize,
+                    at,
+                )
             }
             None => Ok(()),
         },
         Stmt::Both { name, .. } => match made {
             Some(made) => {
                 let instance = tables.instances.len();
-                add_instance(alloc, tables, names.text(*name), made)?;
-                add_invocation(earlier, tables, names.text(*name), instance, at)
+                add_instance(alloc, tables, around.names.text(*name), made)?;
+                add_invocation(
+                    around.earlier,
+                    tables,
+                    around.names.text(*name),
+                    instance,
+                    at,
+                )
             }
             None => Ok(()),
         },
-        Stmt::Set { dst, .. } => add_connected(&mut tables.connected, names.text(*dst)),
+        Stmt::Set { dst, .. } => add_connected(&mut tables.connected, around.names.text(*dst)),
     }
 }

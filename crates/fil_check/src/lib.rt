@@ -20,47 +20,29 @@
 //! The layer above uses three clauses of `check_fil`: `kept` (what is accepted keeps `FilRules`), `design` (it is the
 //! design that was given) and `refused` (`TellsFirst`: what is told is the first broken rule, with what it shows).
 //!
-//! The modules by the rules that they judge: names F1 and F2 (`names`, `signature`, `made`, `statement`); widths and
-//! numbers F3 to F5 (`literal`, `given`, `statement`, `signature`); times F6 to F8 and F10 (`short`, `times`, `offsets`,
-//! `uses`, `available`, `reads`, `invocation`, `timing`); connections F9 (`connected`); sharing F11 to F13 (`starts`,
-//! `apart`, `span`, `marked`, `sharing`); loops F14 (`port_graph`, `readings`, `depends`, `wires`, `wired`). `tables` has
-//! what names mean at a place, `meaning` looks it up, and `grow` takes it from statement to statement.
+//! A statement is judged in `statement`, a signature in `signature`, by the modules of the rules: `naming` F1 and F2, `typing`
+//! F3 to F5, `timeline` F6 to F8 and F10, `connections` F9, `sharing` F11 to F13, `loops` F14. A `Place` has what travels with
+//! an item; `tables` has what names mean there, `meaning` looks it up, and `grow` takes it from statement to statement.
 #![tactic(auto)]
 
-mod apart;
-mod available;
 mod callee;
 mod check;
 mod component;
-mod connected;
-mod depends;
-mod given;
+mod connections;
 mod grow;
-mod invocation;
 mod laws;
-mod literal;
-mod made;
-mod marked;
+mod loops;
 mod meaning;
-mod names;
-mod offsets;
-mod port_graph;
-mod readings;
-mod reads;
+mod naming;
+mod place;
 mod rules;
 mod sharing;
-mod short;
 mod signature;
-mod span;
-mod starts;
 mod statement;
 mod tables;
-mod times;
-mod timing;
-mod uses;
+mod timeline;
+mod typing;
 mod weight;
-mod wired;
-mod wires;
 
 pub use check::check_fil;
 pub use laws::{

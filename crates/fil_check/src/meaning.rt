@@ -8,15 +8,16 @@ ghost use Rattle.fil_ast.specs.Tree.{port_tree, value_tree};
 ghost use Rattle.fil_ast.specs.Typing.{value_width};
 ghost use Rattle.fil_ast.specs.declared.tree.FilComp.{FilComp};
 ghost use Rattle.fil_sig.specs.Seen.{seen_port};
-ghost use Rattle.fil_check.specs.Tables.{IsPlace, instance_of, made_signature, times_of, times_shown};
+ghost use Rattle.fil_check.specs.inside.Place.{IsPlaceIn};
+ghost use Rattle.fil_check.specs.inside.Tables.{IsPlace, instance_of, made_signature, times_of, times_shown};
 ghost use Rattle.fil_check.specs.declared.tables.Earlier.{Earlier};
 
 use crate::callee::Callee;
+use crate::place::Place;
 use crate::tables::{Earlier, Made, Tables};
-use crate::times::Offset;
+use crate::timeline::times::Offset;
 use fil_ast::{FilComp, FilPort, Value};
 use fil_sig::SigPort;
-use hw_names::Names;
 
 /// The data input of this name.
 pub fn input<'a>(comp: &'a FilComp, tables: &Tables, name: &[u8]) -> Option<&'a FilPort>
@@ -103,41 +104,23 @@ pub fn callee_named<'a>(earlier: &'a Earlier, tables: &'a Tables, name: &[u8]) -
 }
 
 /// The output of this name of an invocation.
-pub fn result_port<'a>(
-    earlier: &'a Earlier,
-    comp: &FilComp,
-    tables: &'a Tables,
-    invocation: &[u8],
-    port: &[u8],
-) -> Option<&'a SigPort>
-    ensures { (names : List Text) (scope : Scope) → IsPlace names earlier.now comp.now tables.now scope
+pub fn result_port<'a>(place: &Place<'a>, invocation: &[u8], port: &[u8]) -> Option<&'a SigPort>
+    ensures { (scope : Scope) → IsPlaceIn place.now scope
         → option_map (λ port. seen_port port.now) result ≡ option_map (λ (r : Result). r.port) (result_of scope invocation.now port.now) }
 {
-    let instance = invoked_by(comp, tables, invocation)?;
-    callee_at(earlier, tables, instance)?.output(port)
+    let instance = invoked_by(place.comp, place.tables, invocation)?;
+    callee_at(place.earlier, place.tables, instance)?.output(port)
 }
 
 /// The width of a value in bits; `None` for a value that isn't known.
-pub fn value_width(
-    names: &Names,
-    earlier: &Earlier,
-    comp: &FilComp,
-    tables: &Tables,
-    value: Value,
-) -> Option<u128>
-    requires { ValueHasNumbers names.now value }
-    ensures { (scope : Scope) → IsPlace names.now earlier.now comp.now tables.now scope → result ≡ value_width scope (value_tree names.now value) }
+pub fn value_width(place: &Place, value: Value) -> Option<u128>
+    requires { ValueHasNumbers place.now.names.now value }
+    ensures { (scope : Scope) → IsPlaceIn place.now scope → result ≡ value_width scope (value_tree place.now.names.now value) }
 {
     match value {
-        Value::Port(name) => Some(input(comp, tables, names.text(name))?.width),
+        Value::Port(name) => Some(input(place.comp, place.tables, place.names.text(name))?.width),
         Value::Out(invocation, port) => {
-            let found = result_port(
-                earlier,
-                comp,
-                tables,
-                names.text(invocation),
-                names.text(port),
-            )?;
+            let found = result_port(place, place.names.text(invocation), place.names.text(port))?;
             Some(found.width as u128)
         }
         Value::Lit { width, .. } => Some(width),

@@ -1,11 +1,53 @@
-//! How a design, a component or an item ends that breaks a rule.
+//! The rules by their numbers, and how a design, a component or an item ends that breaks one.
 ghost use Rattle.std.specs.Prelude.{◌≡◌};
+ghost use Rattle.fil_check.specs.inside.Least.{number_of};
 ghost use Rattle.fil_check.specs.declared.rules.Evidence.TheVariants as Evidence;
 ghost use Rattle.fil_check.specs.declared.rules.ItemEnd.TheVariants as ItemEnd;
 
 use fil_share::Meet;
 use hw_bits::Memory;
 use hw_names::{NameId, Word};
+
+/// The rules that are judged item by item, in the order of their numbers. F14 is judged after them.
+#[derive(Clone, Copy, Debug, PartialEq, Eq)]
+pub enum Rule {
+    F1,
+    F2,
+    F3,
+    F4,
+    F5,
+    F6,
+    F7,
+    F8,
+    F9,
+    F10,
+    F11,
+    F12,
+    F13,
+}
+
+impl Rule {
+    /// The number that a refusal tells.
+    pub fn number(self) -> u8
+        ensures { result ≡ number_of self }
+    {
+        match self {
+            Rule::F1 => 1,
+            Rule::F2 => 2,
+            Rule::F3 => 3,
+            Rule::F4 => 4,
+            Rule::F5 => 5,
+            Rule::F6 => 6,
+            Rule::F7 => 7,
+            Rule::F8 => 8,
+            Rule::F9 => 9,
+            Rule::F10 => 10,
+            Rule::F11 => 11,
+            Rule::F12 => 12,
+            Rule::F13 => 13,
+        }
+    }
+}
 
 /// What a refusal shows besides the rule.
 #[derive(Debug, Drop)]
@@ -22,15 +64,15 @@ pub enum Evidence {
     Loop(Vec<Word>),
 }
 
-/// The rule with this number is the least that is broken, with its evidence.
+/// This rule is the least that is broken, with its evidence.
 #[derive(Debug, Drop)]
 pub struct Broken {
-    pub rule: u8,
+    pub rule: Rule,
     pub evidence: Evidence,
 }
 
 /// This rule, which shows nothing, is the least that is broken at an item.
-pub fn breaks(rule: u8) -> ItemEnd
+pub fn breaks(rule: Rule) -> ItemEnd
     ensures { result ≡ ItemEnd.Broken (record { rule = rule; evidence = Evidence.Nothing }) }
 {
     ItemEnd::Broken(Broken {

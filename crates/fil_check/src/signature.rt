@@ -5,50 +5,49 @@ ghost use Rattle.fil_ast.specs.Naming.{HasNewNames, NamesEvents, component_names
 ghost use Rattle.fil_ast.specs.Numbers.{ComponentHasNumbers};
 ghost use Rattle.fil_ast.specs.Rules.{AtSignature, all_rules};
 ghost use Rattle.fil_ast.specs.Tree.{Design, component_tree};
-ghost use Rattle.fil_check.specs.Least.{TellsLeast};
+ghost use Rattle.fil_check.specs.inside.Least.{TellsLeast};
 
-use crate::names::{are_among, event_ids, is_any_primitive, port_ids, take_names, used_event_ids};
-use crate::rules::{ItemEnd, breaks};
-use crate::short::has_short_ports;
+use crate::naming::{are_among, event_ids, is_any_primitive, port_ids, take_names, used_event_ids};
+use crate::place::Around;
+use crate::rules::{ItemEnd, Rule, breaks};
+use crate::timeline::has_short_ports;
 use fil_ast::FilComp;
 use fil_sig::{has_shape, has_widths};
 use hw_bits::Memory;
 use hw_names::Names;
 use std::alloc::Global;
 
-/// Whether the signature keeps F1, after components of the names `known`. Puts the names of its events and
+/// Whether the signature keeps F1. Puts the names of its events and
 /// of its ports into the two lists, where it does.
 fn has_new_names(
     alloc: Global,
-    names: &Names,
-    known: &Names,
-    comp: &FilComp,
+    around: &Around,
     events: &mut Names,
     ports: &mut Names,
 ) -> Result<bool, Memory>
-    requires numbered { ComponentHasNumbers names.now comp.now }
+    requires numbered { ComponentHasNumbers around.now.names.now around.now.comp.now }
     requires no_events { events.old ≡ [] }
     requires no_ports { ports.old ≡ [] }
-    ensures kept { result ≡ Ok true → (earlier : Design) → known.now ≡ component_names earlier
-        → HasNewNames earlier (component_tree names.now comp.now) }
-    ensures broken { result ≡ Ok false → (earlier : Design) → known.now ≡ component_names earlier
-        → ¬ HasNewNames earlier (component_tree names.now comp.now) }
-    ensures events { result ≡ Ok true → events.new ≡ event_names (component_tree names.now comp.now) }
-    ensures ports { result ≡ Ok true → ports.new ≡ port_names (component_tree names.now comp.now) }
+    ensures kept { result ≡ Ok true → (earlier : Design) → around.now.earlier.now.names ≡ component_names earlier
+        → HasNewNames earlier (component_tree around.now.names.now around.now.comp.now) }
+    ensures broken { result ≡ Ok false → (earlier : Design) → around.now.earlier.now.names ≡ component_names earlier
+        → ¬ HasNewNames earlier (component_tree around.now.names.now around.now.comp.now) }
+    ensures events { result ≡ Ok true → events.new ≡ event_names (component_tree around.now.names.now around.now.comp.now) }
+    ensures ports { result ≡ Ok true → ports.new ≡ port_names (component_tree around.now.names.now around.now.comp.now) }
 {
-    let name = names.text(comp.name);
+    let name = around.names.text(around.comp.name);
     if is_any_primitive(name) {
         return Ok(false);
     }
-    if known.find(name).is_some() {
+    if around.earlier.names.find(name).is_some() {
         return Ok(false);
     }
-    let event_names = event_ids(alloc, comp)?;
-    if !take_names(names, &event_names, events)? {
+    let event_names = event_ids(alloc, around.comp)?;
+    if !take_names(around.names, &event_names, events)? {
         return Ok(false);
     }
-    let port_names = port_ids(alloc, comp)?;
-    take_names(names, &port_names, ports)
+    let port_names = port_ids(alloc, around.comp)?;
+    take_names(around.names, &port_names, ports)
 }
 
 /// Whether the signature keeps F2, where `events` are the names of its events.
@@ -66,40 +65,38 @@ fn names_events(
     Ok(are_among(names, &used, events))
 }
 
-/// Judges a component's signature by F1, F2, F3, F5 and F6, after components of the names `known`, and puts the
-/// names of its events and of its ports into the two lists where it keeps them.
+/// Judges a component's signature by F1, F2, F3, F5 and F6, and puts the names
+/// of its events and of its ports into the two lists where it keeps them.
 pub fn judge_signature(
     alloc: Global,
-    names: &Names,
-    known: &Names,
-    comp: &FilComp,
+    around: &Around,
     events: &mut Names,
     ports: &mut Names,
 ) -> Result<(), ItemEnd>
-    requires numbered { ComponentHasNumbers names.now comp.now }
+    requires numbered { ComponentHasNumbers around.now.names.now around.now.comp.now }
     requires no_events { events.old ≡ [] }
     requires no_ports { ports.old ≡ [] }
-    ensures kept { (earlier : Design) → known.now ≡ component_names earlier
-        → OnOk result (All (λ rule. AtSignature rule earlier (component_tree names.now comp.now)) all_rules) }
-    ensures broken { (earlier : Design) → known.now ≡ component_names earlier
-        → IfErr result (TellsLeast (λ rule. AtSignature rule earlier (component_tree names.now comp.now)) (λ rule evidence. evidence ≡ Nothing)) }
-    ensures events { OnOk result (events.new ≡ event_names (component_tree names.now comp.now)) }
-    ensures ports { OnOk result (ports.new ≡ port_names (component_tree names.now comp.now)) }
+    ensures kept { (earlier : Design) → around.now.earlier.now.names ≡ component_names earlier
+        → OnOk result (All (λ rule. AtSignature rule earlier (component_tree around.now.names.now around.now.comp.now)) all_rules) }
+    ensures broken { (earlier : Design) → around.now.earlier.now.names ≡ component_names earlier
+        → IfErr result (TellsLeast (λ rule. AtSignature rule earlier (component_tree around.now.names.now around.now.comp.now)) (λ rule evidence. evidence ≡ Nothing)) }
+    ensures events { OnOk result (events.new ≡ event_names (component_tree around.now.names.now around.now.comp.now)) }
+    ensures ports { OnOk result (ports.new ≡ port_names (component_tree around.now.names.now around.now.comp.now)) }
 {
-    if !has_new_names(alloc, names, known, comp, events, ports)? {
-        return Err(breaks(1));
+    if !has_new_names(alloc, around, events, ports)? {
+        return Err(breaks(Rule::F1));
     }
-    if !names_events(alloc, names, comp, events)? {
-        return Err(breaks(2));
+    if !names_events(alloc, around.names, around.comp, events)? {
+        return Err(breaks(Rule::F2));
     }
-    if !has_widths(comp) {
-        return Err(breaks(3));
+    if !has_widths(around.comp) {
+        return Err(breaks(Rule::F3));
     }
-    if !has_shape(alloc, names, comp)? {
-        return Err(breaks(5));
+    if !has_shape(alloc, around.names, around.comp)? {
+        return Err(breaks(Rule::F5));
     }
-    if !has_short_ports(names, comp, events) {
-        return Err(breaks(6));
+    if !has_short_ports(around.names, around.comp, events) {
+        return Err(breaks(Rule::F6));
     }
     Ok(())
 }

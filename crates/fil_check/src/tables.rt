@@ -1,7 +1,7 @@
 //! What names mean at a place of a component's body, in tables that are looked up by name.
 use crate::callee::Callee;
-use crate::starts::Starts;
-use crate::times::Offset;
+use crate::sharing::starts::Starts;
+use crate::timeline::times::Offset;
 use hw_names::Names;
 
 /// The components before one, by name and by number.

@@ -9,20 +9,22 @@ ghost use Rattle.fil_ast.specs.Scope.{Instance, Invocation, Scope, instances_at}
 ghost use Rattle.fil_ast.specs.Timeline as tree;
 ghost use Rattle.fil_ast.specs.Timeline.{interval_at};
 ghost use Rattle.fil_ast.specs.Tree.{Component, Design, TimeAt, component_tree, design_of, statement_tree};
-ghost use Rattle.fil_ast.specs.Weight.{listed, needs_in, needs_of, times_in, told_weight, weight_of};
+ghost use Rattle.fil_ast.specs.Weight.{intervals_listed, needs_in, needs_of, times_in, told_weight, weight_of};
 ghost use Rattle.fil_ast.specs.Wires.{whole_scope};
 ghost use Rattle.fil_ast.specs.declared.tree.FilComp.{FilComp};
 ghost use Rattle.fil_sig.specs.Seen.{seen_port};
-ghost use Rattle.fil_check.specs.Tables.{IsPlace, ShowsEarlier};
-ghost use Rattle.fil_check.specs.Times.{AreTimes, ShowsInterval, time_shown};
-ghost use Rattle.fil_check.specs.Weights.{AreWeights, IsAsked, capped, instances_weight, needs_for, weight_after};
+ghost use Rattle.fil_check.specs.inside.Place.{IsPlaceIn};
+ghost use Rattle.fil_check.specs.inside.Tables.{IsPlace, ShowsEarlier};
+ghost use Rattle.fil_check.specs.inside.Times.{AreTimes, ShowsInterval, time_shown};
+ghost use Rattle.fil_check.specs.inside.Weights.{AreWeights, IsAsked, capped, instances_weight, needs_for, weight_after};
 
 use crate::check::add_component;
 use crate::component::judge_component;
 use crate::meaning::callee_at;
+use crate::place::Place;
 use crate::rules::CompEnd;
 use crate::tables::{Earlier, Tables};
-use crate::times::{Interval, Offset, interval_at};
+use crate::timeline::times::{Interval, Offset, interval_at};
 use fil_ast::{FilComp, FilOk, Stmt};
 use fil_sig::SigPort;
 use hw_bits::Memory;
@@ -74,7 +76,7 @@ impl Asked {
     fn need_input(&mut self, port: &SigPort, at: &[Offset])
         ensures { (events : List Text) (needs : List tree.Interval) (times gives : List TimeAt) → AreDistinct events
             → AreTimes events at.now gives → IsAsked events needs times self.old
-            → IsAsked events (needs ++ listed (interval_at gives (seen_port port.now))) times self.new }
+            → IsAsked events (needs ++ intervals_listed (interval_at gives (seen_port port.now))) times self.new }
     {
         match interval_at(at, port) {
             Some(interval) => self.need(interval),
@@ -195,26 +197,21 @@ fn weight_of_instances(names: &Names, earlier: &Earlier, weights: &[u128], comp:
 }
 
 /// The weight of a component of which the tables show the whole body.
-fn weight(
-    alloc: Global,
-    names: &Names,
-    earlier: &Earlier,
-    weights: &[u128],
-    comp: &FilComp,
-    tables: &Tables,
-) -> Result<u128, Memory>
-    requires { ComponentHasNumbers names.now comp.now }
-    ensures { (comps : Design) → IsPlace names.now earlier.now comp.now tables.now (whole_scope comps (component_tree names.now comp.now))
-        → AreDistinct tables.now.events → AreWeights comps weights.now
-        → IfOk result (λ weight. weight ≡ capped (weight_after comps (component_tree names.now comp.now))) }
+fn weight(alloc: Global, place: &Place, weights: &[u128]) -> Result<u128, Memory>
+    requires { ComponentHasNumbers place.now.names.now place.now.comp.now }
+    ensures { (comps : Design) → IsPlaceIn place.now (whole_scope comps (component_tree place.now.names.now place.now.comp.now))
+        → AreDistinct place.now.tables.now.events → AreWeights comps weights.now
+        → IfOk result (λ weight. weight ≡ capped (weight_after comps (component_tree place.now.names.now place.now.comp.now))) }
 {
-    let asked = asked_by(alloc, earlier, tables)?;
-    let ports = comp.gos.len() as u128 + comp.ins.len() as u128 + comp.outs.len() as u128;
-    let own = 1 + ports + comp.body.len() as u128;
+    let asked = asked_by(alloc, place.earlier, place.tables)?;
+    let ports = place.comp.gos.len() as u128
+        + place.comp.ins.len() as u128
+        + place.comp.outs.len() as u128;
+    let own = 1 + ports + place.comp.body.len() as u128;
     Ok(
         own.saturating_add(asked.rows)
             .saturating_add(total(&asked.greatest))
-            .saturating_add(weight_of_instances(names, earlier, weights, comp)),
+            .saturating_add(weight_of_instances(place.names, place.earlier, weights, place.comp)),
     )
 }
 
@@ -254,7 +251,13 @@ fn weigh(
         → IfOk result (λ weight. weight ≡ capped (weight_after comps (component_tree names.now comp.now))) }
 {
     let tables = tables_of(alloc, names, earlier, comp)?;
-    weight(alloc, names, earlier, weights, comp, &tables)
+    let place = Place {
+        names,
+        earlier,
+        comp,
+        tables: &tables,
+    };
+    weight(alloc, &place, weights)
 }
 
 /// The weights of so many components of a design, the first ones, in their order.

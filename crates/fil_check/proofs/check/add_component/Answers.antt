@@ -3,8 +3,8 @@ use Rattle.hw_names.specs.Name.{Text, AreDistinct}
 use Rattle.hw_names.proofs.NameLemmas.{text_of-slice_get}
 use Rattle.fil_ast.specs.Signature.{Signature}
 use Rattle.fil_ast.specs.Tree.{component_tree}
-use Rattle.fil_check.specs.Callees.{HasGoodTimes}
-use Rattle.fil_check.specs.Outputs.{output_names}
+use Rattle.fil_check.specs.inside.Callees.{HasGoodTimes}
+use Rattle.fil_check.specs.inside.Outputs.{output_names}
 use Rattle.fil_check.proofs.DesignLemmas.{new_names, widths, shape, outputs_differ, few_events, good_times, name_added, names_more, callees_more}
 use Rattle.fil_check.proofs.check.add_component.Goals as goal
 

@@ -5,11 +5,11 @@ use Rattle.fil_ast.specs.Limits.{KeepsLimits}
 use Rattle.fil_ast.specs.Tree.{Design, component_tree, design_of}
 use Rattle.fil_ast.specs.declared.tree.FilComp.{FilComp}
 use Rattle.fil_check.specs.First.{TellsFirst}
-use Rattle.fil_check.specs.Tables.{ShowsEarlier}
+use Rattle.fil_check.specs.inside.Tables.{ShowsEarlier}
 use Rattle.fil_check.specs.declared.rules.FilEnd.TheVariants as design
 use Rattle.fil_check.proofs.ItemLemmas.{passed_up}
-use Rattle.fil_check.specs.Wired.{HaveNoLoop, IsFirstLoop, IsWired}
-use Rattle.fil_check.specs.declared.wired.Wired.{Wired}
+use Rattle.fil_check.specs.inside.Wired.{HaveNoLoop, IsFirstLoop, IsWired}
+use Rattle.fil_check.specs.declared.loops.Wired.{Wired}
 use Rattle.fil_check.proofs.DesignLemmas.{all_keep, at_mapped, component_ends, keep_more, kept_so_far, looped}
 use Rattle.fil_share.proofs.ListLemmas.{take_next}
 use Rattle.fil_check.proofs.check.check_fil.Goals as goal

@@ -5,15 +5,15 @@ use Rattle.fil_ast.specs.Items.{scope_after}
 use Rattle.fil_ast.specs.Limits.{KeepsStatementLimit}
 use Rattle.fil_ast.specs.Tree.{component_tree, statement_tree}
 use Rattle.fil_ast.specs.declared.tree.Stmt.{Stmt}
-use Rattle.fil_check.specs.First.{ItemIs}
+use Rattle.fil_check.specs.inside.First.{ItemIs}
 use Rattle.fil_check.proofs.DesignLemmas.{at_mapped}
 use Rattle.fil_check.proofs.ItemLemmas.{one_more, all_kept, statement_ends, body_ends, stands_more, stands_last}
 use Rattle.fil_check.proofs.component.judge_body.Goals as goal
 
 pub returns-in-Err-clause-broken : goal.returns-in-Err-clause-broken
 returns-in-Err-clause-broken c comps start first =
-    let names = c.args.names.now in
-    let comp = c.args.comp.now in
+    let names = c.args.around.now.names.now in
+    let comp = c.args.around.now.comp.now in
     let tree = component_tree names comp in
     let k = c.loop-stmt.stmt-index in
     let s = statement_tree names c.stmt-item.result in
@@ -26,7 +26,7 @@ returns-in-Err-clause-broken c comps start first =
 
 pub judge_statement-requires-clause-small : goal.judge_statement-requires-clause-small
 judge_statement-requires-clause-small c =
-    let body = c.args.comp.now.body.items in
+    let body = c.args.around.now.comp.now.body.items in
     let k = c.loop-stmt.stmt-index in
     let stmt = c.stmt-item.result in
     let is : stmt ≡ get_or body k stmt = c.stmt-item.is ∙ ap (λ (xs : List Stmt). get_or xs k stmt) c.deref-stmt-items.ensures.value in
@@ -36,8 +36,8 @@ judge_statement-requires-clause-small c =
 
 pub loop-stmt-preserved : goal.loop-stmt-preserved
 loop-stmt-preserved c =
-    let names = c.args.names.now in
-    let comp = c.args.comp.now in
+    let names = c.args.around.now.names.now in
+    let comp = c.args.around.now.comp.now in
     let tree = component_tree names comp in
     let k = c.loop-stmt.stmt-index in
     let s = statement_tree names c.stmt-item.result in
@@ -46,7 +46,7 @@ loop-stmt-preserved c =
     record {
       counted = ap (λ n. n + 1) c.loop-stmt.invariant.counted;
       stands = λ comps start.
-          stands_more names c.args.earlier.now comps comp c.judge_statement.new.tables k s at
+          stands_more names c.args.around.now.earlier.now comps comp c.judge_statement.new.tables k s at
           (c.in-Ok.ensures.next (scope_after comps tree before) before (c.loop-stmt.invariant.stands comps start));
       kept = λ comps start first.
           one_more comps tree k s at (c.loop-stmt.invariant.kept comps start first)
@@ -56,30 +56,30 @@ loop-stmt-preserved c =
 -- the tables show the whole body
 pub returns-clause-tables : goal.returns-clause-tables
 returns-clause-tables c comps start =
-    let names = c.args.names.now in
-    let comp = c.args.comp.now in
+    let names = c.args.around.now.names.now in
+    let comp = c.args.around.now.comp.now in
     let tree = component_tree names comp in
     let end : length tree.body ≤ c.loop-stmt.stmt-index = omega (arith, length-map comp.body.items (statement_tree names), ap length c.deref-stmt-items.ensures.value) in
-    (stands_last names c.args.earlier.now comps comp c.loop-stmt.tables c.loop-stmt.stmt-index end (c.loop-stmt.invariant.stands comps start)).place
+    (stands_last names c.args.around.now.earlier.now comps comp c.loop-stmt.tables c.loop-stmt.stmt-index end (c.loop-stmt.invariant.stands comps start)).place
 
 pub returns-clause-kept : goal.returns-clause-kept
 returns-clause-kept c comps start first =
-    let names = c.args.names.now in
-    let comp = c.args.comp.now in
+    let names = c.args.around.now.names.now in
+    let comp = c.args.around.now.comp.now in
     let tree = component_tree names comp in
     let k = c.loop-stmt.stmt-index in
     let end : length tree.body ≤ k = omega (arith, length-map comp.body.items (statement_tree names), ap length c.deref-stmt-items.ensures.value) in
-    let stands = stands_last names c.args.earlier.now comps comp c.loop-stmt.tables k end (c.loop-stmt.invariant.stands comps start) in
+    let stands = stands_last names c.args.around.now.earlier.now comps comp c.loop-stmt.tables k end (c.loop-stmt.invariant.stands comps start) in
     all_kept comps tree k end (c.loop-stmt.invariant.kept comps start first) ((c.connects_all.ensures stands.connected).0 c.if-not-connects_all.false)
 
 pub returns-then-not-connects_all-clause-broken : goal.returns-then-not-connects_all-clause-broken
 returns-then-not-connects_all-clause-broken c comps start first =
-    let names = c.args.names.now in
-    let comp = c.args.comp.now in
+    let names = c.args.around.now.names.now in
+    let comp = c.args.around.now.comp.now in
     let tree = component_tree names comp in
     let k = c.loop-stmt.stmt-index in
     let end : k ≡ length tree.body = omega (arith, length-map comp.body.items (statement_tree names), ap length c.deref-stmt-items.ensures.value) in
-    let stands = stands_last names c.args.earlier.now comps comp c.loop-stmt.tables k (omega (arith, end)) (c.loop-stmt.invariant.stands comps start) in
+    let stands = stands_last names c.args.around.now.earlier.now comps comp c.loop-stmt.tables k (omega (arith, end)) (c.loop-stmt.invariant.stands comps start) in
     let I : ℕ → Type 0 = λ n. ItemIs n c.breaks.result c.at_item-then-not-connects_all.result in
     let item : c.loop-stmt.item + 1 ≡ k + 1 = ap (λ n. n + 1) c.loop-stmt.invariant.counted in
     body_ends comps tree k c.breaks.result c.at_item-then-not-connects_all.result end (c.loop-stmt.invariant.kept comps start first)

@@ -1,8 +1,8 @@
 use Rattle.std.proofs.Common.{◌≡◌, ◌+◌, [], take}
 use Rattle.fil_ast.specs.Items.{scope_after}
 use Rattle.fil_ast.specs.Tree.{Design, component_tree}
-use Rattle.fil_check.specs.First.{KeepsBefore}
-use Rattle.fil_check.specs.Place.{StandsAt}
+use Rattle.fil_check.specs.inside.First.{KeepsBefore}
+use Rattle.fil_check.specs.inside.Place.{StandsAt}
 use Rattle.fil_check.proofs.ItemLemmas.{Stands}
 use Rattle.fil_check.proofs.component.judge_body.Given as goal
 
@@ -10,6 +10,6 @@ use Rattle.fil_check.proofs.component.judge_body.Given as goal
 abbrev pub invariant-loop-stmt : goal.invariant-loop-stmt
 invariant-loop-stmt l = record {
   counted : l.item ≡ l.stmt-index;
-  stands : (comps : Design) → StandsAt l.names l.earlier l.comp l.initial.tables (scope_after comps (component_tree l.names l.comp) []) [] → Stands l.names l.earlier comps l.comp l.tables (take l.stmt-index (component_tree l.names l.comp).body);
-  kept : (comps : Design) → StandsAt l.names l.earlier l.comp l.initial.tables (scope_after comps (component_tree l.names l.comp) []) [] → KeepsBefore comps (component_tree l.names l.comp) 1 → KeepsBefore comps (component_tree l.names l.comp) (l.stmt-index + 1);
+  stands : (comps : Design) → StandsAt l.around.names.now l.around.earlier.now l.around.comp.now l.initial.tables (scope_after comps (component_tree l.around.names.now l.around.comp.now) []) [] → Stands l.around.names.now l.around.earlier.now comps l.around.comp.now l.tables (take l.stmt-index (component_tree l.around.names.now l.around.comp.now).body);
+  kept : (comps : Design) → StandsAt l.around.names.now l.around.earlier.now l.around.comp.now l.initial.tables (scope_after comps (component_tree l.around.names.now l.around.comp.now) []) [] → KeepsBefore comps (component_tree l.around.names.now l.around.comp.now) 1 → KeepsBefore comps (component_tree l.around.names.now l.around.comp.now) (l.stmt-index + 1);
 }

@@ -1,7 +1,7 @@
 use Rattle.std.proofs.Common.{arith}
 use Rattle.fil_ast.specs.Rules.{F1}
 use Rattle.fil_ast.specs.Tree.{component_tree}
-use Rattle.fil_check.specs.First.{TellsItem}
+use Rattle.fil_check.specs.inside.First.{TellsItem}
 use Rattle.fil_check.proofs.ItemLemmas.{passed_up, signature_ends, signature_kept}
 use Rattle.fil_check.proofs.StartLemmas.{start, start_shown}
 use Rattle.fil_check.proofs.component.judge_component.Goals as goal

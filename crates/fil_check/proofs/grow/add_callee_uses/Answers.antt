@@ -1,7 +1,7 @@
 use Rattle.std.proofs.Common.{Bor, Option, Some, option_map, sym, ap, subst, ◌∙◌}
 use Rattle.std.specs.Prelude.{OnOk}
 use Rattle.fil_ast.specs.Signature.{Signature}
-use Rattle.fil_check.specs.Starts.{AddsUses}
+use Rattle.fil_check.specs.inside.Starts.{AddsUses}
 use Rattle.fil_check.specs.declared.callee.Callee.{Callee}
 use Rattle.fil_check.proofs.AddedLemmas.{adds_nothing}
 use Rattle.fil_check.proofs.grow.add_callee_uses.Goals as goal

@@ -1,8 +1,7 @@
-use Rattle.std.proofs.Common.{◌≡◌, ◌≤◌, length, map, ap, arith}
-use Rattle.std.specs.Prelude.{OnOk}
+use Rattle.std.proofs.Common.{◌≤◌, length, map, ap, arith}
 use Rattle.std.proofs.lemmas.List.{length-map}
 use Rattle.fil_sig.specs.Seen.{seen, seen_delay, seen_event}
-use Rattle.fil_check.specs.Sharing.{MOST_HOLD}
+use Rattle.fil_check.specs.inside.Sharing.{MOST_HOLD}
 use Rattle.fil_check.proofs.AddedLemmas.{below_all, below_none, below_put, below_skip}
 use Rattle.fil_check.proofs.EachLemmas.{item_at}
 use Rattle.fil_check.proofs.SharingLemmas.{has_delay}

@@ -2,7 +2,7 @@ use Rattle.std.proofs.Common.{List}
 use Rattle.hw_names.specs.Name.{Text}
 use Rattle.fil_ast.specs.Tree.{TimeAt}
 use Rattle.fil_sig.specs.Seen.{seen}
-use Rattle.fil_check.specs.Times.{AreTimes}
+use Rattle.fil_check.specs.inside.Times.{AreTimes}
 use Rattle.fil_check.proofs.AddedLemmas.{AddsBelow}
 use Rattle.fil_check.proofs.grow.add_uses.Given as goal
 

@@ -1,6 +1,6 @@
 use Rattle.std.proofs.Common.{Bor, option_map, sym, ap, ◌∙◌}
 use Rattle.std.specs.Option.{option_and_then, option_copied}
-use Rattle.fil_check.specs.Tables.{made_signature}
+use Rattle.fil_check.specs.inside.Tables.{made_signature}
 use Rattle.fil_check.specs.declared.callee.Callee.{Callee}
 use Rattle.fil_check.proofs.MeaningLemmas.{got}
 use Rattle.fil_check.proofs.grow.callee_in.Goals as goal

@@ -1,7 +1,7 @@
 use Rattle.std.proofs.Common.{Bor, List, option_map, sym, ap, subst, ◌∙◌}
 use Rattle.std.specs.Option.{option_and_then, option_copied}
 use Rattle.std.specs.Slice.{IsItemAt}
-use Rattle.fil_check.specs.Tables.{made_signature}
+use Rattle.fil_check.specs.inside.Tables.{made_signature}
 use Rattle.fil_check.specs.declared.callee.Callee.{Callee}
 use Rattle.fil_check.specs.declared.tables.Made.{Made}
 use Rattle.fil_check.proofs.MeaningLemmas.{got, callee_there}

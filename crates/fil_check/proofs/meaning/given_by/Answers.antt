@@ -1,7 +1,7 @@
 use Rattle.std.proofs.Common.{Bor, List, Vec, Global, option_map, ap, subst, ◌∙◌}
 use Rattle.std.specs.Slice.{IsItemAt}
-use Rattle.fil_check.specs.Tables.{times_of, times_shown}
-use Rattle.fil_check.specs.declared.times.Offset.{Offset}
+use Rattle.fil_check.specs.inside.Tables.{times_of, times_shown}
+use Rattle.fil_check.specs.declared.timeline.times.Offset.{Offset}
 use Rattle.fil_check.proofs.MeaningLemmas.{given_at}
 use Rattle.fil_check.proofs.meaning.given_by.Goals as goal
 

@@ -1,6 +1,6 @@
 use Rattle.std.proofs.Common.{ℕ, List, slice_get, option_map, ap, subst, ◌∙◌}
 use Rattle.std.specs.Slice.{IsItemAt}
-use Rattle.fil_check.specs.Tables.{instance_of}
+use Rattle.fil_check.specs.inside.Tables.{instance_of}
 use Rattle.fil_check.proofs.MeaningLemmas.{invoked_at}
 use Rattle.fil_check.proofs.meaning.invoked_by.Goals as goal
 

@@ -2,7 +2,7 @@ use Rattle.std.proofs.Common.{refl, arith}
 use Rattle.std.proofs.lemmas.Result.{err_from_is_err_and}
 use Rattle.fil_ast.specs.Rules.{Rule, F1, F2, F3, F9}
 use Rattle.fil_ast.specs.Tree.{statement_tree}
-use Rattle.fil_check.specs.Stages.{KeptAt}
+use Rattle.fil_check.specs.inside.Stages.{KeptAt}
 use Rattle.fil_check.proofs.PlaceLemmas.{stands_next}
 use Rattle.fil_check.proofs.StageLemmas.{all_kept, later_kept}
 use Rattle.fil_check.proofs.statement.judge_statement.Goals as goal
@@ -15,14 +15,14 @@ returns-in_err-at-clause-broken c scope before stands =
 
 pub returns-clause-kept : goal.returns-clause-kept
 returns-clause-kept c scope before stands =
-    let K : Rule → Type 0 = KeptAt scope before (statement_tree c.args.names.now c.args.stmt.now) in
+    let K : Rule → Type 0 = KeptAt scope before (statement_tree c.args.around.now.names.now c.args.stmt.now) in
     all_kept K (c.in_ok-at.ensures.kept scope before stands (c.in_ok-made.ensures scope.comps stands.place.shows.components))
 
 pub returns-clause-next : goal.returns-clause-next
 returns-clause-next c scope before stands =
-    let names = c.args.names.now in
-    let earlier = c.args.earlier.now in
-    let comp = c.args.comp.now in
+    let names = c.args.around.now.names.now in
+    let earlier = c.args.around.now.earlier.now in
+    let comp = c.args.around.now.comp.now in
     let tables = c.args.tables.now in
     let s = statement_tree names c.args.stmt.now in
     let K : Rule → Type 0 = KeptAt scope before s in
@@ -30,6 +30,6 @@ returns-clause-next c scope before stands =
     let kept = c.in_ok-at.ensures.kept scope before stands made in
     let fresh = kept 0 F1 (omega arith) (omega arith) refl in
     stands_next names earlier comp tables scope before stands s c.grow.new.tables fresh (c.in_ok-at.ensures.held scope before stands made) (later_kept K 0 10 13 (omega arith) kept)
-    (c.in_ok-grow.ensures.shown comp scope stands.place fresh (kept 1 F2 (omega arith) (omega arith) refl) (kept 2 F3 (omega arith) (omega arith) refl) made (c.in_ok-at.ensures.times scope before stands made))
-    (c.in_ok-grow.ensures.listed comp scope stands.place fresh (kept 1 F2 (omega arith) (omega arith) refl) (kept 2 F3 (omega arith) (omega arith) refl) made (c.in_ok-at.ensures.times scope before stands made) stands.listed)
+    (c.in_ok-grow.ensures.shown scope stands.place fresh (kept 1 F2 (omega arith) (omega arith) refl) (kept 2 F3 (omega arith) (omega arith) refl) made (c.in_ok-at.ensures.times scope before stands made))
+    (c.in_ok-grow.ensures.listed scope stands.place fresh (kept 1 F2 (omega arith) (omega arith) refl) (kept 2 F3 (omega arith) (omega arith) refl) made (c.in_ok-at.ensures.times scope before stands made) stands.listed)
     (c.in_ok-grow.ensures.connected scope before stands.connected (kept 8 F9 (omega arith) (omega arith) refl))

@@ -1,6 +1,6 @@
 use Rattle.std.proofs.Common.{subst}
 use Rattle.fil_ast.specs.Tree.{component_tree}
-use Rattle.fil_check.specs.First.{TellsItem}
+use Rattle.fil_check.specs.inside.First.{TellsItem}
 use Rattle.fil_check.specs.declared.rules.CompEnd.{CompEnd}
 use Rattle.fil_check.proofs.WeightLemmas.{keeps_all}
 use Rattle.fil_check.proofs.weight.tables_of.Goals as goal

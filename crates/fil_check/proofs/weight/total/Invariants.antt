@@ -1,6 +1,6 @@
 use Rattle.std.proofs.Common.{◌≡◌, take}
 use Rattle.std.specs.List.{sum}
-use Rattle.fil_check.specs.Weights.{capped}
+use Rattle.fil_check.specs.inside.Weights.{capped}
 use Rattle.fil_check.proofs.weight.total.Given as goal
 
 -- the numbers so far are added

@@ -7,10 +7,10 @@ use Rattle.fil_check.proofs.weight.weight.Goals as goal
 
 pub returns : goal.returns
 returns c comps place distinct are =
-    let names = c.args.names.now in
-    let comp = c.args.comp.now in
+    let names = c.args.place.now.names.now in
+    let comp = c.args.place.now.comp.now in
     let tree = component_tree names comp in
-    let sums = weighed comps tree c.args.tables.now.events c.in_ok-asked.asked place.shows.events (c.in_ok-asked.ensures names comp _ place distinct) in
+    let sums = weighed comps tree c.args.place.now.tables.now.events c.in_ok-asked.asked place.shows.events (c.in_ok-asked.ensures names comp _ place distinct) in
     omega (
       arith,
       sums.0,

@@ -3,7 +3,7 @@ use Rattle.std.specs.Option.{unwrap_or}
 use Rattle.std.proofs.lemmas.Bool.Decides.{not_from_Decides}
 use Rattle.hw_names.proofs.NameLemmas.{text_of-slice_get}
 use Rattle.fil_ast.specs.Weight.{weight_of}
-use Rattle.fil_check.specs.Weights.{capped}
+use Rattle.fil_check.specs.inside.Weights.{capped}
 use Rattle.fil_check.proofs.MeaningLemmas.{got}
 use Rattle.fil_check.proofs.WeightLemmas.{nothing_named, weight_found}
 use Rattle.fil_check.proofs.weight.weight_named.Goals as goal

@@ -1,8 +1,8 @@
 use Rattle.std.proofs.Common.{◌≡◌, take, map, flat_map}
 use Rattle.fil_ast.specs.Scope.{instances_at}
 use Rattle.fil_ast.specs.Tree.{Design, statement_tree}
-use Rattle.fil_check.specs.Tables.{ShowsEarlier}
-use Rattle.fil_check.specs.Weights.{AreWeights, capped, instances_weight}
+use Rattle.fil_check.specs.inside.Tables.{ShowsEarlier}
+use Rattle.fil_check.specs.inside.Weights.{AreWeights, capped, instances_weight}
 use Rattle.fil_check.proofs.weight.weight_of_instances.Given as goal
 
 -- the instances of the statements so far are added

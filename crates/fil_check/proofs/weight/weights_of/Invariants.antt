@@ -1,7 +1,7 @@
 use Rattle.std.proofs.Common.{take}
 use Rattle.fil_ast.specs.Tree.{design_of}
-use Rattle.fil_check.specs.Tables.{ShowsEarlier}
-use Rattle.fil_check.specs.Weights.{AreWeights}
+use Rattle.fil_check.specs.inside.Tables.{ShowsEarlier}
+use Rattle.fil_check.specs.inside.Weights.{AreWeights}
 use Rattle.fil_check.proofs.weight.weights_of.Given as goal
 
 -- the components so far stand in the tables, with their weights

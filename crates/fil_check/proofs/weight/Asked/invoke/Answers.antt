@@ -4,7 +4,7 @@ use Rattle.fil_ast.specs.Signature.{Signature}
 use Rattle.fil_ast.specs.Timeline.{Interval}
 use Rattle.fil_ast.specs.Weight.{needs_at}
 use Rattle.fil_sig.specs.Seen.{seen_port}
-use Rattle.fil_check.specs.Weights.{IsAsked, needs_for}
+use Rattle.fil_check.specs.inside.Weights.{IsAsked, needs_for}
 use Rattle.fil_check.proofs.WeightLemmas.{no_more}
 use Rattle.fil_check.proofs.weight.Asked.invoke.Goals as goal
 

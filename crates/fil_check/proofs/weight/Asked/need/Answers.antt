@@ -2,7 +2,7 @@ use Rattle.std.proofs.Common.{[], ◌∷◌, ◌++◌, map, max, ap, ◌∙◌, 
 use Rattle.std.specs.List.{slice_set, slice_index_or}
 use Rattle.std.proofs.lemmas.List.Sums.{sum_by-append}
 use Rattle.fil_ast.specs.Weight.{rows_of}
-use Rattle.fil_check.specs.Weights.{last_row}
+use Rattle.fil_check.specs.inside.Weights.{last_row}
 use Rattle.fil_check.proofs.WeightLemmas.{need_more, row_reached}
 use Rattle.fil_check.proofs.weight.Asked.need.Goals as goal
 

@@ -3,7 +3,7 @@ use Rattle.std.proofs.Math.Seq.{take-length}
 use Rattle.fil_ast.specs.Timeline.{Interval}
 use Rattle.fil_sig.specs.Seen.{seen_port}
 use Rattle.fil_sig.specs.declared.time_sig.SigPort.{SigPort}
-use Rattle.fil_check.specs.Weights.{IsAsked, needs_for}
+use Rattle.fil_check.specs.inside.Weights.{IsAsked, needs_for}
 use Rattle.fil_check.proofs.WeightLemmas.{needs_more}
 use Rattle.fil_check.proofs.weight.Asked.need_inputs.Goals as goal
 

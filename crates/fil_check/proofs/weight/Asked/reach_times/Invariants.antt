@@ -2,8 +2,8 @@ use Rattle.std.proofs.Common.{List, ◌++◌, take}
 use Rattle.hw_names.specs.Name.{Text, AreDistinct}
 use Rattle.fil_ast.specs.Timeline.{Interval}
 use Rattle.fil_ast.specs.Tree.{TimeAt}
-use Rattle.fil_check.specs.Times.{AreTimes}
-use Rattle.fil_check.specs.Weights.{IsAsked}
+use Rattle.fil_check.specs.inside.Times.{AreTimes}
+use Rattle.fil_check.specs.inside.Weights.{IsAsked}
 use Rattle.fil_check.proofs.weight.Asked.reach_times.Given as goal
 
 -- the times so far are used

@@ -1,0 +1,8 @@
+use Rattle.fil_sig.specs.Seen.{seen}
+use Rattle.fil_check.specs.inside.PortGraph.{Adds, Below}
+use Rattle.fil_check.specs.inside.Readings.{ReadsAll}
+use Rattle.fil_check.proofs.loops.edges.add_all.Given as goal
+
+-- the graph has the outputs so far
+abbrev pub invariant-loop-output : goal.invariant-loop-output
+invariant-loop-output l = Adds (Below (ReadsAll l.inst (seen l.sig)) l.output-index) l.fn.graph l.graph

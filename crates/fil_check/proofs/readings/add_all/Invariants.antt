@@ -1,8 +1,0 @@
-use Rattle.fil_sig.specs.Seen.{seen}
-use Rattle.fil_check.specs.PortGraph.{Adds, Below}
-use Rattle.fil_check.specs.Readings.{ReadsAll}
-use Rattle.fil_check.proofs.readings.add_all.Given as goal
-
--- the graph has the outputs so far
-abbrev pub invariant-loop-output : goal.invariant-loop-output
-invariant-loop-output l = Adds (Below (ReadsAll l.inst (seen l.sig)) l.output-index) l.fn.graph l.graph

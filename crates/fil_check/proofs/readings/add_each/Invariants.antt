@@ -1,9 +1,0 @@
-use Rattle.std.proofs.Common.{map}
-use Rattle.fil_sig.specs.Seen.{seen_port}
-use Rattle.fil_check.specs.PortGraph.{Adds, Below}
-use Rattle.fil_check.specs.Readings.{ReadsEach}
-use Rattle.fil_check.proofs.readings.add_each.Given as goal
-
--- the graph has the inputs so far
-abbrev pub invariant-loop-input : goal.invariant-loop-input
-invariant-loop-input l = Adds (Below (ReadsEach l.inst l.output (map seen_port l.ins)) l.input-index) l.fn.graph l.graph

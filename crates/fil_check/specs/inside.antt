@@ -1,0 +1,24 @@
+-- What only the functions inside the crate are specified by.
+pub mod Available
+pub mod Callees
+pub mod First
+pub mod Given
+pub mod Invocation
+pub mod Keys
+pub mod Least
+pub mod Names
+pub mod Outputs
+pub mod Place
+pub mod PortGraph
+pub mod Reached
+pub mod Readings
+pub mod Shared
+pub mod Sharing
+pub mod Stages
+pub mod Starts
+pub mod Tables
+pub mod Times
+pub mod Uses
+pub mod Weights
+pub mod Wired
+pub mod Wiring
