@@ -23,14 +23,15 @@ use Rattle.net_sim.specs.Layout.{port_names, port_widths, name_of}
 use Rattle.net_sim.specs.OrderValue.{OrderValue}
 use Rattle.net_sim.specs.Plan.{IsCompiled}
 use Rattle.net_sim.specs.PortOrder.{numbers_of}
-use Rattle.net_sim.specs.Settled.{value_if_acting}
+use Rattle.net_sim.specs.inside.Settled.{value_if_acting}
 use Rattle.net_sim.specs.Sim.{port_row}
 use Rattle.net_sim.specs.declared.cells.CellPorts.{CellPorts}
 use Rattle.net_sim.specs.declared.plan.Giver.{Giver}
 use Rattle.net_sim.specs.declared.plan.Source.{Source}
 use Rattle.net_sim.specs.declared.plan.Source.TheVariants.{Slot, Fixed}
 use Rattle.net_steps.specs.Conflicts.{Clashes as ClashesIn}
-use Rattle.net_steps.specs.Drivers.{has_two, is_clash}
+use Rattle.net_steps.specs.Drivers.{is_clash}
+use Rattle.net_steps.specs.Operations.{has_two}
 use Rattle.net_steps.specs.declared.clashes.Clash.{Clash}
 use Rattle.net_row.proofs.RowLemmas.{AreWithin}
 

@@ -16,6 +16,7 @@ use Rattle.net_sim.specs.declared.cells.CellPorts.{CellPorts}
 use Rattle.net_steps.specs.Edge.{AreSteppedOthers}
 use Rattle.net_steps.specs.Operations.{IsBelow}
 use Rattle.net_steps.specs.Others.{IsNarrow, AreNarrow, AreCounted}
+use Rattle.net_steps.specs.declared.choice.Choice.{Choice}
 use Rattle.net_steps.specs.declared.operation.Operation.{Operation}
 use Rattle.net_steps.specs.declared.operation.Operation.TheVariants.{Output}
 use Rattle.net_steps.specs.declared.other.Other.{Other as OtherCell}
@@ -26,6 +27,7 @@ use Rattle.net_row.specs.Kinds.{kinds_of, kind_after, kept_in, others_in, others
 use Rattle.net_row.specs.Rows.{AreOthersOf, IsOtherOf}
 use Rattle.net_row.specs.declared.kinds.Kind.{Kind}
 use Rattle.net_row.specs.declared.kinds.Kind.TheVariants.{Other}
+use Rattle.net_row.specs.Program.{steps_in}
 use Rattle.net_row.specs.declared.program.Program.{Program}
 
 -- ---- one after another
@@ -159,8 +161,8 @@ like_stepped slots old new stepped = record {
 pub like_loaded : (number place word : ℕ) (old new : List OtherCell) → IsLoadedOther number place word old new → AreLike old new
 like_loaded number place word old new is = record { all = is.all; each = is.each }
 
-below_like : (old new : List OtherCell) → AreLike old new → (slot : ℕ) (step : Operation) → IsBelow old slot step → IsBelow new slot step
-below_like old new like slot (Output number output first second) below = (
+below_like : (old new : List OtherCell) → AreLike old new → (choices : List Choice) (slot : ℕ) (step : Operation) → IsBelow old choices slot step → IsBelow new choices slot step
+below_like old new like choices slot (Output number output first second) below = (
   below.0,
   below.1,
   (let lt = below.2 in omega (arith, lt, like.all)),
@@ -169,19 +171,19 @@ below_like old new like slot (Output number output first second) below = (
       let same = (like.each number o.0 other o.1 at).prim in
       subst (λ p. output < length (outputs_of p)) (sym same) (below.3 o.0 o.1),
 )
-below_like old new like slot step below = below
+below_like old new like choices slot step below = below
 
 module _ (old new : List OtherCell) (like : AreLike old new) where
   pub sound_like : (base : ℕ) (program : Program) → IsSound base program old → IsSound base program new
   sound_like base program sound = record {
-    below = λ k step at. below_like old new like (base + k) step (sound.below k step at);
+    below = λ k step at. below_like old new like program.choices.items (base + k) step (sound.below k step at);
     ports = sound.ports;
     next = sound.next;
     clashes = sound.clashes;
     places = λ k d lt.
         let before : k < length old = omega (arith, lt, like.all) in
         let is = like.each k (get_or old k d) (get_or new k d) (slice_get-get_or old k d before) (slice_get-get_or new k d lt) in
-        subst (AreSlots (base + length program.steps.items)) (sym is.places) (sound.places k d before);
+        subst (AreSlots (base + length (steps_in program))) (sym is.places) (sound.places k d before);
   }
 
   pub others_like : (cells : List CellPorts) (ports : List ℕ) → AreOthers cells ports old → AreOthers cells ports new

@@ -24,6 +24,7 @@ use Rattle.net_sim.specs.Evaluated.{cell_inputs}
 use Rattle.net_sim.specs.Layout.{port_names, port_widths}
 use Rattle.net_sim.specs.Sim.{IsEvaluated, input_row, port_row, states_of}
 use Rattle.net_sim.specs.declared.cells.CellPorts.{CellPorts}
+use Rattle.net_steps.proofs.StepLemmas.{choices_itself}
 use Rattle.net_steps.specs.Conflicts.{IsLeastClash, Clashes as ClashesIn}
 use Rattle.net_steps.specs.Edge.{AreSteppedOthers}
 use Rattle.net_steps.specs.Gathered.{gathered}
@@ -36,7 +37,7 @@ use Rattle.net_row.proofs.FlatStateLemmas.{AreNext, IsLoadedAt}
 use Rattle.net_row.proofs.RowLemmas.{AreWithin, in_range, inputs_fit, length-kinds_after}
 use Rattle.net_row.specs.Flats.{IsOther, AreOthers, FitWidths, AreOpened, IsBuilt, AreKept, IsAfterRow, IsLoadedOther, states_from, values_from}
 use Rattle.net_row.specs.Kinds.{kinds_of, kinds_after, kind_after, kept_for, others_for, state_of, other_state, IfKept}
-use Rattle.net_row.specs.Program.{TellsRow, frame, steps_of, values_in}
+use Rattle.net_row.specs.Program.{TellsRow, frame, steps_of, values_in, steps_in}
 use Rattle.net_row.specs.Rows.{SlotRow, IsRowIn, AreStatesOf, states_in}
 use Rattle.net_row.specs.declared.kinds.Kind.{Kind}
 use Rattle.net_row.specs.declared.kinds.Kind.TheVariants.{Stateless, Register, Delay, FastMult, Other}
@@ -176,9 +177,13 @@ module _ (n : Netlist) (table : Table) (program : Program) (shown : List ℕ) (b
         ∙ ap (map (state_of kept others)) (sym built.program_is.kinds)
 
     -- slots that were opened and filled are those of a row
-    pub row_in : (inputs slots : List ℕ) → AreOpened kept inputs slots → AreMade others (length kept + length inputs) program.steps.items slots → AreValuesOf n.ins inputs → length inputs ≡ length n.ins → IsRowIn (frame n built.cells) (steps_of n built.cells program) (record { slots = slots; inputs = inputs; others = others })
+    pub row_in : (inputs slots : List ℕ) → AreOpened kept inputs slots → AreMade others program.choices.items (length kept + length inputs) (steps_in program) slots → AreValuesOf n.ins inputs → length inputs ≡ length n.ins → IsRowIn (frame n built.cells) (steps_of n built.cells program) (record { slots = slots; inputs = inputs; others = others })
     row_in inputs slots opened made fit count = record {
-      made = subst (λ base. AreMade others base program.steps.items slots) (ap₂ ◌+◌ are.kept_all count) made;
+      made = record {
+        choices = program.choices.items;
+        table = choices_itself program.choices.items;
+        made = subst (λ base. AreMade others program.choices.items base (steps_in program) slots) (ap₂ ◌+◌ are.kept_all count) made;
+      };
       given = λ k value at.
           ap (λ base. slice_index slots (base + k)) (sym are.kept_all)
           ∙ opened.inputs_next k (slice_get_within inputs k value at) ∙ get_or_from_slice_get inputs k value 0 at;

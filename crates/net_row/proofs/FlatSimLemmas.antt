@@ -14,7 +14,7 @@ use Rattle.hw_prims.proofs.PortNameLemmas.{keeps_words-made}
 use Rattle.hw_prims.specs.Laws.{AreValuesOf}
 use Rattle.hw_prims.specs.Memory.{keeps_words, word_count, word_width}
 use Rattle.hw_prims.specs.Meaning.{opening_state}
-use Rattle.hw_prims.specs.State.{words_of}
+use Rattle.hw_prims.specs.State.{memory_words}
 use Rattle.hw_prims.specs.Table.{Pin, is_memory, inputs_of}
 use Rattle.hw_prims.specs.declared.prim.Primitive.{Primitive}
 use Rattle.net_core.specs.Netlist.{Netlist, CellLine, netlist_of}
@@ -46,7 +46,7 @@ use Rattle.net_row.proofs.FlatStateLemmas.{AreNext, IsLoadedAt, next_by_name, ne
 use Rattle.net_row.proofs.RowLemmas.{kind_at, cell_count}
 use Rattle.net_row.specs.Flats.{IsFlat, flat_value, AreOthers, AreOpeningOthers, AreOpened, IsBuilt, AreKept, IsAfterRow, IsLoadedOther, IsShownAs, HasShown, IsSound, states_from, values_from}
 use Rattle.net_row.specs.Kinds.{kinds_of, kept_in, others_in, other_state, state_of}
-use Rattle.net_row.specs.Program.{frame, steps_of}
+use Rattle.net_row.specs.Program.{frame, steps_of, steps_in}
 use Rattle.net_row.specs.Rows.{IsRowIn}
 use Rattle.net_row.specs.declared.flat.Flat.TheInside.{Inside}
 use Rattle.net_row.specs.declared.kinds.Kind.{Kind}
@@ -188,18 +188,18 @@ module _ (net : Net) (table : Table) (program : Program) (shown : List ℕ) (bui
         let within = slice_get_within others it.number it.other it.here in
         omega (arith, same, within)
 
-    pub word_is : (mem number place word : ℕ) (other : OtherCell) → mem < length (shown_cells (netlist_of net)) → IsShownAs program.kinds.items shown mem number → slice_get others number ≡ Some other → word ≡ slice_index (words_of other.state.state) place → (phase : Phase) → IsWordOfSim (sim others kept slots phase) mem place word
-    word_is mem number place word other lt as_other at e phase = λ cell prim is. e ∙ ap (λ s. slice_index (words_of s) place) (sym ((found_at mem number other lt as_other at).state cell prim is))
+    pub word_is : (mem number place word : ℕ) (other : OtherCell) → mem < length (shown_cells (netlist_of net)) → IsShownAs program.kinds.items shown mem number → slice_get others number ≡ Some other → word ≡ slice_index (memory_words other.state.state) place → (phase : Phase) → IsWordOfSim (sim others kept slots phase) mem place word
+    word_is mem number place word other lt as_other at e phase = λ cell prim is. e ∙ ap (λ s. slice_index (memory_words s) place) (sym ((found_at mem number other lt as_other at).state cell prim is))
 
     pub width_is : (mem number width : ℕ) (other : OtherCell) → mem < length (shown_cells (netlist_of net)) → IsShownAs program.kinds.items shown mem number → slice_get others number ≡ Some other → width ≡ word_width other.state.prim → HasWordWidth (netlist_of net) mem width
     width_is mem number width other lt as_other at e = λ cell prim is.
         let mine = found_at mem number other lt as_other at in
         e ∙ ap word_width (shown_once (netlist_of net) mem mine.cell cell other.state.prim prim mine.is is)
 
-    pub count_is : (mem number count : ℕ) (other : OtherCell) → mem < length (shown_cells (netlist_of net)) → IsShownAs program.kinds.items shown mem number → slice_get others number ≡ Some other → count ≡ word_count other.state.prim → count ≡ length (words_of other.state.state) → (phase : Phase) → IsWordCountOfSim (sim others kept slots phase) mem count
+    pub count_is : (mem number count : ℕ) (other : OtherCell) → mem < length (shown_cells (netlist_of net)) → IsShownAs program.kinds.items shown mem number → slice_get others number ≡ Some other → count ≡ word_count other.state.prim → count ≡ length (memory_words other.state.state) → (phase : Phase) → IsWordCountOfSim (sim others kept slots phase) mem count
     count_is mem number count other lt as_other at e f phase = λ cell prim is.
         let mine = found_at mem number other lt as_other at in
-        (e ∙ ap word_count (shown_once (netlist_of net) mem mine.cell cell other.state.prim prim mine.is is), f ∙ ap (λ s. length (words_of s)) (sym (mine.state cell prim is)))
+        (e ∙ ap word_count (shown_once (netlist_of net) mem mine.cell cell other.state.prim prim mine.is is), f ∙ ap (λ s. length (memory_words s)) (sym (mine.state cell prim is)))
 
     -- what is asked of a place and of a word is asked of the memory's primitive
     pub place_fits : (mem number place : ℕ) (other : OtherCell) → HasWord (netlist_of net) mem place → IsShownAs program.kinds.items shown mem number → slice_get others number ≡ Some other → place < word_count other.state.prim
@@ -252,7 +252,7 @@ module _ (net : Net) (table : Table) (program : Program) (shown : List ℕ) (bui
     pub others_narrow : AreNarrow others
     others_narrow = are_narrow built.cells program.ports.items others are.others_are (netlist_of net) built.compiled.valid built.compiled.listed built.narrow
 
-    module _ (inputs new : List ℕ) (opened : AreOpened kept inputs new) (made : AreMade others (length kept + length inputs) program.steps.items new) (fit : AreValuesOf (netlist_of net).ins inputs) (count : length inputs ≡ length (netlist_of net).ins) (room : length new ≡ length slots) where
+    module _ (inputs new : List ℕ) (opened : AreOpened kept inputs new) (made : AreMade others program.choices.items (length kept + length inputs) (steps_in program) new) (fit : AreValuesOf (netlist_of net).ins inputs) (count : length inputs ≡ length (netlist_of net).ins) (room : length new ≡ length slots) where
       here : IsRowIn (frame (netlist_of net) built.cells) (steps_of (netlist_of net) built.cells program) (record { slots = new; inputs = inputs; others = others })
       here = row_in (netlist_of net) table program shown built others kept slots are inputs new opened made fit count
 
@@ -320,7 +320,7 @@ module _ (net : Net) (table : Table) (program : Program) (shown : List ℕ) (bui
     states_open : states_from program kept others ≡ map (λ (c : CellPorts). opening_state c.prim []) built.cells
     states_open = ap (map (state_of kept others)) built.program_is.kinds ∙ opening_states kept others built.cells program.ports.items none others_are opening
 
-    pub new_keeps : ((k : ℕ) → slice_index slots k ≡ 0) → length kept ≡ kept_in built.cells → length slots ≡ (steps_of (netlist_of net) built.cells program).base + length program.steps.items → IsSound (steps_of (netlist_of net) built.cells program).base program others → AreKept (netlist_of net) built.cells program others kept slots
+    pub new_keeps : ((k : ℕ) → slice_index slots k ≡ 0) → length kept ≡ kept_in built.cells → length slots ≡ (steps_of (netlist_of net) built.cells program).base + length (steps_in program) → IsSound (steps_of (netlist_of net) built.cells program).base program others → AreKept (netlist_of net) built.cells program others kept slots
     new_keeps no_slots kept_all slots_all sound = record {
       kept_all = kept_all;
       slots_all = slots_all;
@@ -388,14 +388,14 @@ module _ (flat : Inside) (is : IsFlat flat) (port : ℕ) (lt : port < length fla
 
 -- ---- a row, from the slots that were filled
 
-module _ (flat : Inside) (is : IsFlat flat) (inputs : List Bits) (widths : widths_of inputs ≡ map (λ (p : Pin). p.width) (netlist_of flat.net.now).ins) (others : List OtherCell) (kept new slots : List ℕ) (others_are : others ≡ flat.others.items) (kept_are : kept ≡ flat.kept.items) (opened : AreOpened kept (values_of inputs) new) (made : AreMade others (length kept + length inputs) flat.program.steps.items new) (room : length new ≡ length flat.slots.items) (slots_are : slots ≡ new) where
+module _ (flat : Inside) (is : IsFlat flat) (inputs : List Bits) (widths : widths_of inputs ≡ map (λ (p : Pin). p.width) (netlist_of flat.net.now).ins) (others : List OtherCell) (kept new slots : List ℕ) (others_are : others ≡ flat.others.items) (kept_are : kept ≡ flat.kept.items) (opened : AreOpened kept (values_of inputs) new) (made : AreMade others flat.program.choices.items (length kept + length inputs) (steps_in flat.program) new) (room : length new ≡ length flat.slots.items) (slots_are : slots ≡ new) where
   opened_in : AreOpened flat.kept.items (values_of inputs) new
   opened_in = subst (λ k. AreOpened k (values_of inputs) new) kept_are opened
 
-  made_in : AreMade flat.others.items (length flat.kept.items + length (values_of inputs)) flat.program.steps.items new
+  made_in : AreMade flat.others.items flat.program.choices.items (length flat.kept.items + length (values_of inputs)) (steps_in flat.program) new
   made_in =
-      subst (λ (os : List OtherCell). AreMade os (length flat.kept.items + length (values_of inputs)) flat.program.steps.items new) others_are
-      (subst (λ base. AreMade others base flat.program.steps.items new) (ap₂ ◌+◌ (ap length kept_are) (sym (length-map inputs (λ (b : Bits). b.value)))) made)
+      subst (λ (os : List OtherCell). AreMade os flat.program.choices.items (length flat.kept.items + length (values_of inputs)) (steps_in flat.program) new) others_are
+      (subst (λ base. AreMade others flat.program.choices.items base (steps_in flat.program) new) (ap₂ ◌+◌ (ap length kept_are) (sym (length-map inputs (λ (b : Bits). b.value)))) made)
 
   fit_in : AreValuesOf (netlist_of flat.net.now).ins (values_of inputs)
   fit_in = bits_fit (netlist_of flat.net.now).ins inputs widths

@@ -35,7 +35,7 @@ use Rattle.net_steps.specs.declared.other.Other.{Other as OtherCell}
 use Rattle.net_row.proofs.FlatSimLemmas.{widths_narrow, new_keeps, new_sim}
 use Rattle.net_row.specs.Flats.{HaveRoom, AreOthers, AreOpeningOthers, IsSound, IsBuilt, AreKept, states_from, values_from}
 use Rattle.net_row.specs.Kinds.{kept_in}
-use Rattle.net_row.specs.Program.{IsProgram, steps_of}
+use Rattle.net_row.specs.Program.{IsProgram, steps_of, steps_in}
 use Rattle.net_row.specs.declared.program.Program.{Program}
 
 literal_parts : (width value : ℕ) → is_width width ≡ true → nat_lt value (2 ^ width) ≡ true → (1 ≤ width) × (width ≤ 128) × (value < 2 ^ width)
@@ -129,14 +129,14 @@ pub record IsNewFlat (net : Net) (table : Table) (program : Program) (shown : Li
   pub are : AreKept (netlist_of net) built.cells program others kept slots
   pub new : IsNewSim net (record { net = net; states = states_from program kept others; values = values_from program slots; phase = Fresh })
 
-pub is_new_flat : (net : Net) (table : Table) (program : Program) (shown : List ℕ) (cells : List CellPorts) → HasBuilt (netlist_of net) table program shown cells → (others : List OtherCell) (kept slots : List ℕ) → AreOthers cells program.ports.items others → AreOpeningOthers others → ((k : ℕ) → slice_index kept k ≡ 0) → ((k : ℕ) → slice_index slots k ≡ 0) → length kept ≡ kept_in cells → length slots ≡ (steps_of (netlist_of net) cells program).base + length program.steps.items → IsSound (steps_of (netlist_of net) cells program).base program others → IsNewFlat net table program shown others kept slots
+pub is_new_flat : (net : Net) (table : Table) (program : Program) (shown : List ℕ) (cells : List CellPorts) → HasBuilt (netlist_of net) table program shown cells → (others : List OtherCell) (kept slots : List ℕ) → AreOthers cells program.ports.items others → AreOpeningOthers others → ((k : ℕ) → slice_index kept k ≡ 0) → ((k : ℕ) → slice_index slots k ≡ 0) → length kept ≡ kept_in cells → length slots ≡ (steps_of (netlist_of net) cells program).base + length (steps_in program) → IsSound (steps_of (netlist_of net) cells program).base program others → IsNewFlat net table program shown others kept slots
 is_new_flat net table program shown cells has others kept slots are opening no_kept no_slots kept_all slots_all sound =
     let are_built = subst (λ (cs : List CellPorts). AreOthers cs program.ports.items others) has.cells_are are in
     record {
       built = has.built;
       are = new_keeps net table program shown has.built others kept slots are_built opening no_kept no_slots
           (kept_all ∙ ap kept_in has.cells_are)
-          (slots_all ∙ ap (λ (cs : List CellPorts). (steps_of (netlist_of net) cs program).base + length program.steps.items) has.cells_are)
+          (slots_all ∙ ap (λ (cs : List CellPorts). (steps_of (netlist_of net) cs program).base + length (steps_in program)) has.cells_are)
           (subst (λ (cs : List CellPorts). IsSound (steps_of (netlist_of net) cs program).base program others) has.cells_are sound);
       new = new_sim net table program shown has.built others kept slots are_built opening no_kept;
     }

@@ -13,7 +13,7 @@ use Rattle.net_sim.proofs.SettleLemmas.{acting_is, acting_more, acting_values}
 use Rattle.net_sim.proofs.TestLemmas.{number_in}
 use Rattle.net_sim.specs.Evaluated.{Clashes}
 use Rattle.net_sim.specs.Layout.{name_of, port_names}
-use Rattle.net_sim.specs.Settled.{value_if_acting}
+use Rattle.net_sim.specs.inside.Settled.{value_if_acting}
 use Rattle.net_sim.specs.Sim.{port_row}
 use Rattle.net_sim.specs.declared.guards.Test.{Test}
 use Rattle.net_sim.specs.declared.plan.Source.{Source}
@@ -28,8 +28,8 @@ use Rattle.net_steps.specs.declared.truth.Truth.{Truth}
 use Rattle.net_row.proofs.DrivenLemmas.{told_alone}
 use Rattle.net_row.proofs.RowLemmas.{each_row_after, keeps_slots, ports_after, ports_with, row_in_before, truths_after, truths_with}
 use Rattle.net_row.proofs.TruthLemmas.{same_end, truth_at, truths_more}
-use Rattle.net_row.specs.Compiling.{AddsDriver, AddsDrivers, AddsPortSlot, AddsTruths, IsAssignment, frame_in, net_of}
-use Rattle.net_row.specs.Ports.{AddsSource, AddsTest, ArePorts, AreTruths, IsMadeOf, IsNumbered, IsSourceValue, IsTold, IsTruthAt}
+use Rattle.net_row.specs.inside.Compiling.{AddsDriver, AddsDrivers, AddsPortSlot, AddsTruths, IsAssignment, frame_in, net_of}
+use Rattle.net_row.specs.inside.Ports.{AddsSource, AddsTest, ArePorts, AreTruths, IsMadeOf, IsNumbered, IsSourceValue, IsTold, IsTruthAt}
 use Rattle.net_row.specs.Rows.{AreValuesAt, Frame, InEachRow, SlotRow}
 use Rattle.net_row.specs.declared.compile.Made.{Made}
 use Rattle.net_row.specs.declared.compile.Numbered.{Numbered}

@@ -6,7 +6,7 @@ use Rattle.std.proofs.lemmas.Option.{none-some, slice_get_within}
 use Rattle.hw_bits.proofs.WidthLemmas.{low_bits-of_lt}
 use Rattle.hw_prims.specs.Meaning.{output_values}
 use Rattle.hw_prims.specs.Memory.{place_of, word_at}
-use Rattle.hw_prims.specs.State.{State, words_of}
+use Rattle.hw_prims.specs.State.{State, memory_words}
 use Rattle.hw_prims.specs.Table.{Pin, inputs_of, outputs_of, pin_widths}
 use Rattle.hw_prims.specs.declared.prim.Primitive.{Primitive}
 use Rattle.hw_prims.specs.declared.prim.Primitive.TheVariants.{StdReg, StdMemD1, StdMemD2, StdMultPipe, FilDelay, FilFastMult, FilSeqMult}
@@ -168,13 +168,13 @@ module _ (ports : List (Option ℕ)) (slots ins : List ℕ) (state : State) (por
   other_values (StdMemD1 w size idx) kept count number zero e at has =
       let none : port + 0 ≡ port = omega arith in
       let h = has 0 first idx refl (ap (slice_get ports) none ∙ at) in
-      ap (λ (a : ℕ). word_at (words_of state) (if nat_lt a size then Some a else None)) (low_bits-of_lt idx (slice_index slots first) h.1 ∙ sym h.0)
+      ap (λ (a : ℕ). word_at (memory_words state) (if nat_lt a size then Some a else None)) (low_bits-of_lt idx (slice_index slots first) h.1 ∙ sym h.0)
   other_values (StdMemD1 w size idx) kept count number (suc output) e at has = refl
   other_values (StdMemD2 w size0 size1 idx0 idx1) kept count number zero e at has =
       let none : port + 0 ≡ port = omega arith in
       let h = has 0 first idx0 refl (ap (slice_get ports) none ∙ at.0) in
       let h' = has 1 second idx1 refl at.1 in
-      ap₂ (λ (a b : ℕ). word_at (words_of state) (if nat_lt a size0 && nat_lt b size1 then Some (a * size1 + b) else None))
+      ap₂ (λ (a b : ℕ). word_at (memory_words state) (if nat_lt a size0 && nat_lt b size1 then Some (a * size1 + b) else None))
       (low_bits-of_lt idx0 (slice_index slots first) h.1 ∙ sym h.0) (low_bits-of_lt idx1 (slice_index slots second) h'.1 ∙ sym h'.0)
   other_values (StdMemD2 w size0 size1 idx0 idx1) kept count number (suc output) e at has = refl
   other_values (StdMultPipe w) kept count number output e at has = refl

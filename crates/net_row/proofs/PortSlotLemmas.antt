@@ -26,10 +26,10 @@ use Rattle.net_steps.specs.declared.drivers.Driver.{Driver}
 use Rattle.net_row.proofs.DrivenLemmas.{driven_fits, told_by_none, told_by_two}
 use Rattle.net_row.proofs.MadeLemmas.{steps_after}
 use Rattle.net_row.proofs.RowLemmas.{cells_with, cells_with-at, cells_with-prims, cells_with-states, inputs_fit, length-kinds_after, row_in_before, state_fits, state_in_row, values_agree, values_count, values_fit, values_with}
-use Rattle.net_row.specs.Compiling.{AddsDrivers, AddsPortSlot, frame_in, net_of}
+use Rattle.net_row.specs.inside.Compiling.{AddsDrivers, AddsPortSlot, frame_in, net_of}
 use Rattle.net_row.specs.Kinds.{kinds_of, state_of}
 use Rattle.net_row.specs.Outputs.{AddsOutput}
-use Rattle.net_row.specs.Ports.{AreActing, IsMadeOf, IsNumbered, IsPortValue}
+use Rattle.net_row.specs.inside.Ports.{AreActing, IsMadeOf, IsNumbered, IsPortValue}
 use Rattle.net_row.specs.Rows.{IsFrame, SlotRow, IsRowIn, FitsIn, AreValuesAt, states_in}
 use Rattle.net_row.specs.declared.compile.Made.{Made}
 use Rattle.net_row.specs.declared.compile.Numbered.{Numbered}

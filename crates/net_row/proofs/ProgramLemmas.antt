@@ -8,14 +8,16 @@ use Rattle.net_sim.specs.Layout.{name_of, port_names}
 use Rattle.net_sim.specs.Sim.{input_row, port_row, states_of}
 use Rattle.net_steps.specs.Conflicts.{Clashes as ClashesIn}
 use Rattle.net_steps.specs.StepsValue.{StepsValue}
+use Rattle.net_steps.specs.declared.choice.Choice.{Choice}
 use Rattle.net_steps.specs.declared.clashes.Clash.{Clash}
+use Rattle.net_steps.specs.declared.operation.Operation.{Operation}
 use Rattle.net_row.proofs.PortSlotLemmas.{is_frame}
 use Rattle.net_row.proofs.RowLemmas.{row_in_before}
-use Rattle.net_row.specs.Compiling.{frame_in, net_of}
+use Rattle.net_row.specs.inside.Compiling.{frame_in, net_of}
 use Rattle.net_row.specs.Kinds.{kept_in}
 use Rattle.net_row.specs.Outputs.{AddsNext}
-use Rattle.net_row.specs.Ports.{IsMadeOf, IsNumbered}
-use Rattle.net_row.specs.Program.{IsProgram, TellsRow, steps_of, values_in}
+use Rattle.net_row.specs.inside.Ports.{IsMadeOf, IsNumbered}
+use Rattle.net_row.specs.Program.{IsProgram, TellsRow, steps_of, values_in, steps_in}
 use Rattle.net_row.specs.Rows.{AreValuesAt, IsRowIn, SlotRow, states_in}
 use Rattle.net_row.specs.declared.compile.Made.{Made}
 use Rattle.net_row.specs.declared.compile.Numbered.{Numbered}
@@ -61,7 +63,7 @@ some_of (Some x) slot e = same_Some (Some x) (Some slot) e
 
 -- ---- the program
 
-module _ (numbered : Numbered) (is : IsNumbered (net_of numbered) numbered) (made : Made) (are : IsMadeOf (net_of numbered) numbered made) (new : StepsValue) (program : Program) (adds : AddsNext made.steps new made.ports.slots.items numbered.cells.now program.next.items) (slots : made.ports.slots.items ≡ map Some program.ports.items) (kinds : program.kinds.items ≡ numbered.kinds.of_cells.items) (steps : program.steps.items ≡ new.items) (clashes : program.clashes.items ≡ made.clashes.items) where
+module _ (numbered : Numbered) (is : IsNumbered (net_of numbered) numbered) (made : Made) (are : IsMadeOf (net_of numbered) numbered made) (new : StepsValue) (program : Program) (adds : AddsNext made.steps new made.ports.slots.items numbered.cells.now program.next.items) (slots : made.ports.slots.items ≡ map Some program.ports.items) (kinds : program.kinds.items ≡ numbered.kinds.of_cells.items) (steps : steps_in program ≡ new.items) (choices : program.choices.items ≡ new.choices) (clashes : program.clashes.items ≡ made.clashes.items) where
   count : length program.ports.items ≡ length (port_names (net_of numbered))
   count = sym (length-map program.ports.items Some) ∙ ap length (sym slots) ∙ are.count
 
@@ -71,7 +73,9 @@ module _ (numbered : Numbered) (is : IsNumbered (net_of numbered) numbered) (mad
       omega (arith, slice_get_within made.ports.slots.items (get_or made.clashes.items k d).port (Some has.0) has.1, are.count)
 
   same_steps : steps_of (net_of numbered) numbered.cells.now program ≡ new
-  same_steps = ap₂ (λ b i. (let s : StepsValue = record { base = b; items = i } in s)) (sym (adds.extends.base ∙ are.base)) steps
+  same_steps =
+      ap (λ (cs : List Choice). (let s : StepsValue = record { base = kept_in numbered.cells.now + length (net_of numbered).ins; items = steps_in program; choices = cs } in s)) choices
+      ∙ ap₂ (λ b (i : List Operation). (let s : StepsValue = record { base = b; items = i; choices = new.choices } in s)) (sym (adds.extends.base ∙ are.base)) steps
 
   has_slot : (port slot : ℕ) → slice_get program.ports.items port ≡ Some slot → slice_get made.ports.slots.items port ≡ Some (Some slot)
   has_slot port slot at = ap (λ l. slice_get l port) slots ∙ slice_get-map Some program.ports.items port ∙ ap (option_map Some) at

@@ -30,7 +30,7 @@ use Rattle.net_steps.specs.StepsValue.{StepsValue}
 use Rattle.net_steps.specs.declared.clashes.Clash.{Clash}
 use Rattle.net_steps.specs.declared.truth.Truth.{Truth}
 use Rattle.net_row.specs.Kinds.{kind_after, kinds_after, kinds_of, kept_for, kept_in, others_for, others_in, state_of}
-use Rattle.net_row.specs.Ports.{AreTruths, ArePorts, IsPortValue, IsTold}
+use Rattle.net_row.specs.inside.Ports.{AreTruths, ArePorts, IsPortValue, IsTold}
 use Rattle.net_row.specs.Rows.{Frame, IsFrame, SlotRow, IsRowIn, InEachRow, FitsIn, AreFitting, AreValuesAt, states_in}
 use Rattle.net_row.specs.declared.kinds.Kind.{Kind}
 

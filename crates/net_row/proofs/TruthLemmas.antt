@@ -17,17 +17,19 @@ use Rattle.net_steps.specs.StepsValue.{StepsValue}
 use Rattle.net_steps.specs.Truths.{is_true, AddsTruth}
 use Rattle.net_steps.specs.declared.truth.Truth.{Truth}
 use Rattle.net_row.proofs.RowLemmas.{row_in_before, set_there, set_elsewhere, truths_after}
-use Rattle.net_row.specs.Ports.{AddsSource, AddsTest, AreTruths, IsTruthAt, LeadsByTruth}
+use Rattle.net_row.specs.inside.Ports.{AddsSource, AddsTest, AreTruths, IsTruthAt, LeadsByTruth}
 use Rattle.net_row.specs.Rows.{Frame, InEachRow}
 
 -- ---- sources
 
 -- the slot of a port
-pub source_of_port : (steps : StepsValue) (ports : List (Option ℕ)) (port slot : ℕ) → slice_get ports port ≡ Some (Some slot) → AddsSource steps steps ports (Slot port) slot
-source_of_port steps ports port slot at = record {
+pub source_of_port : {E : Type 0} (r : Result ℕ E) (steps : StepsValue) (ports : List (Option ℕ)) (source : Source) (port : ℕ) → source ≡ Slot port → IfOk r (λ slot. slice_get ports port ≡ Some (Some slot)) → IfOk r (AddsSource steps steps ports source)
+source_of_port (Ok slot) steps ports source port is at = record {
   extends = extends_itself steps;
-  made = λ f row values is size agree. sym (get_or_from_slice_get values port (slice_index row.slots slot) 0 (agree port slot at));
+  made = λ f row values in_row size agree.
+      sym (get_or_from_slice_get values port (slice_index row.slots slot) 0 (agree port slot at)) ∙ ap (source_number values) (sym is);
 }
+source_of_port (Err e) steps ports source port is at = at
 
 -- the slot of a literal
 pub source_of_literal : {E : Type 0} (r : Result ℕ E) (old new : StepsValue) (ports : List (Option ℕ)) (source : Source) (bits : Bits) (number : ℕ) → source ≡ Literal bits → number ≡ bits.value → IfOk r (AddsSlot old new (λ others slots. number)) → IfOk r (AddsSource old new ports source)

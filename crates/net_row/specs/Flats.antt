@@ -20,7 +20,7 @@ use Rattle.net_steps.specs.Operations.{AreBelow}
 use Rattle.net_steps.specs.declared.clashes.Clash.{Clash}
 use Rattle.net_steps.specs.declared.other.Other.{Other as OtherCell}
 use Rattle.net_row.specs.Kinds.{kinds_of, kept_in, others_in, state_of}
-use Rattle.net_row.specs.Program.{IsProgram, frame, steps_of}
+use Rattle.net_row.specs.Program.{IsProgram, frame, steps_of, steps_in}
 use Rattle.net_row.specs.Rows.{IsRowIn, AreStatesOf}
 use Rattle.net_row.specs.declared.flat.Flat.TheInside.{Inside}
 use Rattle.net_row.specs.declared.kinds.Kind.{Kind}
@@ -91,12 +91,12 @@ AreSlots count slots = All (λ slot. slot < count) slots
 
 -- each slot that is named is there, and each operand of a step lies below it
 pub record IsSound (base : ℕ) (program : Program) (others : List OtherCell) : Type 0 where
-  pub below : AreBelow others base program.steps.items
-  pub ports : AreSlots (base + length program.steps.items) program.ports.items
-  pub next : AreSlots (base + length program.steps.items) program.next.items
-  pub clashes : All (λ (clash : Clash). (clash.first < base + length program.steps.items) × (clash.second < base + length program.steps.items))
+  pub below : AreBelow others program.choices.items base (steps_in program)
+  pub ports : AreSlots (base + length (steps_in program)) program.ports.items
+  pub next : AreSlots (base + length (steps_in program)) program.next.items
+  pub clashes : All (λ (clash : Clash). (clash.first < base + length (steps_in program)) × (clash.second < base + length (steps_in program)))
       program.clashes.items
-  pub places : All (λ (other : OtherCell). AreSlots (base + length program.steps.items) other.places) others
+  pub places : All (λ (other : OtherCell). AreSlots (base + length (steps_in program)) other.places) others
 
 -- each value fits the width of its port
 abbrev pub FitWidths : List ℕ → List ℕ → Type 0
@@ -134,7 +134,7 @@ pub record IsBuilt (n : Netlist) (table : Table) (program : Program) (shown : Li
 -- what a simulation keeps from row to row
 pub record AreKept (n : Netlist) (cells : List CellPorts) (program : Program) (others : List OtherCell) (kept slots : List ℕ) : Type 0 where
   pub kept_all : length kept ≡ kept_in cells
-  pub slots_all : length slots ≡ (steps_of n cells program).base + length program.steps.items
+  pub slots_all : length slots ≡ (steps_of n cells program).base + length (steps_in program)
   pub others_are : AreOthers cells program.ports.items others
   pub sound : IsSound (steps_of n cells program).base program others
   pub states : AreStatesOf cells (states_from program kept others)

@@ -6,8 +6,10 @@ use Rattle.net_sim.specs.Layout.{port_names, port_widths, name_of}
 use Rattle.net_sim.specs.Sim.{input_row, port_row, states_of}
 use Rattle.net_sim.specs.declared.cells.CellPorts.{CellPorts}
 use Rattle.net_steps.specs.Conflicts.{Clashes as ClashesIn}
+use Rattle.net_steps.specs.Runs.{all_operations}
 use Rattle.net_steps.specs.StepsValue.{StepsValue}
 use Rattle.net_steps.specs.declared.clashes.Clash.{Clash}
+use Rattle.net_steps.specs.declared.operation.Operation.{Operation}
 use Rattle.net_row.specs.Kinds.{kinds_of, kept_in}
 use Rattle.net_row.specs.Outputs.{IsNextState}
 use Rattle.net_row.specs.Rows.{Frame, SlotRow, IsRowIn, states_in}
@@ -17,9 +19,13 @@ use Rattle.net_row.specs.declared.program.Program.{Program}
 abbrev pub frame : Netlist → List CellPorts → Frame
 frame n cells = record { net = n; cells = cells }
 
+-- its steps, one run after another
+abbrev pub steps_in : Program → List Operation
+steps_in program = all_operations program.runs.items
+
 -- the first step has the slot after what is kept and the inputs
 abbrev pub steps_of : Netlist → List CellPorts → Program → StepsValue
-steps_of n cells program = record { base = kept_in cells + length n.ins; items = program.steps.items }
+steps_of n cells program = record { base = kept_in cells + length n.ins; items = steps_in program; choices = program.choices.items }
 
 -- the values of the ports in a row
 abbrev pub values_in : Program → SlotRow → List ℕ

@@ -7,18 +7,19 @@ ghost use Rattle.net_core.specs.Rules.{IsValid};
 ghost use Rattle.net_core.specs.Table.{IsTableOf};
 ghost use Rattle.net_sim.specs.Layout.{AreCellPorts, port_names};
 ghost use Rattle.net_sim.specs.PortOrder.{IsPortOrderOf};
-ghost use Rattle.net_row.specs.Compiling.{AddsDriver, AddsDrivers, AddsPortSlot, AddsTruths, net_of};
-ghost use Rattle.net_row.specs.Ports.{IsMadeOf, IsNumbered};
+ghost use Rattle.net_row.specs.inside.Compiling.{AddsDriver, AddsDrivers, AddsPortSlot, AddsTruths, net_of};
+ghost use Rattle.net_row.specs.inside.Ports.{IsMadeOf, IsNumbered};
 ghost use Rattle.net_row.specs.Program.{IsProgram};
 
 use crate::kinds::{Kinds, kinds_of};
+use crate::levels::by_levels;
 use crate::outputs::{next_kept, output_slot};
 use crate::program::Program;
 use crate::slots::{PortSlots, Truths, first_tests, test_truth, tests_upto};
 use hw_bits::Memory;
 use net_core::{Net, Table};
 use net_sim::{CellPorts, FlatGuards, Giver, PortOrder, Source, flat_guards, givers, sources};
-use net_steps::{Clash, Driver, ProgramEnd, Steps, drive};
+use net_steps::{Clash, Driver, ProgramEnd, Steps, cut, drive};
 use std::alloc::Global;
 
 /// A netlist by numbers: what is compiled.
@@ -61,8 +62,12 @@ pub fn compile(
     let count = table.names.len();
     let numbered = number(alloc, net, table, order, cells)?;
     let mut made = none_made(alloc, &numbered, count)?;
-    for port in order.ports() {
-        add_port(alloc, &numbered, &mut made, *port)?;
+    let places = by_levels(alloc, &numbered, count)?;
+    for place in &places {
+        if place.port >= count {
+            return Err(ProgramEnd::Unfit);
+        }
+        add_port(alloc, &numbered, &mut made, place.port)?;
     }
     finish(alloc, numbered, made)
 }
@@ -173,7 +178,7 @@ fn port_slot(
         Giver::Driven => {
             let drivers = drivers(alloc, numbered, made, port)?;
             let Made { steps, clashes, .. } = made;
-            Ok(drive(steps, clashes, port, drivers.as_slice())?)
+            Ok(drive(alloc, steps, clashes, port, drivers.as_slice())?)
         }
     }
 }
@@ -236,12 +241,14 @@ fn finish(alloc: Global, numbered: Numbered, mut made: Made) -> Result<Program, 
 {
     let next = next_kept(alloc, &mut made.steps, &made.ports, numbered.cells)?;
     let ports = port_slots(alloc, &made.ports)?;
-    let steps = Vec::from_slice(alloc, made.steps.operations())?;
+    let runs = cut(alloc, made.steps.operations())?;
+    let choices = Vec::from_slice(alloc, made.steps.choices())?;
     Ok(Program {
         ports,
         kinds: numbered.kinds.of_cells,
         next,
-        steps,
+        runs,
+        choices,
         clashes: made.clashes,
     })
 }

@@ -21,16 +21,18 @@ ghost use Rattle.net_steps.specs.Others.{AreNarrow, AreCounted};
 ghost use Rattle.net_steps.specs.declared.other.Other.{Other as OtherCell};
 ghost use Rattle.net_row.specs.Flats.{AreOthers, AreOpeningOthers, HaveRoom, HasShown, IsShownAs, IsLoadedOther, AreOpened, IsOther, IsSound};
 ghost use Rattle.net_row.specs.Kinds.{kinds_of};
+ghost use Rattle.net_row.specs.Program.{steps_in};
 
 use crate::compile::compile;
 use crate::kinds::Kind;
 use crate::program::Program;
 use hw_bits::Bits;
-use hw_prims::{CellState, Prim};
+use hw_prims::Prim;
 use net_core::{Net, Table};
 use net_sim::{CellPorts, Conflict, Phase, PortOrder, cell_ports, shown_cells};
 use net_steps::{
-    INPUTS, Other, Places, ProgramEnd, are_below, find_conflict, run, step_kept, step_others,
+    HeldState, INPUTS, Other, Places, ProgramEnd, are_below, find_conflict, run_all, step_count,
+    step_kept, step_others,
 };
 use std::alloc::Global;
 use std::marker::Model;
@@ -90,12 +92,13 @@ impl<'a> Flat<'a> {
             program.ports.as_slice(),
         )?;
         let shown = shown_cells(alloc, net)?;
-        let base = step_base(program.next.len(), net.ins.len(), program.steps.len())?;
-        if !is_sound(base, &program, others.as_slice()) {
+        let steps = step_count(program.runs.as_slice())?;
+        let base = step_base(program.next.len(), net.ins.len(), steps)?;
+        if !is_sound(base, base + steps, &program, others.as_slice()) {
             return Err(ProgramEnd::Unfit);
         }
         let kept = vec![in alloc; 0u64; program.next.len()]?;
-        let slots = vec![in alloc; 0u64; base + program.steps.len()]?;
+        let slots = vec![in alloc; 0u64; base + steps]?;
         Ok(Flat {
             net,
             table,
@@ -226,16 +229,20 @@ fn step_base(kept: usize, inputs: usize, steps: usize) -> Result<usize, ProgramE
     Ok(base)
 }
 
-/// Whether each slot that is named is there, and each operand of a step lies below it. The first step has the slot `base`.
-fn is_sound(base: usize, program: &Program, others: &[Other]) -> bool
-    requires room { base + length program.now.steps.items < 2 ^ 64 }
+/// Whether each slot that is named is one of `count`, and each operand of a step lies below it. The first step has the slot `base`.
+fn is_sound(base: usize, count: usize, program: &Program, others: &[Other]) -> bool
+    requires room { base + length (steps_in program.now) < 2 ^ 64 }
+    requires count { count ≡ base + length (steps_in program.now) }
     requires counted { AreCounted others.now }
     ensures { result ≡ true → IsSound base program.now others.now }
 {
-    let count = base + program.steps.len();
     let within = |slot: &u32| (*slot as usize) < count;
-    are_below(program.steps.as_slice(), base, others)
-        && program.ports.iter().all(within)
+    are_below(
+        program.runs.as_slice(),
+        base,
+        others,
+        program.choices.as_slice(),
+    ) && program.ports.iter().all(within)
         && program.next.iter().all(within)
         && program
             .clashes
@@ -268,16 +275,22 @@ fn load_other(others: &mut [Other], number: usize, at: usize, word: Bits)
 
 /// Fills the slots of a row: with what is kept, with the inputs, and with what the steps make.
 fn fill(program: &Program, others: &[Other], kept: &[u64], inputs: &[Bits], slots: &mut [u64])
-    requires room { length kept.now + length inputs.now + length program.now.steps.items ≡ length slots.old }
+    requires room { length kept.now + length inputs.now + length (steps_in program.now) ≡ length slots.old }
     requires inputs { All (λ (input : Bits). input.width ≤ 64) inputs.now }
-    requires below { AreBelow others.now (length kept.now + length inputs.now) program.now.steps.items }
+    requires below { AreBelow others.now program.now.choices.items (length kept.now + length inputs.now) (steps_in program.now) }
     requires others { AreNarrow others.now }
     ensures opened { AreOpened kept.now (values_of inputs.now) slots.new }
-    ensures made { AreMade others.now (length kept.now + length inputs.now) program.now.steps.items slots.new }
+    ensures made { AreMade others.now program.now.choices.items (length kept.now + length inputs.now) (steps_in program.now) slots.new }
 {
     open(slots, kept, inputs);
     let base = kept.len() + inputs.len();
-    run(program.steps.as_slice(), base, others, slots);
+    run_all(
+        program.runs.as_slice(),
+        base,
+        others,
+        program.choices.as_slice(),
+        slots,
+    );
 }
 
 /// Puts what is kept and the inputs into their slots.
@@ -324,7 +337,7 @@ fn other_of(alloc: Global, cell: CellPorts, ports: &[u32]) -> Result<Other, Prog
 {
     let widths = input_widths(alloc, cell.prim)?;
     let places = input_places(cell, ports);
-    let state = CellState::new(alloc, cell.prim)?;
+    let state = HeldState::new(alloc, cell.prim)?;
     Ok(Other {
         state,
         widths,

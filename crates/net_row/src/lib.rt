@@ -8,9 +8,9 @@
 //!     0 r.out   1 r.done  |  2 x   |  3 a.out = Add(0, 2)   4 ..
 //!     what is kept        | inputs |  what the steps make; ports that are always equal share a slot, as r.in and a.out do
 //!
-//! How it goes: `kinds` says for each cell what is kept of it; `compile` goes through the ports in their order and gives each a
-//! slot (`slots` has tests of guards as truths, `outputs` the outputs of cells); a port whose operands have no slot yet ends it,
-//! so that nothing has to be known of the order. `flat` runs the program: open the row, run the steps, look for Conflicts, move
+//! How it goes: `kinds` says for each cell what is kept of it; `compile` goes through the ports level by level (`levels`) and
+//! gives each a slot (`slots` has tests of guards as truths, `outputs` the outputs of cells); a port whose operands have no slot
+//! yet ends it, so that nothing has to be known of the order. `flat` runs the program: open the row, run the steps, look for Conflicts, move
 //! what is kept. `sim` is the choice between the two simulators.
 //!
 //! What the layer above uses is `Sim`: each row is a row of the netlist's run, the reported Conflict is the least, and the edge
@@ -20,6 +20,7 @@
 mod compile;
 mod flat;
 mod kinds;
+mod levels;
 mod outputs;
 mod program;
 mod sim;

@@ -1,6 +1,6 @@
 //! A netlist compiled to steps over slots.
 use crate::kinds::Kind;
-use net_steps::{Clash, Operation};
+use net_steps::{Choice, Clash, Run};
 
 /// A netlist compiled to steps over slots: one for each value that is kept, then one for each input, then one for each step.
 #[derive(Drop)]
@@ -10,6 +10,9 @@ pub struct Program {
     pub kinds: Vec<Kind>,
     /// The slot of what each kept value is after a row.
     pub next: Vec<u32>,
-    pub steps: Vec<Operation>,
+    /// The steps, in runs of one kind.
+    pub runs: Vec<Run>,
+    /// The table of choices that steps are made of.
+    pub choices: Vec<Choice>,
     pub clashes: Vec<Clash>,
 }

@@ -1,6 +1,6 @@
 //! The slots of ports, and the tests of guards as truths.
 ghost use Rattle.std.specs.Prelude.{◌≡◌, ◌-◌, IfOk, length};
-ghost use Rattle.net_row.specs.Ports.{AddsTest};
+ghost use Rattle.net_row.specs.inside.Ports.{AddsTest};
 
 use hw_bits::Memory;
 use net_sim::{FALSE, FIRST, Source, TRUE, Test};
@@ -15,7 +15,7 @@ pub struct PortSlots {
 
 impl PortSlots {
     ghost use Rattle.std.specs.Prelude.{◌≡◌, IfOk, None, Some, slice_get, replicate};
-    ghost use Rattle.net_row.specs.Ports.{AddsSource};
+    ghost use Rattle.net_row.specs.inside.Ports.{AddsSource};
 
     /// No port has a slot.
     pub fn new(alloc: Global, count: usize) -> Result<PortSlots, Memory>
@@ -54,7 +54,7 @@ pub struct Truths {
 
 impl Truths {
     ghost use Rattle.std.specs.Prelude.{◌≡◌, IfOk, None, replicate};
-    ghost use Rattle.net_row.specs.Ports.{IsTruthAt};
+    ghost use Rattle.net_row.specs.inside.Ports.{IsTruthAt};
 
     /// No test has a truth.
     pub fn new(alloc: Global, count: usize) -> Result<Truths, Memory>

@@ -1,10 +1,10 @@
 -- The least port that clashes, one clash after another.
-use Rattle.std.proofs.Common.{◌≡◌, ℕ, ◌+◌, ◌<◌, ◌≤◌, List, Option, Some, None, true, false, length, get_or, refl, sym, ap, subst, ◌∙◌, arith, inl, inr, ◌⊎◌}
+use Rattle.std.proofs.Common.{◌≡◌, ℕ, ◌+◌, ◌<◌, ◌≤◌, List, Option, Some, None, true, false, length, refl, sym, ap, subst, ◌∙◌, arith, inl, inr, ◌⊎◌}
 use Rattle.std.specs.Prelude.{slice_get, IfSome}
 use Rattle.std.proofs.lemmas.Bool.{cases_lt}
 use Rattle.std.proofs.lemmas.Option.{same_Some, slice_get_within}
 use Rattle.hw_graph.proofs.NameOrderLemmas.{at_most_itself, at_most_trans}
-use Rattle.hw_graph.specs.ByName.{IsAtMost, IsLesser, IsLeastWith}
+use Rattle.hw_graph.specs.ByName.{IsAtMost, IsLeastWith}
 use Rattle.hw_names.specs.Name.{Text}
 use Rattle.net_steps.specs.Conflicts.{Clashes, IsLeastClash}
 use Rattle.net_steps.specs.Drivers.{is_clash}

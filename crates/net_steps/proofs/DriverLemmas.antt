@@ -1,25 +1,27 @@
--- What assignments give a port, one assignment after another.
-use Rattle.std.proofs.Common.{◌≡◌, ◌==◌, ℕ, Bool, true, false, not, ◌&&◌, ◌||◌, if◌then◌else◌, List, [], ◌∷◌, ◌++◌, ◌<◌, ◌≤◌, zero, suc, take, length, get_or, Result, Ok, Err, IfOk, refl, sym, ap, subst, ◌∙◌, append_assoc, arith}
+-- What assignments give a port.
+use Rattle.std.proofs.Common.{◌≡◌, ◌==◌, ℕ, Bool, true, false, not, ◌&&◌, ◌||◌, if◌then◌else◌, List, [], ◌∷◌, ◌++◌, ◌<◌, ◌≤◌, take, length, get_or, Result, Ok, Err, IfOk, refl, sym, ap, subst, ◌∙◌, append_assoc, arith, ◌+◌, ◌-◌, drop, length-append}
 use Rattle.std.proofs.lemmas.Grind.{common_steps}
 use Rattle.std.proofs.lemmas.List.{append-nil}
+use Rattle.std.proofs.Math.Seq.{drop-append_seam, take-append_seam}
 use Rattle.std.specs.Prelude.{slice_index, All}
-use Rattle.std.specs.List.{list_any}
-use Rattle.std.proofs.lemmas.List.Folds.{list_any-append}
 use Rattle.hw_prims.specs.Meaning.{bit}
 use Rattle.net_core.specs.Circuit.{settled}
-use Rattle.net_steps.specs.Drivers.{acting, has_two, is_clash, AddsPort, PicksOne, SameWhere}
-use Rattle.net_steps.specs.Operations.{is_on, picked}
-use Rattle.net_steps.specs.Steps.{Extends, IsRowOf, Defines, AddsSlot, IsConstant, IsBit}
+use Rattle.net_steps.specs.Apart.{AreNeverBoth, HasNoTwo}
+use Rattle.net_steps.specs.Drivers.{acting, AddsChoices, AddsPort, SameWhere}
+use Rattle.net_steps.specs.Operations.{has_two, is_on, part_of, picked, values_on, IsStep}
+use Rattle.net_steps.specs.Steps.{Extends, IsRowOf, Defines, AddsChoice, AddsSlot, IsConstant, IsBit}
 use Rattle.net_steps.specs.StepsValue.{StepsValue}
 use Rattle.net_steps.specs.Truths.{is_true, AddsTruth}
+use Rattle.net_steps.specs.declared.choice.Choice.{Choice}
 use Rattle.net_steps.specs.declared.clashes.Clash.{Clash}
 use Rattle.net_steps.specs.declared.drivers.Driver.{Driver}
-use Rattle.net_steps.specs.declared.operation.Operation.{Operation}
-use Rattle.net_steps.specs.declared.operation.Operation.TheVariants.{Constant, Choose, Pick}
+use Rattle.net_steps.specs.declared.operation.Operation.TheVariants.{Constant, Choose, Pick, Only, Several}
 use Rattle.net_steps.specs.declared.other.Other.{Other}
 use Rattle.net_steps.specs.declared.truth.Truth.{Truth}
 use Rattle.net_steps.specs.declared.truth.Truth.TheVariants.{Slot}
-use Rattle.net_steps.proofs.StepLemmas.{extends_itself, extends_twice, row_before, defined_made}
+use Rattle.net_steps.proofs.ChoiceLemmas.{more_values, value_if, values_more}
+use Rattle.net_steps.proofs.TruthLemmas.{bit_is_on}
+use Rattle.net_steps.proofs.StepLemmas.{choices_twice, extends_itself, extends_twice, row_before, step_made, defined_made, still_defined}
 
 -- ---- one of two slots
 
@@ -100,13 +102,6 @@ selected_not (Err e) old new truth slot x y negated is turned adds = adds
 
 -- ---- the values of assignments
 
-abbrev pub value_if : Bool → ℕ → List ℕ
-value_if on value = if on then value ∷ [] else []
-
-abbrev pub has_some : List ℕ → Bool
-has_some [] = false
-has_some (v ∷ values) = true
-
 settled_value_if : (b : Bool) (v : ℕ) → settled (value_if b v) ≡ (if b then v else 0)
 settled_value_if true v = refl
 settled_value_if false v = refl
@@ -182,94 +177,8 @@ port_of_none (Ok slot) old new clashes after port drivers lt same adds = subst (
 })
 port_of_none (Err e) old new clashes after port drivers lt same adds = adds
 
--- ---- one assignment more
+-- ---- two assignments
 
--- some of the assignments acts
-abbrev pub any_acts : List ℕ → List Driver → Bool
-any_acts slots [] = false
-any_acts slots (d ∷ drivers) = is_true slots d.truth || any_acts slots drivers
-
-more_values : (b : Bool) (v : ℕ) (xs ys more : List ℕ) → xs ≡ ys ++ more → (if b then v ∷ xs else xs) ≡ (if b then v ∷ ys else ys) ++ more
-more_values true v xs ys more e = ap (λ l. v ∷ l) e
-more_values false v xs ys more e = e
-
-pub acting_more : (slots : List ℕ) (drivers : List Driver) (d : Driver) → acting slots (drivers ++ d ∷ []) ≡ acting slots drivers ++ value_if (is_true slots d.truth) (slice_index slots d.source)
-acting_more slots [] d = refl
-acting_more slots (e ∷ drivers) d =
-    more_values (is_true slots e.truth) (slice_index slots e.source) (acting slots (drivers ++ d ∷ [])) (acting slots drivers) (value_if (is_true slots d.truth) (slice_index slots d.source)) (acting_more slots drivers d)
-
-some_values : (b c : Bool) (v : ℕ) (xs : List ℕ) → c ≡ has_some xs → (b || c) ≡ has_some (if b then v ∷ xs else xs)
-some_values true c v xs e = refl
-some_values false c v xs e = e
-
-pub some_acts : (slots : List ℕ) (drivers : List Driver) → any_acts slots drivers ≡ has_some (acting slots drivers)
-some_acts slots [] = refl
-some_acts slots (d ∷ drivers) = some_values (is_true slots d.truth) (any_acts slots drivers) (slice_index slots d.source) (acting slots drivers) (some_acts slots drivers)
-
-or_none : (b : Bool) → (b || false) ≡ (false || b)
-or_none true = refl
-or_none false = refl
-
-or_more : (b x y c : Bool) → x ≡ (y || c) → (b || x) ≡ ((b || y) || c)
-or_more true x y c e = refl
-or_more false x y c e = e
-
-pub any_more : (slots : List ℕ) (drivers : List Driver) (d : Driver) → any_acts slots (drivers ++ d ∷ []) ≡ (any_acts slots drivers || is_true slots d.truth)
-any_more slots [] d = or_none (is_true slots d.truth)
-any_more slots (e ∷ drivers) d = or_more (is_true slots e.truth) (any_acts slots (drivers ++ d ∷ [])) (any_acts slots drivers) (is_true slots d.truth) (any_more slots drivers d)
-
--- what is picked of the value so far and one more
-pub pick_more : (values : List ℕ) (on more : Bool) (value other : ℕ) → on ≡ has_some values → (on ≡ true → value ≡ settled values) → picked on value more other ≡ settled (values ++ value_if more other)
-pick_more [] true more value other e is = cc
-pick_more [] false true value other e is = refl
-pick_more [] false false value other e is = refl
-pick_more (v ∷ values) false more value other e is = cc
-pick_more (v ∷ []) true true value other e is = refl
-pick_more (v ∷ []) true false value other e is = is refl
-pick_more (v ∷ w ∷ values) true true value other e is = refl
-pick_more (v ∷ w ∷ values) true false value other e is = is refl
-
-pub two_more : (values : List ℕ) (on more : Bool) (other : ℕ) → on ≡ has_some values → (has_two values || (on && more)) ≡ has_two (values ++ value_if more other)
-two_more [] true more other e = cc
-two_more [] false true other e = refl
-two_more [] false false other e = refl
-two_more (v ∷ values) false more other e = cc
-two_more (v ∷ []) true true other e = refl
-two_more (v ∷ []) true false other e = refl
-two_more (v ∷ w ∷ values) true more other e = refl
-
-all_more : (clashes : List Clash) (clash : Clash) (port : ℕ) → All (λ (x : Clash). x.port ≡ port) clashes → clash.port ≡ port → All (λ (x : Clash). x.port ≡ port) (clashes ++ clash ∷ [])
-all_more clashes clash port all is = grind (arith, common_steps)
-
--- what is picked of two drivers, by the slots of their truths
-pub pick_made : (old mid more new : StepsValue) (before after : List Clash) (port : ℕ) (d e : Driver) (first second slot : ℕ) (clash : Clash) → AddsTruth old mid (λ slots. is_true slots d.truth) (Slot first false) → AddsTruth mid more (λ slots. is_true slots e.truth) (Slot second false) → Defines more new (Pick first d.source second e.source) slot → clash ≡ record { first = first; second = second; port = port } → after ≡ before ++ clash ∷ [] → PicksOne old new before after port d e slot
-pick_made old mid more new before after port d e first second slot clash one two defines is pushed = record {
-  extends = extends_twice old mid new one.extends (extends_twice mid more new two.extends defines.extends);
-  made = λ others slots row.
-      defined_made more new (Pick first d.source second e.source) slot defines others slots row
-      ∙ ap (λ b. picked b (slice_index slots d.source) (is_on slots second) (slice_index slots e.source)) (first_is others slots row)
-      ∙ ap (λ b. picked (is_true slots d.truth) (slice_index slots d.source) b (slice_index slots e.source)) (second_is others slots row);
-  clash = clash;
-  after_is = pushed;
-  of_port = ap (λ (c : Clash). c.port) is;
-  told = λ others slots row.
-      ap (is_clash slots) is
-      ∙ ap (λ b. b && is_on slots second) (first_is others slots row)
-      ∙ ap (λ b. is_true slots d.truth && b) (second_is others slots row);
-}
-  where
-    first_is : (others : List Other) (slots : List ℕ) → IsRowOf new others slots → is_on slots first ≡ is_true slots d.truth
-    first_is others slots row = one.made others slots (row_before mid more two.extends others slots (row_before more new defines.extends others slots row))
-
-    second_is : (others : List Other) (slots : List ℕ) → IsRowOf new others slots → is_on slots second ≡ is_true slots e.truth
-    second_is others slots row = two.made others slots (row_before more new defines.extends others slots row)
-
--- what is picked so far: the port's value by these assignments, and by which truths one of them acts
-pub record IsPicked (old new : StepsValue) (before after : List Clash) (port : ℕ) (drivers : List Driver) (acts last : Truth) (value : ℕ) : Type 0 where
-  pub port_is : AddsPort old new before after port drivers value
-  pub some : (others : List Other) (slots : List ℕ) → IsRowOf new others slots → (is_true slots acts || is_true slots last) ≡ any_acts slots drivers
-
--- the first two
 first_value : (a b : Bool) (v w : ℕ) → picked a v b w ≡ settled (two_values a v b w)
 first_value true true v w = refl
 first_value true false v w = refl
@@ -282,61 +191,151 @@ first_two true false v w = refl
 first_two false true v w = refl
 first_two false false v w = refl
 
-first_some : (a b : Bool) → (a || b) ≡ (a || (b || false))
-first_some true b = refl
-first_some false true = refl
-first_some false false = refl
+one_of_port : (clash : Clash) (port : ℕ) → clash.port ≡ port → All (λ (x : Clash). x.port ≡ port) (clash ∷ [])
+one_of_port clash port is = grind (arith, common_steps)
 
-pub picked_first : (old new : StepsValue) (before after : List Clash) (port : ℕ) (d e : Driver) (slot : ℕ) → PicksOne old new before after port d e slot → IsPicked old new before after port (d ∷ e ∷ []) d.truth e.truth slot
-picked_first old new before after port d e slot picks = record {
-  port_is = record {
-    extends = picks.extends;
-    value = λ others slots row. picks.made others slots row ∙ first_value (is_true slots d.truth) (is_true slots e.truth) (slice_index slots d.source) (slice_index slots e.source);
-    added = picks.clash ∷ [];
-    after_is = picks.after_is;
-    of_port = all_more [] picks.clash port (λ k x lt. absurd (omega (arith, lt))) picks.of_port;
-    told = λ others slots row. ap (λ b. b || false) (picks.told others slots row) ∙ first_two (is_true slots d.truth) (is_true slots e.truth) (slice_index slots d.source) (slice_index slots e.source);
-  };
-  some = λ others slots row. first_some (is_true slots d.truth) (is_true slots e.truth);
-}
+-- what is picked of two drivers, by the slots of their truths
+module _ (old mid more new : StepsValue) (d e : Driver) (first second slot : ℕ) (one : AddsTruth old mid (λ slots. is_true slots d.truth) (Slot first false)) (two : AddsTruth mid more (λ slots. is_true slots e.truth) (Slot second false)) (defines : Defines more new (Pick first d.source second e.source) slot) where
+  first_is : (others : List Other) (slots : List ℕ) → IsRowOf new others slots → is_on slots first ≡ is_true slots d.truth
+  first_is others slots row = one.made others slots (row_before mid more two.extends others slots (row_before more new defines.extends others slots row))
 
--- one more
-pub picked_next : (old mid more new : StepsValue) (before between after : List Clash) (port : ℕ) (drivers : List Driver) (acts last any : Truth) (value : ℕ) (d : Driver) (slot : ℕ) → IsPicked old mid before between port drivers acts last value → AddsTruth mid more (λ slots. is_true slots acts || is_true slots last) any → PicksOne more new between after port (record { truth = any; source = value }) d slot → IsPicked old new before after port (drivers ++ d ∷ []) any d.truth slot
-picked_next old mid more new before between after port drivers acts last any value d slot so_far adds picks = record {
-  port_is = record {
-    extends = extends_twice old mid new so_far.port_is.extends (extends_twice mid more new adds.extends picks.extends);
-    value = λ others slots row.
-        picks.made others slots row
-        ∙ pick_more (acting slots drivers) (is_true slots any) (is_true slots d.truth) (slice_index slots value) (slice_index slots d.source) (some_now others slots row) (λ on. so_far.port_is.value others slots (in_mid others slots row))
-        ∙ ap settled (sym (acting_more slots drivers d));
-    added = so_far.port_is.added ++ picks.clash ∷ [];
-    after_is = picks.after_is ∙ ap (λ l. l ++ picks.clash ∷ []) so_far.port_is.after_is ∙ append_assoc before so_far.port_is.added (picks.clash ∷ []);
-    of_port = all_more so_far.port_is.added picks.clash port so_far.port_is.of_port picks.of_port;
+  second_is : (others : List Other) (slots : List ℕ) → IsRowOf new others slots → is_on slots second ≡ is_true slots e.truth
+  second_is others slots row = two.made others slots (row_before more new defines.extends others slots row)
+
+  pick_extends : Extends old new
+  pick_extends = extends_twice old mid new one.extends (extends_twice mid more new two.extends defines.extends)
+
+  pick_value : (others : List Other) (slots : List ℕ) → IsRowOf new others slots → slice_index slots slot ≡ settled (acting slots (d ∷ e ∷ []))
+  pick_value others slots row =
+      defined_made more new (Pick first d.source second e.source) slot defines others slots row
+      ∙ ap (λ b. picked b (slice_index slots d.source) (is_on slots second) (slice_index slots e.source)) (first_is others slots row)
+      ∙ ap (λ b. picked (is_true slots d.truth) (slice_index slots d.source) b (slice_index slots e.source)) (second_is others slots row)
+      ∙ first_value (is_true slots d.truth) (is_true slots e.truth) (slice_index slots d.source) (slice_index slots e.source)
+
+  -- with a clash
+  pub pick_made : (before after : List Clash) (port : ℕ) → after ≡ before ++ (record { first = first; second = second; port = port }) ∷ [] → AddsPort old new before after port (d ∷ e ∷ []) slot
+  pick_made before after port pushed = record {
+    extends = pick_extends;
+    value = pick_value;
+    added = (record { first = first; second = second; port = port }) ∷ [];
+    after_is = pushed;
+    of_port = one_of_port (record { first = first; second = second; port = port }) port refl;
     told = λ others slots row.
-        list_any-append (is_clash slots) so_far.port_is.added (picks.clash ∷ [])
-        ∙ ap (λ b. b || (is_clash slots picks.clash || false)) (so_far.port_is.told others slots (in_mid others slots row))
-        ∙ ap (λ b. has_two (acting slots drivers) || (b || false)) (picks.told others slots row)
-        ∙ ap (λ b. has_two (acting slots drivers) || b) (or_none (is_true slots any && is_true slots d.truth))
-        ∙ two_more (acting slots drivers) (is_true slots any) (is_true slots d.truth) (slice_index slots d.source) (some_now others slots row)
-        ∙ ap has_two (sym (acting_more slots drivers d));
-  };
-  some = λ others slots row. ap (λ b. b || is_true slots d.truth) (any_now others slots row) ∙ sym (any_more slots drivers d);
+        ap (λ b. (b && is_on slots second) || false) (first_is others slots row)
+        ∙ ap (λ b. (is_true slots d.truth && b) || false) (second_is others slots row)
+        ∙ first_two (is_true slots d.truth) (is_true slots e.truth) (slice_index slots d.source) (slice_index slots e.source);
+  }
+
+  -- where they never act both
+  pub pick_alone : (before after : List Clash) (port : ℕ) → after ≡ before → AreNeverBoth new d.truth e.truth → AddsPort old new before after port (d ∷ e ∷ []) slot
+  pick_alone before after port same never = record {
+    extends = pick_extends;
+    value = pick_value;
+    added = [];
+    after_is = same ∙ sym (append-nil before);
+    of_port = λ k x lt. absurd (omega (arith, lt));
+    told = λ others slots row.
+        ap (λ b. b || false) (sym (never others slots row))
+        ∙ first_two (is_true slots d.truth) (is_true slots e.truth) (slice_index slots d.source) (slice_index slots e.source);
+  }
+
+-- ---- many assignments
+
+pub acting_more : (slots : List ℕ) (drivers : List Driver) (d : Driver) → acting slots (drivers ++ d ∷ []) ≡ acting slots drivers ++ value_if (is_true slots d.truth) (slice_index slots d.source)
+acting_more slots [] d = refl
+acting_more slots (e ∷ drivers) d =
+    more_values (is_true slots e.truth) (slice_index slots e.source) (acting slots (drivers ++ d ∷ [])) (acting slots drivers) (value_if (is_true slots d.truth) (slice_index slots d.source)) (acting_more slots drivers d)
+
+pub choices_none : (steps : StepsValue) → AddsChoices steps steps []
+choices_none steps = record { extends = extends_itself steps; added = []; choices = sym (append-nil steps.choices); count = refl; are = λ others slots row. refl }
+
+-- one driver more
+pub choices_more : (old mid more new : StepsValue) (drivers : List Driver) (d : Driver) (on : ℕ) → AddsChoices old mid drivers → AddsTruth mid more (λ slots. is_true slots d.truth) (Slot on false) → more.choices ≡ mid.choices → AddsChoice more new (record { on = on; value = d.source }) → AddsChoices old new (drivers ++ d ∷ [])
+choices_more old mid more new drivers d on so_far truth same adds = record {
+  extends = extends_twice old mid new so_far.extends (extends_twice mid more new truth.extends pushed);
+  added = so_far.added ++ c ∷ [];
+  choices = table ∙ ap (λ (l : List Choice). l ++ c ∷ []) (same ∙ so_far.choices) ∙ append_assoc old.choices so_far.added (c ∷ []);
+  count =
+      length-append so_far.added (c ∷ [])
+      ∙ ap (λ n. n + 1) so_far.count
+      ∙ sym (length-append drivers (d ∷ []));
+  are = λ others slots row.
+      let in_more = row_before more new pushed others slots row in
+      let is : is_on slots on ≡ is_true slots d.truth = truth.made others slots in_more in
+      values_more slots so_far.added c
+      ∙ ap (λ (vs : List ℕ). vs ++ value_if (is_on slots on) (slice_index slots d.source)) (so_far.are others slots (row_before mid more truth.extends others slots in_more))
+      ∙ ap (λ b. acting slots drivers ++ value_if b (slice_index slots d.source)) is
+      ∙ sym (acting_more slots drivers d);
 }
   where
-    in_more : (others : List Other) (slots : List ℕ) → IsRowOf new others slots → IsRowOf more others slots
-    in_more others slots row = row_before more new picks.extends others slots row
+    c : Choice
+    c = record { on = on; value = d.source }
 
-    in_mid : (others : List Other) (slots : List ℕ) → IsRowOf new others slots → IsRowOf mid others slots
-    in_mid others slots row = row_before mid more adds.extends others slots (in_more others slots row)
+    table : new.choices ≡ more.choices ++ c ∷ []
+    table = ap (λ (s : StepsValue). s.choices) adds
 
-    any_now : (others : List Other) (slots : List ℕ) → IsRowOf new others slots → is_true slots any ≡ any_acts slots drivers
-    any_now others slots row = adds.made others slots (in_more others slots row) ∙ so_far.some others slots (in_mid others slots row)
+    pushed : Extends more new
+    pushed = subst (Extends more) (sym adds) (record { base = refl; keeps = λ k step at. at; choices = (c ∷ [], refl) })
 
-    some_now : (others : List Other) (slots : List ℕ) → IsRowOf new others slots → is_true slots any ≡ has_some (acting slots drivers)
-    some_now others slots row = any_now others slots row ∙ some_acts slots drivers
+-- the choices of the drivers, in a table that has others before and after them
+part_is : (old added rest choices : List Choice) (from count : ℕ) → choices ≡ (old ++ added) ++ rest → from ≡ length old → count ≡ length added → part_of choices from count ≡ added
+part_is old added rest choices from count is at size =
+    let width : from + count - from ≡ count = omega arith in
+    ap (λ (l : List Choice). take (from + count - from) (drop from l)) (is ∙ append_assoc old added rest)
+    ∙ ap (λ n. take n (drop from (old ++ (added ++ rest)))) (width ∙ size)
+    ∙ ap (λ n. take (length added) (drop n (old ++ (added ++ rest)))) at
+    ∙ ap (take (length added)) (drop-append_seam old (added ++ rest))
+    ∙ take-append_seam added rest
 
-pub take_past : (drivers : List Driver) (i : ℕ) → length drivers ≤ i → take i drivers ≡ drivers
-take_past [] zero le = refl
-take_past [] (suc i) le = refl
-take_past (d ∷ drivers) zero le = absurd (omega (arith, le))
-take_past (d ∷ drivers) (suc i) le = ap (λ ds. d ∷ ds) (take_past drivers i (omega (arith, le)))
+twice : (b : Bool) → ((b && b) || false) ≡ b
+twice true = refl
+twice false = refl
+
+-- how many there are
+pub choices_counted : (old mid : StepsValue) (drivers : List Driver) → AddsChoices old mid drivers → length mid.choices ≡ length old.choices + length drivers
+choices_counted old mid drivers adds =
+    ap length adds.choices ∙ length-append old.choices adds.added ∙ ap (λ n. length old.choices + n) adds.count
+
+-- the one of the drivers that acts
+module _ (old mid new : StepsValue) (drivers : List Driver) (from end : ℕ) (adds : AddsChoices old mid drivers) (at : from ≡ length old.choices) (upto : end ≡ length mid.choices) (later : Extends mid new) where
+  size : end - from ≡ length adds.added
+  size = let all = choices_counted old mid drivers adds in let count = adds.count in omega (arith, at, upto, all, count)
+
+  choices_are : (others : List Other) (slots : List ℕ) (row : IsRowOf new others slots) → values_on slots (part_of row.choices from (end - from)) ≡ acting slots drivers
+  choices_are others slots row =
+      let table = choices_twice mid.choices new.choices row.choices later.choices row.table in
+      ap (values_on slots) (part_is old.choices adds.added table.0 row.choices from (end - from) (table.1 ∙ ap (λ (l : List Choice). l ++ table.0) adds.choices) at size)
+      ∙ adds.are others slots (row_before mid new later others slots row)
+
+  only_value : (slot : ℕ) → IsStep new.base new.items slot (Only from (end - from)) → (others : List Other) (slots : List ℕ) → IsRowOf new others slots → slice_index slots slot ≡ settled (acting slots drivers)
+  only_value slot is others slots row =
+      step_made new others slots slot (Only from (end - from)) is row ∙ ap settled (choices_are others slots row)
+
+-- with a clash where two of them do
+pub only_made : (old mid more new : StepsValue) (before after : List Clash) (port : ℕ) (drivers : List Driver) (from end slot several : ℕ) → AddsChoices old mid drivers → from ≡ length old.choices → end ≡ length mid.choices → Defines mid more (Only from (end - from)) slot → Defines more new (Several from (end - from)) several → after ≡ before ++ (record { first = several; second = several; port = port }) ∷ [] → AddsPort old new before after port drivers slot
+only_made old mid more new before after port drivers from end slot several adds at upto only two pushed = record {
+  extends = extends_twice old mid new adds.extends later;
+  value = only_value old mid new drivers from end adds at upto later slot (still_defined mid more new (Only from (end - from)) slot only two.extends);
+  added = (record { first = several; second = several; port = port }) ∷ [];
+  after_is = pushed;
+  of_port = one_of_port (record { first = several; second = several; port = port }) port refl;
+  told = λ others slots row.
+      let is : is_on slots several ≡ has_two (acting slots drivers) =
+      ap (λ v. v == 1) (defined_made more new (Several from (end - from)) several two others slots row ∙ ap (λ vs. bit (has_two vs)) (choices_are old mid new drivers from end adds at upto later others slots row))
+      ∙ bit_is_on (has_two (acting slots drivers)) in
+      twice (is_on slots several) ∙ is;
+}
+  where
+    later : Extends mid new
+    later = extends_twice mid more new only.extends two.extends
+
+-- where no two of them do
+pub only_alone : (old mid new : StepsValue) (before after : List Clash) (port : ℕ) (drivers : List Driver) (from end slot : ℕ) → AddsChoices old mid drivers → from ≡ length old.choices → end ≡ length mid.choices → Defines mid new (Only from (end - from)) slot → after ≡ before → HasNoTwo new drivers → AddsPort old new before after port drivers slot
+only_alone old mid new before after port drivers from end slot adds at upto only same never = record {
+  extends = extends_twice old mid new adds.extends only.extends;
+  value = only_value old mid new drivers from end adds at upto only.extends slot only.is_step;
+  added = [];
+  after_is = same ∙ sym (append-nil before);
+  of_port = λ k x lt. absurd (omega (arith, lt));
+  told = λ others slots row. sym (never others slots row);
+}

@@ -1,6 +1,6 @@
 -- The cells that keep their state by themselves, stepped one after another.
 use Rattle.std.proofs.Common.{◌≡◌, ◌≢◌, ℕ, ◌+◌, ◌<◌, ◌≤◌, List, Some, length, length-set, get_or, set, refl, sym, ap, subst, ◌∙◌, arith, inl, inr, get_or-set_other, get_or-set_same}
-use Rattle.std.specs.Prelude.{slice_get, All}
+use Rattle.std.specs.Prelude.{slice_get}
 use Rattle.std.proofs.lemmas.Bool.{cases_lt}
 use Rattle.std.proofs.lemmas.Option.{slice_get_within, slice_get-get_or, same_Some, get_or_from_slice_get}
 use Rattle.net_steps.specs.Edge.{IsSteppedOther, AreSteppedOthers}

@@ -1,5 +1,5 @@
 -- Inputs that are gathered one after another.
-use Rattle.std.proofs.Common.{◌≡◌, ℕ, ◌+◌, ◌<◌, ◌≤◌, List, [], ◌∷◌, ◌++◌, length, get_or, set, take, refl, sym, ap, ◌∙◌, arith}
+use Rattle.std.proofs.Common.{◌≡◌, ℕ, zero, suc, ◌+◌, ◌<◌, ◌≤◌, List, [], ◌∷◌, ◌++◌, length, get_or, set, take, refl, sym, ap, ◌∙◌, arith}
 use Rattle.std.proofs.lemmas.List.{take_more, take_more_set, length-take-le, map-append}
 use Rattle.std.specs.Prelude.{slice_index}
 use Rattle.hw_bits.specs.Values.{values_of, widths_of}
@@ -43,3 +43,11 @@ gathered_more slots places widths number inputs b lt room space width value so_f
           ∙ ap (λ w. take number widths ++ w ∷ []) width
           ∙ sym next;
     }
+
+-- one of the inputs
+pub gathered_at : (slots places widths : List ℕ) (k : ℕ) → k < length widths → length widths ≤ length places →
+    slice_index (gathered slots places widths) k ≡ low_bits (get_or widths k 0) (slice_index slots (slice_index places k))
+gathered_at slots places [] k lt room = absurd (omega (arith, lt))
+gathered_at slots [] (w ∷ widths) k lt room = absurd (omega (arith, room))
+gathered_at slots (p ∷ places) (w ∷ widths) zero lt room = refl
+gathered_at slots (p ∷ places) (w ∷ widths) (suc k) lt room = gathered_at slots places widths k (omega (arith, lt)) (omega (arith, room))

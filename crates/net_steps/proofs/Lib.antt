@@ -1,9 +1,13 @@
+pub mod ChoiceLemmas
 pub mod OperationLemmas
+pub mod RunLemmas
 pub mod GatherLemmas
 pub mod StepLemmas
 pub mod EqualityLemmas
 pub mod TruthLemmas
 pub mod DriverLemmas
+pub mod ApartLemmas
 pub mod ClashLemmas
 pub mod EdgeLemmas
 pub mod GateLemmas
+pub mod WordLemmas

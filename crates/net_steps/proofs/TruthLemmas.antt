@@ -5,10 +5,11 @@ use Rattle.net_core.specs.Guard.{compare_values}
 use Rattle.net_core.specs.declared.net.Cmp.{Cmp}
 use Rattle.std.specs.Prelude.{slice_index}
 use Rattle.hw_prims.specs.Meaning.{bit}
-use Rattle.net_steps.specs.Operations.{is_on, value_of}
+use Rattle.net_steps.specs.Operations.{value_of}
 use Rattle.net_steps.specs.Steps.{Extends, IsRowOf, Defines, IsConstant}
 use Rattle.net_steps.specs.StepsValue.{StepsValue}
-use Rattle.net_steps.specs.Truths.{is_true, AddsTruth, IsTruthOf}
+use Rattle.net_steps.specs.Truths.{is_true, AddsTruth, IsTruthOf, IsBothOf}
+use Rattle.net_steps.specs.declared.choice.Choice.{Choice}
 use Rattle.net_steps.specs.declared.operation.Operation.{Operation}
 use Rattle.net_steps.specs.declared.other.Other.{Other}
 use Rattle.net_steps.specs.declared.truth.Truth.{Truth}
@@ -49,10 +50,10 @@ pub truth_there : (steps : StepsValue) (holds : List ℕ → Bool) (truth : Trut
 truth_there steps holds truth is = record { extends = extends_itself steps; made = λ others slots row. is slots }
 
 -- a truth by one step more, whose slot is a bit
-pub truth_of_step : (old new : StepsValue) (step : Operation) (slot : ℕ) (holds : List ℕ → Bool) → Defines old new step slot → ((others : List Other) (slots : List ℕ) → value_of others slots step ≡ bit (holds slots)) → AddsTruth old new holds (Slot slot false)
+pub truth_of_step : (old new : StepsValue) (step : Operation) (slot : ℕ) (holds : List ℕ → Bool) → Defines old new step slot → ((others : List Other) (choices : List Choice) (slots : List ℕ) → value_of others choices slots step ≡ bit (holds slots)) → AddsTruth old new holds (Slot slot false)
 truth_of_step old new step slot holds defines value = record {
   extends = defines.extends;
-  made = λ others slots row. ap (λ v. v == 1) (defined_made old new step slot defines others slots row ∙ value others slots) ∙ bit_is_on (holds slots);
+  made = λ others slots row. ap (λ v. v == 1) (defined_made old new step slot defines others slots row ∙ value others row.choices slots) ∙ bit_is_on (holds slots);
 }
 
 -- the same truth, said otherwise
@@ -159,3 +160,27 @@ compared_not old new op left right test truth negated is n adds = record {
   extends = adds.extends;
   made = λ others slots row. n slots ∙ ap not (adds.made others slots row) ∙ sym (is (slice_index slots left) (slice_index slots right));
 }
+
+-- ---- one of two that both ask for a third
+
+choice_of_common : (on part other : Bool) → ((on || other) && part) ≡ (if on then part else other && part)
+choice_of_common true part other = refl
+choice_of_common false part other = refl
+
+pub common_chosen : {E : Type 0} (r : Result Truth E) (old mid new : StepsValue) (on a b other any : Truth) → IsBothOf old b other a → AddsTruth old mid (λ slots. is_true slots on || is_true slots other) any → IfOk r (AddsTruth mid new (λ slots. is_true slots any && is_true slots a)) → IfOk r (AddsTruth old new (λ slots. if is_true slots on then is_true slots a else is_true slots b))
+common_chosen r old mid new on a b other any is adds =
+    ok_after r old mid new (λ slots. is_true slots any && is_true slots a) (λ slots. if is_true slots on then is_true slots a else is_true slots b) adds.extends
+    (λ others slots row.
+    ap (λ x. x && is_true slots a) (adds.made others slots row)
+    ∙ choice_of_common (is_true slots on) (is_true slots a) (is_true slots other)
+    ∙ ap (λ x. if is_true slots on then is_true slots a else x) (sym (is others slots (row_before old mid adds.extends others slots row))))
+
+-- of two, the one that is not the part
+pub both_turned : (steps : StepsValue) (truth one other : Truth) → IsBothOf steps truth one other → IsBothOf steps truth other one
+both_turned steps truth one other is others slots row = is others slots row ∙ by (is_true slots one) (is_true slots other)
+  where
+    by : (a b : Bool) → (a && b) ≡ (b && a)
+    by true true = refl
+    by true false = refl
+    by false true = refl
+    by false false = refl

@@ -1,11 +1,12 @@
 -- What the assignments to a port give it in a row, by the row's slots. This project's.
-use Rattle.std.specs.Prelude.{◌≡◌, ℕ, ◌&&◌, Bool, true, false, List, [], ◌∷◌, ◌++◌, All, slice_index, if◌then◌else◌}
+use Rattle.std.specs.Prelude.{◌≡◌, ℕ, ◌&&◌, Bool, List, [], ◌∷◌, ◌++◌, length, All, slice_index, if◌then◌else◌}
 use Rattle.std.specs.List.{list_any}
 use Rattle.net_core.specs.Circuit.{settled}
-use Rattle.net_steps.specs.Operations.{is_on, picked}
+use Rattle.net_steps.specs.Operations.{has_two, is_on, values_on}
 use Rattle.net_steps.specs.Steps.{Extends, IsRowOf}
 use Rattle.net_steps.specs.StepsValue.{StepsValue}
 use Rattle.net_steps.specs.Truths.{is_true}
+use Rattle.net_steps.specs.declared.choice.Choice.{Choice}
 use Rattle.net_steps.specs.declared.clashes.Clash.{Clash}
 use Rattle.net_steps.specs.declared.drivers.Driver.{Driver}
 use Rattle.net_steps.specs.declared.other.Other.{Other}
@@ -14,12 +15,6 @@ use Rattle.net_steps.specs.declared.other.Other.{Other}
 abbrev pub acting : List ℕ → List Driver → List ℕ
 acting slots [] = []
 acting slots (d ∷ drivers) = if is_true slots d.truth then slice_index slots d.source ∷ acting slots drivers else acting slots drivers
-
--- two values or more
-abbrev pub has_two : List ℕ → Bool
-has_two [] = false
-has_two (v ∷ []) = false
-has_two (v ∷ w ∷ values) = true
 
 -- both act
 abbrev pub is_clash : List ℕ → Clash → Bool
@@ -39,14 +34,10 @@ abbrev pub SameWhere : StepsValue → ℕ → Bool → ℕ → ℕ → Type 0
 SameWhere steps on is slot other =
     (others : List Other) (slots : List ℕ) → IsRowOf steps others slots → is_on slots on ≡ is → slice_index slots other ≡ slice_index slots slot
 
--- steps were added that make in the slot the value of the one of two assignments that acts, and one clash
-pub record PicksOne (old new : StepsValue) (before after : List Clash) (port : ℕ) (so_far other : Driver) (slot : ℕ) : Type 0 where
+-- choices were added, and with them steps that make their truths: what is on of the choices is what acts of the drivers
+pub record AddsChoices (old new : StepsValue) (drivers : List Driver) : Type 0 where
   pub extends : Extends old new
-  pub made : (others : List Other) (slots : List ℕ) → IsRowOf new others slots →
-      slice_index slots slot ≡
-      picked (is_true slots so_far.truth) (slice_index slots so_far.source) (is_true slots other.truth) (slice_index slots other.source)
-  pub clash : Clash
-  pub after_is : after ≡ before ++ clash ∷ []
-  pub of_port : clash.port ≡ port
-  pub told : (others : List Other) (slots : List ℕ) → IsRowOf new others slots →
-      is_clash slots clash ≡ (is_true slots so_far.truth && is_true slots other.truth)
+  pub added : List Choice
+  pub choices : new.choices ≡ old.choices ++ added
+  pub count : length added ≡ length drivers
+  pub are : (others : List Other) (slots : List ℕ) → IsRowOf new others slots → values_on slots added ≡ acting slots drivers

@@ -8,6 +8,7 @@ use Rattle.hw_prims.specs.declared.prim.Primitive.{Primitive}
 use Rattle.net_steps.specs.Operations.{value_of}
 use Rattle.net_steps.specs.Steps.{Extends, IsRowOf}
 use Rattle.net_steps.specs.StepsValue.{StepsValue}
+use Rattle.net_steps.specs.declared.choice.Choice.{Choice}
 use Rattle.net_steps.specs.declared.operation.Operation.{Operation}
 use Rattle.net_steps.specs.declared.other.Other.{Other}
 
@@ -24,8 +25,8 @@ values_at slots places = map (slice_index slots) places
 -- a step makes the primitive's output of inputs that fit their widths
 abbrev pub IsGate : Primitive → List ℕ → Operation → Type 0
 IsGate prim inputs step =
-    (others : List Other) (slots : List ℕ) → AreValuesOf (inputs_of prim) (values_at slots inputs) →
-    value_of others slots step ≡ slice_index (output_values prim Stateless (values_at slots inputs)) 0
+    (others : List Other) (choices : List Choice) (slots : List ℕ) → AreValuesOf (inputs_of prim) (values_at slots inputs) →
+    value_of others choices slots step ≡ slice_index (output_values prim Stateless (values_at slots inputs)) 0
 
 -- steps were added that make the primitive's output of inputs that fit their widths
 pub record AddsGate (old new : StepsValue) (prim : Primitive) (inputs : List ℕ) (slot : ℕ) : Type 0 where

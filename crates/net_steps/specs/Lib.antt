@@ -1,10 +1,14 @@
+pub mod inside
 pub mod Gathered
 pub mod Others
 pub mod Operations
 pub mod StepsValue
 pub mod Steps
+pub mod Kinds
+pub mod Runs
 pub mod Truths
 pub mod Drivers
+pub mod Apart
 pub mod Conflicts
 pub mod Gates
 pub mod Edge

@@ -1,8 +1,8 @@
 -- Cells that keep their state by themselves, and what is read of them. This project's.
-use Rattle.std.specs.Prelude.{◌≡◌, ℕ, ◌<◌, ◌≤◌, List, length, All, slice_index, Option, Some, None}
+use Rattle.std.specs.Prelude.{◌≡◌, ℕ, ◌≤◌, List, length, All, slice_index, Option, Some, None}
 use Rattle.hw_prims.specs.Cell.{CellValue}
 use Rattle.hw_prims.specs.Meaning.{output_values}
-use Rattle.hw_prims.specs.Table.{Pin, inputs_of, outputs_of, pin_widths}
+use Rattle.hw_prims.specs.Table.{inputs_of, outputs_of, pin_widths}
 use Rattle.net_steps.specs.Gathered.{gathered}
 use Rattle.net_steps.specs.declared.other.Other.{Other}
 

@@ -1,23 +1,32 @@
 -- Steps that were added to others, and what is then in a slot of every row that they make. This project's.
-use Rattle.std.specs.Prelude.{◌≡◌, ℕ, ◌<◌, List, slice_index}
+use Rattle.std.specs.Prelude.{◌≡◌, ℕ, List, [], ◌∷◌, ◌++◌, slice_index}
 use Rattle.hw_prims.specs.Meaning.{bit}
-use Rattle.net_steps.specs.Operations.{AreMade, IsStep, KeepsSteps, is_on}
+use Rattle.net_steps.specs.Operations.{AreMade, IsStep, KeepsChoices, KeepsSteps, is_on}
 use Rattle.net_steps.specs.StepsValue.{StepsValue}
+use Rattle.net_steps.specs.declared.choice.Choice.{Choice}
 use Rattle.net_steps.specs.declared.operation.Operation.{Operation}
 use Rattle.net_steps.specs.declared.other.Other.{Other}
 
--- the slots are those of a row that these steps make
-abbrev pub IsRowOf : StepsValue → List Other → List ℕ → Type 0
-IsRowOf steps others slots = AreMade others steps.base steps.items slots
+-- the slots are those of a row that these steps make, from a table in which their choices come first
+pub record IsRowOf (steps : StepsValue) (others : List Other) (slots : List ℕ) : Type 0 where
+  pub choices : List Choice
+  pub table : KeepsChoices steps.choices choices
+  pub made : AreMade others choices steps.base steps.items slots
 
--- the old steps stand, with others after them
+-- the old steps and choices stand, with others after them
 pub record Extends (old new : StepsValue) : Type 0 where
   pub base : new.base ≡ old.base
   pub keeps : KeepsSteps old.items new.items
+  pub choices : KeepsChoices old.choices new.choices
+
+-- one choice was added, last
+abbrev pub AddsChoice : StepsValue → StepsValue → Choice → Type 0
+AddsChoice old new choice = new ≡ record old { choices = old.choices ++ choice ∷ [] }
 
 -- one step was added, unless it was there
 pub record Defines (old new : StepsValue) (step : Operation) (slot : ℕ) : Type 0 where
   pub extends : Extends old new
+  pub choices : new.choices ≡ old.choices
   pub is_step : IsStep new.base new.items slot step
 
 -- steps were added that make this value in the slot

@@ -1,5 +1,5 @@
 -- What is true in a row, by its slots. This project's.
-use Rattle.std.specs.Prelude.{◌≡◌, ℕ, Bool, not, List, if◌then◌else◌}
+use Rattle.std.specs.Prelude.{◌≡◌, ℕ, Bool, not, ◌&&◌, List, if◌then◌else◌}
 use Rattle.net_steps.specs.Operations.{is_on}
 use Rattle.net_steps.specs.Steps.{Extends, IsRowOf}
 use Rattle.net_steps.specs.StepsValue.{StepsValue}
@@ -19,3 +19,8 @@ pub record AddsTruth (old new : StepsValue) (holds : List ℕ → Bool) (truth :
 -- it is true in each row in which the slot is 1, and in no other
 abbrev pub IsTruthOf : StepsValue → ℕ → Truth → Type 0
 IsTruthOf steps slot truth = (others : List Other) (slots : List ℕ) → IsRowOf steps others slots → is_true slots truth ≡ is_on slots slot
+
+-- it is true in each row in which two others are, and in no other
+abbrev pub IsBothOf : StepsValue → Truth → Truth → Truth → Type 0
+IsBothOf steps truth one other =
+    (others : List Other) (slots : List ℕ) → IsRowOf steps others slots → is_true slots truth ≡ (is_true slots one && is_true slots other)

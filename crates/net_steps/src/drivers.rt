@@ -1,15 +1,18 @@
 //! What the assignments to a port give it.
 ghost use Rattle.std.specs.Prelude.{◌≡◌, ◌==◌, [], ◌∷◌, ℕ, List, not, true, false, if◌then◌else◌, slice_index, IfOk};
-ghost use Rattle.net_steps.specs.Drivers.{AddsPort, PicksOne, SameWhere};
+ghost use Rattle.net_steps.specs.Drivers.{AddsChoices, AddsPort, SameWhere};
 ghost use Rattle.net_steps.specs.Operations.{is_on};
 ghost use Rattle.net_steps.specs.Steps.{AddsSlot};
 ghost use Rattle.net_steps.specs.Truths.{is_true};
 
+use crate::apart::{never_both, never_two};
+use crate::choice::Choice;
 use crate::clashes::Clash;
 use crate::operation::Operation;
 use crate::steps::Steps;
-use crate::truth::{Truth, either, plain};
+use crate::truth::{Truth, plain};
 use hw_bits::Memory;
+use std::alloc::Global;
 
 /// An assignment to a port: when it acts, and the slot of its source.
 #[derive(Clone, Copy, Debug)]
@@ -20,6 +23,7 @@ pub struct Driver {
 
 /// The slot of a port with these drivers. Where two can act at once it adds that they clash.
 pub fn drive(
+    alloc: Global,
     steps: &mut Steps,
     clashes: &mut Vec<Clash>,
     port: usize,
@@ -32,7 +36,7 @@ pub fn drive(
         [] => steps.define(Operation::Constant(0)),
         [only] => gate(steps, *only),
         [first, second] => drive_by_two(steps, clashes, port, *first, *second),
-        [first, second, others @ ..] => pick_all(steps, clashes, port, *first, *second, others),
+        _ => choose_only(alloc, steps, clashes, port, drivers),
     }
 }
 
@@ -136,60 +140,80 @@ fn drive_by_two(
     if are_opposite(first.truth, second.truth) {
         select(steps, first.truth, first.source, second.source)
     } else {
-        pick_all(steps, clashes, port, first, second, &[])
+        pick(steps, clashes, port, first, second)
     }
 }
 
-/// The slot of a port with two drivers or more, taken one after another. It adds which of them clash.
-fn pick_all(
-    steps: &mut Steps,
-    clashes: &mut Vec<Clash>,
-    port: usize,
-    first: Driver,
-    second: Driver,
-    others: &[Driver],
-) -> Result<u32, Memory>
-    ensures { IfOk result
-        (AddsPort steps.old steps.new clashes.old.items clashes.new.items port (first ∷ second ∷ others.now)) }
-{
-    let mut acts = first.truth;
-    let mut last = second.truth;
-    let mut value = pick(steps, clashes, port, first, second)?;
-    for other in others {
-        acts = either(steps, acts, last)?;
-        let so_far = Driver {
-            truth: acts,
-            source: value,
-        };
-        value = pick(steps, clashes, port, so_far, *other)?;
-        last = other.truth;
-    }
-    Ok(value)
-}
-
-/// The slot with the value of the one of two drivers that acts, and 0 where both do. It adds that they clash.
+/// The slot with the value of the one of two drivers that acts, and 0 where both do. It adds that they clash, if both can act.
 fn pick(
     steps: &mut Steps,
     clashes: &mut Vec<Clash>,
     port: usize,
-    so_far: Driver,
+    driver: Driver,
     other: Driver,
 ) -> Result<u32, Memory>
     ensures { IfOk result
-        (PicksOne steps.old steps.new clashes.old.items clashes.new.items port so_far other) }
+        (AddsPort steps.old steps.new clashes.old.items clashes.new.items port (driver ∷ other ∷ [])) }
 {
-    let first = plain(steps, so_far.truth)?;
+    let first = plain(steps, driver.truth)?;
     let second = plain(steps, other.truth)?;
     let slot = steps.define(Operation::Pick {
         first,
-        value: so_far.source,
+        value: driver.source,
         second,
         other: other.source,
     })?;
+    if never_both(steps, driver, other) {
+        return Ok(slot);
+    }
     clashes.push(Clash {
         first,
         second,
         port,
     })?;
     Ok(slot)
+}
+
+/// The slot with the value of the one of several drivers that acts, and 0 where two or more do. It adds that they clash, if two
+/// can act.
+fn choose_only(
+    alloc: Global,
+    steps: &mut Steps,
+    clashes: &mut Vec<Clash>,
+    port: usize,
+    drivers: &[Driver],
+) -> Result<u32, Memory>
+    ensures { IfOk result
+        (AddsPort steps.old steps.new clashes.old.items clashes.new.items port drivers.now) }
+{
+    let from = steps.choice_count()?;
+    add_choices(steps, drivers)?;
+    let end = steps.choice_count()?;
+    let count = end - from;
+    let slot = steps.define(Operation::Only { from, count })?;
+    let apart = never_two(alloc, steps, drivers)?;
+    if apart {
+        return Ok(slot);
+    }
+    let several = steps.define(Operation::Several { from, count })?;
+    clashes.push(Clash {
+        first: several,
+        second: several,
+        port,
+    })?;
+    Ok(slot)
+}
+
+/// Adds the drivers as choices, in their order.
+fn add_choices(steps: &mut Steps, drivers: &[Driver]) -> Result<(), Memory>
+    ensures { IfOk result (λ _. AddsChoices steps.old steps.new drivers.now) }
+{
+    for driver in drivers {
+        let on = plain(steps, driver.truth)?;
+        steps.add_choice(Choice {
+            on,
+            value: driver.source,
+        })?;
+    }
+    Ok(())
 }

@@ -11,7 +11,7 @@ use crate::steps::{ProgramEnd, Steps};
 use hw_prims::Prim;
 
 /// The number with the low bits of this width 1, and no other.
-fn ones(width: u8) -> Result<u64, ProgramEnd>
+pub fn ones(width: u8) -> Result<u64, ProgramEnd>
     ensures { IfOk result (IsMask width) }
 {
     if width == 0 || width > 64 {

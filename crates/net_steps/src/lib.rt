@@ -2,37 +2,52 @@
 //! primitives, and how they run.
 //!
 //! In: comparisons, truths, assignments and primitives, one after another, each over slots that are there (`compare`, `choose`,
-//! `drive`, `gate_of_two`, ..). Out: the list of steps, each once (`Steps`), and the pairs of truths under which a port has a
-//! Conflict (`Clash`). Of
+//! `drive`, `gate_of_two`, ..). Out: the list of steps, each once, and a table of choices beside it (`Steps`), and the pairs of
+//! slots under which a port has a Conflict (`Clash`). Of
 //!
 //!     w = g.out ? a.out;  w = !g.out ? b.out;         with g.out, a.out, b.out in slots 3, 4, 5
 //!
-//! comes one step, `Choose { on: 3, value: 4, other: 5 }`: the two never act at once, so no Conflict has to be looked for.
+//! comes one step, `Choose { on: 3, value: 4, other: 5 }`: the two never act at once, so no Conflict has to be looked for. A port
+//! with three assignments or more has a part of the table, a `Choice { on, value }` for each: `Only` makes the value of the one
+//! that is on, and `Several` tells the Conflict, unless the guards ask one slot for different numbers.
 //!
-//! A row is one walk over the steps (`run`): each makes its slot of slots below its own, without a branch on what is there. Then
-//! `find_conflict` looks at the pairs, and the edge moves what is kept (`step_kept`) and the cells that keep their state by
-//! themselves (`step_others`).
+//! A row is one walk over the steps: each makes its slot of slots below its own, without a branch on what is there. The steps are
+//! first cut into runs (`cut`): many of one kind, one after another, have a loop of their own, and those between go by their kind,
+//! step by step (`run_all`). Then `find_conflict` looks at the pairs, and the edge moves what is kept (`step_kept`) and the cells
+//! that keep their state by themselves (`step_others`). The words of a memory are numbers of 64 bits too (`HeldState`).
 //!
 //! What the layer above uses: each function that adds steps says what is then in its slot in *every* row that the steps make
-//! (`AddsSlot`, `AddsTruth`, `AddsPort`, `AddsGate`), whatever else is added later; and `run` makes such a row (`AreMade`).
+//! (`AddsSlot`, `AddsTruth`, `AddsPort`, `AddsGate`), whatever else is added later; and `run_all` makes such a row (`AreMade`).
 #![tactic(auto)]
 
+mod apart;
+mod choice;
 mod clashes;
 mod drivers;
 mod edge;
 mod gates;
+mod held;
+mod inputs;
+mod kinds;
 mod operation;
 mod other;
 mod row;
+mod runs;
 mod steps;
 mod truth;
+mod words;
 
+pub use choice::Choice;
 pub use clashes::{Clash, find_conflict};
 pub use drivers::{Driver, chosen_slot, drive};
 pub use edge::{step_kept, step_others};
 pub use gates::{constant, gate_of_none, gate_of_one, gate_of_three, gate_of_two, product};
+pub use held::HeldState;
+pub use inputs::{INPUTS, Places};
+pub use kinds::{AddStep, BothStep, ButNotStep, ChooseStep, EqualStep, PickStep};
 pub use operation::Operation;
-pub use other::{INPUTS, Other, Places};
-pub use row::{are_below, run};
+pub use other::Other;
+pub use row::{are_below, run_all};
+pub use runs::{Run, cut, step_count};
 pub use steps::{ProgramEnd, Steps};
 pub use truth::{Truth, choose, compare};

@@ -2,6 +2,7 @@
 ghost use Rattle.std.specs.Prelude.{◌≡◌, ◌<◌, length, if◌then◌else◌};
 ghost use Rattle.net_steps.specs.Operations.{picked, shifted_up, shifted_down};
 
+use crate::choice::{Choice, are_below_in, only, part, several};
 use crate::other::Other;
 
 /// What a step makes of the values of slots. Slots are by their numbers; a slot is true where it is 1.
@@ -62,6 +63,16 @@ pub enum Operation {
         value: u32,
         second: u32,
         other: u32,
+    },
+    /// The value of the one choice that is on, of so many from a number on; 0 where none is, or several are.
+    Only {
+        from: u32,
+        count: u32,
+    },
+    /// 1 where two or more of them are on, else 0.
+    Several {
+        from: u32,
+        count: u32,
     },
     /// The sum, by the mask.
     Add {
@@ -124,10 +135,10 @@ impl Operation {
 
     /// What it makes of the slots.
     #[inline(always)]
-    pub fn result(&self, slots: &[u64], others: &[Other]) -> u64
-        requires below { IsBelow others.now (length slots.now) self.now }
+    pub fn result(&self, slots: &[u64], others: &[Other], choices: &[Choice]) -> u64
+        requires below { IsBelow others.now choices.now (length slots.now) self.now }
         requires others { AreNarrow others.now }
-        ensures { result ≡ value_of others.now slots.now self.now }
+        ensures { result ≡ value_of others.now choices.now slots.now self.now }
     {
         match self {
             Operation::Constant(value) => *value,
@@ -167,6 +178,8 @@ impl Operation {
                     slots[*other as usize],
                 )
             }
+            Operation::Only { from, count } => only(part(choices, *from, *count), slots),
+            Operation::Several { from, count } => several(part(choices, *from, *count), slots),
             Operation::Add { a, b, mask } => {
                 slots[*a as usize].wrapping_add(slots[*b as usize]) & *mask
             }
@@ -206,9 +219,9 @@ impl Operation {
     ghost use Rattle.net_steps.specs.Others.{AreCounted};
 
     /// Whether each operand lies below this slot.
-    pub fn is_below(&self, slot: usize, others: &[Other]) -> bool
+    pub fn is_below(&self, slot: usize, others: &[Other], choices: &[Choice]) -> bool
         requires { AreCounted others.now }
-        ensures { result ≡ true → IsBelow others.now slot self.now }
+        ensures { result ≡ true → IsBelow others.now choices.now slot self.now }
     {
         match self {
             Operation::Constant(_) => true,
@@ -232,6 +245,8 @@ impl Operation {
                 && (*value as usize) < slot
                 && (*second as usize) < slot
                 && (*other as usize) < slot,
+            Operation::Only { from, count } => are_below_in(choices, slot, *from, *count),
+            Operation::Several { from, count } => are_below_in(choices, slot, *from, *count),
             Operation::Add { a, b, .. } => (*a as usize) < slot && (*b as usize) < slot,
             Operation::Subtract { a, b, .. } => (*a as usize) < slot && (*b as usize) < slot,
             Operation::Multiply { a, b, .. } => (*a as usize) < slot && (*b as usize) < slot,

@@ -1,6 +1,7 @@
 //! The steps of a row, each once.
 ghost use Rattle.std.specs.Prelude.{◌≡◌, ◌<◌, [], IfOk, IfSome};
 
+use crate::choice::Choice;
 use crate::operation::Operation;
 use hw_bits::Memory;
 use indexmap::IndexSet;
@@ -33,11 +34,12 @@ impl<T: Drop> From<AllocFailed<T>> for ProgramEnd {
     }
 }
 
-/// The steps so far, each once. The first has the slot `base`.
+/// The steps so far, each once, and the choices that they are made of. The first has the slot `base`.
 #[derive(Drop)]
 pub struct Steps {
     base: usize,
     set: IndexSet<Operation>,
+    choices: Vec<Choice>,
 }
 
 impl Model for Steps {
@@ -45,21 +47,22 @@ impl Model for Steps {
 
     ghost Value = { StepsValue };
 
-    ghost view = { λ s. record { base = s.base; items = s.set.keys } };
+    ghost view = { λ s. record { base = s.base; items = s.set.keys; choices = s.choices.items } };
 }
 
 impl Steps {
     ghost use Rattle.net_steps.specs.Operations.{IsStep};
-    ghost use Rattle.std.specs.Prelude.{◌≡◌, true, [], IfOk, IfSome};
-    ghost use Rattle.net_steps.specs.Steps.{Defines, IsConstant, IsBit};
+    ghost use Rattle.std.specs.Prelude.{◌≡◌, true, [], length, IfOk, IfSome};
+    ghost use Rattle.net_steps.specs.Steps.{AddsChoice, Defines, IsConstant, IsBit};
 
     /// No steps.
     pub fn new(alloc: Global, base: usize) -> Steps
-        ensures { result ≡ record { base = base; items = [] } }
+        ensures { result ≡ record { base = base; items = []; choices = [] } }
     {
         Steps {
             base,
             set: IndexSet::new(alloc),
+            choices: Vec::new(alloc),
         }
     }
 
@@ -73,6 +76,24 @@ impl Steps {
         }
         let (index, _) = self.set.insert_full(operation)?;
         Ok((self.base + index) as u32)
+    }
+
+    /// Adds a choice, last.
+    pub fn add_choice(&mut self, choice: Choice) -> Result<(), Memory>
+        ensures { IfOk result (λ _. AddsChoice self.old self.new choice) }
+    {
+        self.choices.push(choice)?;
+        Ok(())
+    }
+
+    /// The number of choices.
+    pub fn choice_count(&self) -> Result<u32, Memory>
+        ensures { IfOk result (λ count. count ≡ length self.now.choices) }
+    {
+        if self.choices.len() > u32::MAX as usize {
+            return Err(Memory);
+        }
+        Ok(self.choices.len() as u32)
     }
 
     /// What is made in this slot, if it is a step's.
@@ -115,5 +136,12 @@ impl Steps {
         ensures { result.now ≡ self.now.items }
     {
         self.set.as_slice()
+    }
+
+    /// The choices, in the order in which they were added.
+    pub fn choices(&self) -> &[Choice]
+        ensures { result.now ≡ self.now.choices }
+    {
+        self.choices.as_slice()
     }
 }

@@ -1,9 +1,9 @@
 //! The truth of guards, as slots.
-ghost use Rattle.std.specs.Prelude.{◌≡◌, ◌==◌, ◌&&◌, ◌||◌, nat_lt, not, false, if◌then◌else◌, slice_index, IfOk};
+ghost use Rattle.std.specs.Prelude.{◌≡◌, ◌==◌, ◌&&◌, ◌||◌, nat_lt, not, false, if◌then◌else◌, slice_index, IfOk, IfSome};
 ghost use Rattle.net_core.specs.Guard.{compare_values};
 ghost use Rattle.net_steps.specs.Operations.{is_on};
 ghost use Rattle.net_steps.specs.Steps.{AddsSlot};
-ghost use Rattle.net_steps.specs.Truths.{is_true, AddsTruth, IsTruthOf};
+ghost use Rattle.net_steps.specs.Truths.{is_true, AddsTruth, IsTruthOf, IsBothOf};
 
 use crate::operation::Operation;
 use crate::steps::Steps;
@@ -120,14 +120,48 @@ fn choose_slot(steps: &mut Steps, on: Truth, yes: Truth, no: Truth) -> Result<Tr
     ensures { IfOk result
         (AddsTruth steps.old steps.new (λ slots. if is_true slots on then is_true slots yes else is_true slots no)) }
 {
+    if let Some(other) = beside(steps, no, yes) {
+        let any = either(steps, on, other)?;
+        return both(steps, any, yes);
+    }
     let first = both(steps, on, yes)?;
     let second = both(steps, on.not(), no)?;
     either(steps, first, second)
 }
 
+/// What has to be true beside `part` for `whole` to be, if a step tells it.
+fn beside(steps: &Steps, whole: Truth, part: Truth) -> Option<Truth>
+    ensures { IfSome result (λ other. IsBothOf steps.now whole other part) }
+{
+    let (one, other) = parts(steps, whole)?;
+    if other == part {
+        return Some(one);
+    }
+    if one == part { Some(other) } else { None }
+}
+
+/// Two truths of which both have to be true for this one to be, if a step tells it.
+pub fn parts(steps: &Steps, truth: Truth) -> Option<(Truth, Truth)>
+    ensures { IfSome result (λ two. IsBothOf steps.now truth two.0 two.1) }
+{
+    let Truth::Slot {
+        slot,
+        negated: false,
+    } = truth
+    else {
+        return None;
+    };
+    match steps.operation(slot) {
+        Some(Operation::Both { a, b }) => Some((at(a), at(b))),
+        Some(Operation::ButNot { a, b }) => Some((at(a), at(b).not())),
+        _ => None,
+    }
+}
+
 /// A slot that is 1 where this is true, else not.
 pub fn plain(steps: &mut Steps, truth: Truth) -> Result<u32, Memory>
-    ensures { IfOk result (λ slot. AddsTruth steps.old steps.new (λ slots. is_true slots truth) (Truth.Slot slot false)) }
+    ensures truth { IfOk result (λ slot. AddsTruth steps.old steps.new (λ slots. is_true slots truth) (Truth.Slot slot false)) }
+    ensures choices { IfOk result (λ _. steps.new.choices ≡ steps.old.choices) }
 {
     match truth {
         Truth::Fixed(on) => steps.define(Operation::Constant(on as u64)),

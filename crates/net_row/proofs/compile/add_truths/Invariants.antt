@@ -1,4 +1,4 @@
-use Rattle.net_row.specs.Compiling.{AddsTruths}
+use Rattle.net_row.specs.inside.Compiling.{AddsTruths}
 use Rattle.net_row.proofs.compile.add_truths.Given as goal
 
 abbrev pub invariant-loop-place : goal.invariant-loop-place

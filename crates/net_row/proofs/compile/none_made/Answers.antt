@@ -3,7 +3,7 @@ use Rattle.std.proofs.lemmas.List.{length-map}
 use Rattle.net_core.specs.Netlist.{pin_of}
 use Rattle.net_steps.specs.StepsValue.{StepsValue}
 use Rattle.net_row.proofs.ProgramLemmas.{made_none}
-use Rattle.net_row.specs.Compiling.{net_of}
+use Rattle.net_row.specs.inside.Compiling.{net_of}
 use Rattle.net_row.specs.Kinds.{kept_in}
 use Rattle.net_row.proofs.compile.none_made.Goals as goal
 

@@ -6,8 +6,8 @@ use Rattle.net_sim.specs.declared.plan.Giver.{Giver}
 use Rattle.net_sim.specs.declared.plan.Giver.TheVariants.{Input, Output, Driven}
 use Rattle.net_steps.specs.Drivers.{AddsPort}
 use Rattle.net_row.proofs.PortSlotLemmas.{cell_within, driven_added, if_input_added, if_output_added, kind_within}
-use Rattle.net_row.specs.Compiling.{net_of}
-use Rattle.net_row.specs.Ports.{IsNumbered}
+use Rattle.net_row.specs.inside.Compiling.{net_of}
+use Rattle.net_row.specs.inside.Ports.{IsNumbered}
 use Rattle.net_row.specs.declared.compile.Numbered.{Numbered}
 use Rattle.net_row.proofs.compile.port_slot.Goals as goal
 

@@ -1,4 +1,4 @@
-use Rattle.std.proofs.Common.{ℕ, List, ap, if◌then◌else◌, ◌∙◌}
+use Rattle.std.proofs.Common.{ap, if◌then◌else◌}
 use Rattle.std.specs.Prelude.{slice_index}
 use Rattle.net_steps.specs.Truths.{is_true}
 use Rattle.net_steps.specs.declared.operation.Operation.TheVariants.{Constant}

@@ -1,9 +1,11 @@
-use Rattle.std.proofs.Common.{◌≡◌, ℕ, ◌+◌, ◌<◌, Some}
-use Rattle.std.specs.Prelude.{slice_get}
-use Rattle.net_steps.specs.Operations.{IsBelow}
-use Rattle.net_steps.specs.declared.operation.Operation.{Operation}
+use Rattle.std.proofs.Common.{◌≡◌, ◌+◌, length, take}
+use Rattle.net_steps.specs.Operations.{AreBelow}
+use Rattle.net_steps.specs.Runs.{all_operations}
 use Rattle.net_steps.proofs.row.are_below.Given as goal
 
--- the first steps are below
-abbrev pub invariant-loop-number : goal.invariant-loop-number
-invariant-loop-number l = (k : ℕ) (step : Operation) → k < l.number → slice_get l.steps k ≡ Some step → IsBelow l.others (l.base + k) step
+-- the steps of the first runs are below
+abbrev pub invariant-loop-run : goal.invariant-loop-run
+invariant-loop-run l = record {
+  first : l.first ≡ l.base + length (all_operations (take l.run-index l.runs));
+  below : AreBelow l.others l.choices l.base (all_operations (take l.run-index l.runs));
+}

@@ -1,7 +1,5 @@
-use Rattle.std.proofs.Common.{◌≡◌, ◌==◌, ℕ, List, Bool, nat_lt, not, ap, sym, ◌∙◌}
-use Rattle.std.specs.Prelude.{slice_index}
+use Rattle.std.proofs.Common.{◌==◌, nat_lt, ap, sym, ◌∙◌}
 use Rattle.net_core.specs.Guard.{compare_values}
-use Rattle.net_core.specs.declared.net.Cmp.{Cmp}
 use Rattle.net_steps.proofs.TruthLemmas.{compared, compared_not, not_less}
 use Rattle.net_steps.proofs.truth.compare.Goals as goal
 

@@ -16,7 +16,7 @@ use Rattle.net_steps.specs.declared.clashes.Clash.{Clash}
 use Rattle.net_steps.specs.declared.other.Other.{Other as OtherCell}
 use Rattle.net_row.proofs.FlatSimLemmas.{inputs_count, inputs_narrow, others_narrow, row_holds, row_after, row_sim}
 use Rattle.net_row.specs.Flats.{flat_value, states_from, values_from}
-use Rattle.net_row.specs.Program.{steps_of}
+use Rattle.net_row.specs.Program.{steps_of, steps_in}
 use Rattle.net_row.proofs.flat.Flat.row.Goals as goal
 
 pub fill-requires : goal.fill-requires
@@ -30,7 +30,7 @@ fill-requires c =
     record {
       room = omega (arith, base, is.are.slots_all, ap length c.as_mut_slice.ensures.value);
       inputs = inputs_narrow flat.net.now flat.table.now flat.program flat.shown.items is.built c.args.inputs.now widths;
-      below = subst (λ (os : List OtherCell). AreBelow os (length c.as_slice-2.result.now + length c.args.inputs.now) flat.program.steps.items) (sym c.as_slice.ensures.value) (subst (λ b. AreBelow flat.others.items b flat.program.steps.items) (sym base) is.are.sound.below);
+      below = subst (λ (os : List OtherCell). AreBelow os flat.program.choices.items (length c.as_slice-2.result.now + length c.args.inputs.now) (steps_in flat.program)) (sym c.as_slice.ensures.value) (subst (λ b. AreBelow flat.others.items flat.program.choices.items b (steps_in flat.program)) (sym base) is.are.sound.below);
       others = subst AreNarrow (sym c.as_slice.ensures.value) (others_narrow flat.net.now flat.table.now flat.program flat.shown.items is.built flat.others.items flat.kept.items flat.slots.items is.are);
     }
 

@@ -1,0 +1,22 @@
+use Rattle.std.proofs.Common.{get_or}
+use Rattle.net_steps.specs.Operations.{is_on}
+use Rattle.net_steps.specs.declared.choice.Choice.{Choice}
+use Rattle.net_steps.proofs.ChoiceLemmas.{within_more, count_more, value_more, only_is}
+use Rattle.net_steps.proofs.choice.only.Goals as goal
+
+pub loop-choice-preserved : goal.loop-choice-preserved
+loop-choice-preserved c =
+    let l = c.loop-choice in
+    let slots = c.args.slots.now in
+    let choices = c.args.choices.now in
+    let d : Choice = record { on = 0; value = 0 } in
+    record {
+      within = within_more (is_on slots (get_or choices l.choice-index d).on) l.count l.choice-index l.invariant.within;
+      counted = count_more slots choices l.choice-index l.count d c.loop-choice-test.true l.invariant.counted;
+      few = value_more slots choices l.choice-index l.count l.values c.if_on-values.result d c.loop-choice-test.true c.if_on-values.ensures l.invariant.counted l.invariant.few;
+    }
+
+pub returns : goal.returns
+returns c =
+    let l = c.loop-choice in
+    only_is c.args.slots.now c.args.choices.now l.choice-index l.count l.values c.if_on.result c.loop-choice-test.false l.invariant.counted l.invariant.few c.if_on.ensures

@@ -1,0 +1,10 @@
+use Rattle.std.proofs.Common.{◌≡◌, ◌≤◌, length, take}
+use Rattle.net_steps.specs.Operations.{values_on}
+use Rattle.net_steps.proofs.choice.several.Given as goal
+
+-- how many are on of the first choices
+abbrev pub invariant-loop-choice : goal.invariant-loop-choice
+invariant-loop-choice l = record {
+  within : l.count ≤ l.choice-index;
+  counted : l.count ≡ length (values_on l.slots (take l.choice-index l.choices));
+}
