@@ -6,7 +6,7 @@ use Rattle.cal_ast.specs.Naming.{Unreserved}
 use Rattle.cal_ast.specs.Rules.{KeepsComponent, all_rules}
 use Rattle.cal_check.specs.Around.{Around, KeepsAt, comp_at, design_at, earlier_at}
 use Rattle.cal_check.specs.Told.{TellsItem}
-use Rattle.cal_check.specs.Walks.{KeepItems, WalksOver}
+use Rattle.cal_check.specs.inside.Walks.{KeepItems, WalksOver}
 use Rattle.cal_check.specs.declared.rule.CompEnd.{CompEnd}
 use Rattle.cal_check.specs.declared.rule.CompEnd.TheVariants.{Broken, Memory}
 use Rattle.cal_check.specs.declared.walk.Walk.{Walk}

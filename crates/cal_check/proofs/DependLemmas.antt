@@ -10,17 +10,17 @@ use Rattle.cal_ast.proofs.ItemLemmas.{new_ports}
 use Rattle.cal_ast.proofs.ListLemmas.{Contains-at, place_of}
 use Rattle.cal_ast.proofs.LookupLemmas.{cell_named-itself}
 use Rattle.cal_ast.specs.Naming.{Unreserved}
-use Rattle.cal_ast.specs.Ports.{cell_named, inputs_in, outputs_in, part_in, part_of, primitive_in, primitive_of}
+use Rattle.cal_ast.specs.Ports.{cell_named, inputs_in, outputs_in, part_in, part_of, primitive_in, primitive_of, Input, Output, Side, SidedPin, on_side}
 use Rattle.cal_ast.specs.Rules.{KeepsRules}
 use Rattle.cal_ast.specs.Tree.{own, port_of, CellDef, Component, Design}
 use Rattle.cal_ast.specs.Wires.{Reaches}
 use Rattle.cal_check.specs.Firsts.{ShowsFirsts}
 use Rattle.cal_check.specs.Mades.{IsMadeOf}
-use Rattle.cal_check.specs.Nodes.{Node, APort}
-use Rattle.cal_check.specs.Readings.{AnyAt, ReadsInCell, ReadsInPart, ReadsInPrimitive, ReadsNumbers}
-use Rattle.cal_check.specs.Signatures.{ShowsSignature}
-use Rattle.cal_check.specs.WireGraphs.{Grows, LeadsTo}
-use Rattle.cal_check.specs.Wiring.{DependsOn, ShowsParts}
+use Rattle.cal_check.specs.inside.Nodes.{Node, APort}
+use Rattle.cal_check.specs.inside.Readings.{AnyAt, ReadsInCell, ReadsInPart, ReadsInPrimitive, ReadsNumbers}
+use Rattle.cal_check.specs.Signatures.{ShowsSignature, found}
+use Rattle.cal_check.specs.inside.WireGraphs.{Grows, LeadsTo}
+use Rattle.cal_check.specs.inside.Wiring.{DependsOn, ShowsParts}
 use Rattle.cal_check.specs.declared.made.Made.TheVariants as made
 use Rattle.cal_check.specs.declared.signature.Signature.{Signature}
 use Rattle.cal_check.specs.declared.wire_graph.WireGraph.{WireGraph}
@@ -54,6 +54,14 @@ ports_listed design keeps n c at s shows ports listed =
     let names = names_both (inputs_in c) (outputs_in c) in
     let firsts = subst (λ (l : List Text). ShowsFirsts s.names l) names shows.ports.names in
     listed (pin_names (inputs_in c ++ outputs_in c)) firsts (new_ports Unreserved design keeps n c at)
+
+-- a signature has a pin for each port
+pub pins_counted : (s : Signature) (c : Component) → ShowsSignature s c → length s.pins.items ≡ length (inputs_in c) + length (outputs_in c)
+pins_counted s c shows =
+    let ins = on_side Input (inputs_in c) in
+    let outs = on_side Output (outputs_in c) in
+    let side : Side → Pin → SidedPin = λ side p. record { side = side; pin = p } in
+    omega (arith, ap length shows.ports.pins, length-map (ins ++ outs) found, length-append ins outs, length-map (inputs_in c) (side Input), length-map (outputs_in c) (side Output))
 
 -- ---- what a cell of a component says
 

@@ -7,7 +7,7 @@ use Rattle.hw_graph.specs.Graph.{AreInRange}
 use Rattle.hw_graph.specs.Groups.{IsGathered}
 use Rattle.hw_graph.specs.declared.groups.Entry.{Entry}
 use Rattle.cal_ast.specs.Tree.{Design}
-use Rattle.cal_check.specs.Entries.{IsOrderOf, entries_from, holder_read, part_in, part_read, parts_in}
+use Rattle.cal_check.specs.inside.Entries.{IsOrderOf, entries_from, holder_read, part_in, part_read, parts_in}
 use Rattle.cal_check.specs.Mades.{made_component}
 use Rattle.cal_check.specs.Nests.{ShowsNesting}
 use Rattle.cal_check.specs.Tables.{AreMade}

@@ -6,7 +6,7 @@ use Rattle.std.proofs.lemmas.List.{take_all, take_more, length-append}
 use Rattle.std.proofs.lemmas.List.Elements.{All-push, All-contains, All-weaker, Contains-push_cases, Contains-append_left, Contains-push}
 use Rattle.std.proofs.lemmas.Option.{get_or_from_slice_get, slice_get-get_or, slice_get_within, same_Some}
 use Rattle.hw_graph.specs.declared.groups.Entry.{Entry}
-use Rattle.hw_names.proofs.NameLemmas.{length-KeepsTexts}
+use Rattle.hw_names.proofs.NameLemmas.{KeepsTexts-append, length-KeepsTexts}
 use Rattle.hw_names.specs.Name.{Text, KeepsTexts, text_of}
 use Rattle.hw_names.specs.declared.names.NameId.{NameId}
 use Rattle.net_core.specs.declared.net.Src.TheVariants.{Lit}
@@ -17,9 +17,9 @@ use Rattle.cal_ast.specs.declared.tree.CalPort.{CalPort}
 use Rattle.cal_ast.specs.declared.tree.InBind.{InBind}
 use Rattle.cal_ast.specs.declared.tree.OutBind.{OutBind}
 use Rattle.cal_ast.specs.Wires.{set_ports}
-use Rattle.cal_check.specs.Nodes.{Node, APort, AHole, IsKey, key_of}
-use Rattle.cal_check.specs.Readings.{AddsGroups, AnyAt, AnyOf, ReadsDone, ReadsDones, ReadsEach, ReadsGo, ReadsGroup, ReadsGroups, ReadsSet, ReadsSets}
-use Rattle.cal_check.specs.WireGraphs.{Adds, Grows, HasHole, HasNumber, HasReading, IsPair, NoPair}
+use Rattle.cal_check.specs.inside.Nodes.{Node, APort, AHole, IsKey, PortList, key_of}
+use Rattle.cal_check.specs.inside.Readings.{AddsGroups, AnyAt, AnyOf, ReadsDone, ReadsDones, ReadsEach, ReadsGo, ReadsGroup, ReadsGroups, ReadsSet, ReadsSets}
+use Rattle.cal_check.specs.inside.WireGraphs.{Adds, Grows, HasHole, HasNumber, HasReading, IsPair, NoPair}
 use Rattle.cal_check.specs.declared.wire_graph.Hole.{Hole}
 use Rattle.cal_check.specs.declared.wire_graph.WireGraph.{WireGraph}
 use Rattle.cal_check.proofs.FoundLemmas.{to_map}
@@ -45,21 +45,26 @@ pub keys_grown : (old new : List Text) (key : Text) → (new ≡ old) ⊎ (new �
 keys_grown old new key (inl same) all is = subst (All IsKey) (sym same) all
 keys_grown old new key (inr added) all is = subst (All IsKey) (sym added) (All-push IsKey old key all is)
 
+-- and so numbers keep their keys
+pub keys_kept : (old new : List Text) (key : Text) → (new ≡ old) ⊎ (new ≡ old ++ key ∷ []) → KeepsTexts old new
+keys_kept old new key (inl same) i text at = ap (λ (l : List Text). slice_get l i) same ∙ at
+keys_kept old new key (inr added) i text at = ap (λ (l : List Text). slice_get l i) added ∙ KeepsTexts-append old (key ∷ []) i text at
+
 same_text : (old new : List Text) (i : ℕ) (text : Text) → KeepsTexts old new → i < length old → slice_get new i ≡ Some text → slice_get old i ≡ Some text
 same_text old new i text keeps lt at =
     let there = slice_get-get_or old i [] lt in
     there ∙ (sym (keeps i (get_or old i []) there) ∙ at)
 
-pub number_kept : (old new : WireGraph) (node : Node) (i : ℕ) → KeepsTexts old.keys new.keys → HasNumber old node i → HasNumber new node i
+pub number_kept : (old new : WireGraph) (node : Node) (i : ℕ) → KeepsTexts old.ports.keys new.ports.keys → HasNumber old node i → HasNumber new node i
 number_kept old new node i keeps is = record { has_key = is.has_key; at = keeps i (key_of node) is.at }
 
-number_back : (old new : WireGraph) (node : Node) (i : ℕ) → KeepsTexts old.keys new.keys → i < length old.keys → HasNumber new node i → HasNumber old node i
-number_back old new node i keeps lt is = record { has_key = is.has_key; at = same_text old.keys new.keys i (key_of node) keeps lt is.at }
+number_back : (old new : WireGraph) (node : Node) (i : ℕ) → KeepsTexts old.ports.keys new.ports.keys → i < length old.ports.keys → HasNumber new node i → HasNumber old node i
+number_back old new node i keeps lt is = record { has_key = is.has_key; at = same_text old.ports.keys new.ports.keys i (key_of node) keeps lt is.at }
 
-pub number_within : (g : WireGraph) (node : Node) (i : ℕ) → HasNumber g node i → i < length g.keys
-number_within g node i is = slice_get_within g.keys i (key_of node) is.at
+pub number_within : (g : WireGraph) (node : Node) (i : ℕ) → HasNumber g node i → i < length g.ports.keys
+number_within g node i is = slice_get_within g.ports.keys i (key_of node) is.at
 
-pub hole_kept : (old new : WireGraph) (hole : Option Hole) → KeepsTexts old.keys new.keys → IfSome hole (HasHole old) → IfSome hole (HasHole new)
+pub hole_kept : (old new : WireGraph) (hole : Option Hole) → KeepsTexts old.ports.keys new.ports.keys → IfSome hole (HasHole old) → IfSome hole (HasHole new)
 hole_kept old new None keeps is = is
 hole_kept old new (Some h) keeps is = number_kept old new (AHole h.group) h.node keeps is
 
@@ -68,15 +73,16 @@ pub one_node : (g : WireGraph) (n m : Node) (i : ℕ) → HasNumber g n i → Ha
 one_node g n m i is_n is_m = same_node n m is_n.has_key is_m.has_key (same_Some (key_of n) (key_of m) (sym is_n.at ∙ is_m.at))
 
 -- each number has a node
-pub node_at : (g : WireGraph) → All IsKey g.keys → (i : ℕ) → i < length g.keys → (node : Node) × HasNumber g node i
+pub node_at : (g : WireGraph) → All IsKey g.ports.keys → (i : ℕ) → i < length g.ports.keys → (node : Node) × HasNumber g node i
 node_at g nodes i lt =
     let key = nodes i [] lt in
-    (key.node, record { has_key = key.has_key; at = slice_get-get_or g.keys i [] lt ∙ ap Some key.is })
+    (key.node, record { has_key = key.has_key; at = slice_get-get_or g.ports.keys i [] lt ∙ ap Some key.is })
 
 -- ---- what a graph gains
 
 pub adds_none : (P : Node → Node → Type 0) (g : WireGraph) → ((n o : Node) → P n o → ⊥) → Adds P g g
 adds_none P g none = record {
+  names = refl;
   texts = λ i text at. at;
   nodes = λ all. all;
   has = λ n o. (λ h. inl h, λ e. elim e [ inl h ↦ h | inr p ↦ absurd (none n o p) ]);
@@ -84,6 +90,7 @@ adds_none P g none = record {
 
 pub adds_same : (P Q : Node → Node → Type 0) (old new : WireGraph) → ((n o : Node) → P n o ↔ Q n o) → Adds P old new → Adds Q old new
 adds_same P Q old new same adds = record {
+  names = adds.names;
   texts = adds.texts;
   nodes = adds.nodes;
   has = λ n o. (
@@ -94,6 +101,7 @@ adds_same P Q old new same adds = record {
 
 pub adds_both : (P Q : Node → Node → Type 0) (a b c : WireGraph) → Adds P a b → Adds Q b c → Adds (λ n o. P n o ⊎ Q n o) a c
 adds_both P Q a b c first second = record {
+  names = second.names ∙ first.names;
   texts = λ i text at. second.texts i text (first.texts i text at);
   nodes = λ all. second.nodes (first.nodes all);
   has = λ n o. (
@@ -118,11 +126,11 @@ pub adds_after : (P : Node → Node → Type 0) (a b c : WireGraph) → Adds NoP
 adds_after P a b c first second = adds_same (λ n o. NoPair n o ⊎ P n o) P a c (no_pair_or P) (adds_both NoPair P a b c first second)
 
 -- keys are added, and no entry
-module _ (old new : WireGraph) (keeps : KeepsTexts old.keys new.keys) (nodes : All IsKey old.keys → All IsKey new.keys) (entries : new.entries.items ≡ old.entries.items) where
+module _ (old new : WireGraph) (names : new.ports.names ≡ old.ports.names) (keeps : KeepsTexts old.ports.keys new.ports.keys) (nodes : All IsKey old.ports.keys → All IsKey new.ports.keys) (entries : new.entries.items ≡ old.entries.items) where
   no_more : (n o : Node) → HasReading new n o → HasReading old n o ⊎ NoPair n o
   no_more n o h =
       let there = subst (λ (es : List Entry). Contains es h.entry) entries h.there in
-      let within = All-contains (IsWithin old.keys) old.entries.items h.entry old.in_range there in
+      let within = All-contains (IsWithin old.ports.keys) old.entries.items h.entry old.in_range there in
       inl (record { entry = h.entry; there = there; key = number_back old new n h.entry.key keeps within.0 h.key; value = number_back old new o h.entry.value keeps within.1 h.value })
 
   still_read : (n o : Node) → HasReading old n o ⊎ NoPair n o → HasReading new n o
@@ -135,12 +143,15 @@ module _ (old new : WireGraph) (keeps : KeepsTexts old.keys new.keys) (nodes : A
   still_read n o (inr none) = absurd none
 
   pub adds_keys : Adds NoPair old new
-  adds_keys = record { texts = keeps; nodes = nodes; has = λ n o. (no_more n o, still_read n o) }
+  adds_keys = record { names = names; texts = keeps; nodes = nodes; has = λ n o. (no_more n o, still_read n o) }
 
 -- one reading
-module _ (old new : WireGraph) (node other : Node) (e : Entry) (keys : new.keys ≡ old.keys) (items : new.entries.items ≡ old.entries.items ++ e ∷ [])
+module _ (old new : WireGraph) (node other : Node) (e : Entry) (ports : new.ports ≡ old.ports) (items : new.entries.items ≡ old.entries.items ++ e ∷ [])
     (key : HasNumber old node e.key) (value : HasNumber old other e.value) where
-  keeps_all : KeepsTexts old.keys new.keys
+  keys : new.ports.keys ≡ old.ports.keys
+  keys = ap (λ (p : PortList). p.keys) ports
+
+  keeps_all : KeepsTexts old.ports.keys new.ports.keys
   keeps_all i text at = ap (λ (l : List Text). slice_get l i) keys ∙ at
 
   was : (n : Node) (i : ℕ) → HasNumber new n i → HasNumber old n i
@@ -175,7 +186,7 @@ module _ (old new : WireGraph) (node other : Node) (e : Entry) (keys : new.keys 
       subst (λ (y : Node). HasReading new n y) same.1 at
 
   pub adds_pair : Adds (IsPair node other) old new
-  adds_pair = record { texts = keeps_all; nodes = λ all. subst (All IsKey) (sym keys) all; has = λ n o. (gained n o, kept_reading n o) }
+  adds_pair = record { names = ap (λ (p : PortList). p.names) ports; texts = keeps_all; nodes = λ all. subst (All IsKey) (sym keys) all; has = λ n o. (gained n o, kept_reading n o) }
 
 -- ---- lists
 

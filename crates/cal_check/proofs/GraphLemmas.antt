@@ -13,7 +13,7 @@ use Rattle.hw_graph.specs.Groups.{IsGathered, has_key, with_key}
 use Rattle.hw_graph.specs.declared.groups.Entry.{Entry}
 use Rattle.cal_ast.proofs.ListLemmas.{Contains-at, place_of}
 use Rattle.cal_ast.specs.Tree.{Design}
-use Rattle.cal_check.specs.Entries.{entries_from, holder_read, part_in, part_read, parts_in}
+use Rattle.cal_check.specs.inside.Entries.{entries_from, holder_read, part_in, part_read, parts_in}
 use Rattle.cal_check.specs.Mades.{made_component}
 use Rattle.cal_check.specs.Nests.{HasPart}
 use Rattle.cal_check.specs.Tables.{AreMade}

@@ -5,7 +5,7 @@ use Rattle.std.specs.Prelude.{vec_len}
 use Rattle.hw_names.specs.Name.{Text}
 use Rattle.cal_ast.specs.Controlling.{group_named}
 use Rattle.cal_ast.specs.Tree.{Component, GroupDef}
-use Rattle.cal_check.specs.Groups.{IsGroup}
+use Rattle.cal_check.specs.inside.Groups.{IsGroup}
 use Rattle.cal_check.proofs.TestLemmas.{vec_empty}
 
 -- ---- done lines

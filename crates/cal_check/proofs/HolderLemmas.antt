@@ -8,7 +8,7 @@ use Rattle.hw_graph.proofs.CycleLemmas.{cycle_reaches}
 use Rattle.hw_names.specs.Name.{Text}
 use Rattle.cal_ast.specs.Naming.{Itself, component_names}
 use Rattle.cal_ast.specs.Tree.{Component, Design}
-use Rattle.cal_check.specs.Entries.{AreNumerals, IsFirstOnCycle, IsOrderOf}
+use Rattle.cal_check.specs.inside.Entries.{AreNumerals, IsFirstOnCycle, IsOrderOf}
 use Rattle.cal_check.specs.Firsts.{IsFirst}
 use Rattle.cal_check.specs.Holders.{AreHolders}
 use Rattle.cal_check.specs.Nests.{ArePartsFirst, HasPart, IsInside, AtOnce, Over, ShowsOrder}

@@ -6,7 +6,7 @@ use Rattle.hw_names.specs.Name.{Text, AreDistinct}
 use Rattle.hw_prims.specs.Table.{Pin, pin_names}
 use Rattle.cal_ast.proofs.ListLemmas.{AllPairs-at, place_of}
 use Rattle.cal_ast.specs.Tree.{PortName, own}
-use Rattle.cal_check.specs.Nodes.{input_key}
+use Rattle.cal_check.specs.inside.Nodes.{input_key}
 use Rattle.cal_check.proofs.FoundLemmas.{from_map, to_map}
 use Rattle.cal_check.proofs.GainLemmas.{get_take}
 use Rattle.cal_check.proofs.KeyLemmas.{same_port}

@@ -9,8 +9,8 @@ use Rattle.cal_ast.specs.Items.{Item, TheSignature, TheCell, TheGroup, TheAssign
 use Rattle.cal_ast.specs.Tree.{CellDef, Assignment, DoneLine, GroupDef, PortName, Statement, Enable, Seq, Par, If, While, Invoke, NoStatements, MoreStatements, Component, Design}
 use Rattle.cal_ast.specs.Wires.{all_groups}
 use Rattle.hw_names.specs.Name.{Text}
-use Rattle.cal_check.specs.Readings.{group_invoked, groups_invoked}
-use Rattle.cal_check.specs.Walks.{statements_from}
+use Rattle.cal_check.specs.inside.Readings.{group_invoked, groups_invoked}
+use Rattle.cal_check.specs.inside.Walks.{statements_from}
 
 -- ---- items that are no statements
 

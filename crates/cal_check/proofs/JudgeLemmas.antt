@@ -11,8 +11,8 @@ use Rattle.cal_ast.specs.Tree.{Component, Design, component_tree, design_of}
 use Rattle.cal_ast.specs.declared.tree.CalComp.{CalComp}
 use Rattle.cal_ast.specs.declared.tree.CalDesign.{CalDesign}
 use Rattle.cal_check.specs.Around.{Around, KeepsAt, comp_at, design_at, earlier_at}
-use Rattle.cal_check.specs.FirstLoop.{TellsFirstLoop}
-use Rattle.cal_check.specs.Least.{place_of, rule_of}
+use Rattle.cal_check.specs.inside.FirstLoop.{TellsFirstLoop}
+use Rattle.cal_check.specs.inside.Least.{place_of, rule_of}
 use Rattle.cal_check.specs.Told.{ComponentIs, IsFirstItem, TellsItem, TellsRefusal}
 use Rattle.cal_check.specs.declared.check.Looped.{Looped}
 use Rattle.cal_check.specs.declared.rule.CalEnd.{CalEnd}

@@ -12,7 +12,7 @@ use Rattle.std.specs.declared.cmp.Ordering.TheVariants.{Less, Equal, Greater}
 use Rattle.hw_names.specs.Name.{Text, dot}
 use Rattle.cal_ast.specs.Tree.{PortName}
 use Rattle.cal_ast.specs.Wires.{shown}
-use Rattle.cal_check.specs.Nodes.{APort, AHole, Node, HasKey, IsName, cell_key, key_of, marked}
+use Rattle.cal_check.specs.inside.Nodes.{APort, AHole, Node, HasKey, IsName, cell_key, key_of, marked}
 use Rattle.cal_check.specs.declared.keys.TheConstants.{BYTE, END, HOLE}
 
 -- marked texts stand in the order of the texts

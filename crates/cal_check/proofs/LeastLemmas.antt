@@ -1,7 +1,7 @@
 -- The least of the rules C1 to C11 that is broken at an item.
 use Rattle.std.proofs.Common.{zero, suc, List, [], ◌∷◌, All, arith}
 use Rattle.cal_ast.specs.Rules.{Rule, C1, C2, C3, C4, C5, C6, C7, C8, C9, C10, C11, all_rules}
-use Rattle.cal_check.specs.Least.{IsLeast}
+use Rattle.cal_check.specs.inside.Least.{IsLeast}
 use Rattle.cal_check.specs.declared.rule.Rule.TheVariants as number
 
 module _ (K : Rule → Type 0) where

@@ -17,7 +17,6 @@ pub mod InvokeLemmas
 pub mod InvokedLemmas
 pub mod JudgeLemmas
 pub mod KeyLemmas
-pub mod KnownLemmas
 pub mod KindLemmas
 pub mod LeadLemmas
 pub mod LeastLemmas
@@ -35,7 +34,9 @@ pub mod NumeralLemmas
 pub mod PartsLemmas
 pub mod PinLemmas
 pub mod PinNameLemmas
+pub mod PinOfLemmas
 pub mod PlaceLemmas
+pub mod PortLemmas
 pub mod PrimitiveLemmas
 pub mod ReadLemmas
 pub mod RowLemmas
@@ -46,6 +47,7 @@ pub mod SourceLemmas
 pub mod StandLemmas
 pub mod TableLemmas
 pub mod TestLemmas
+pub mod TextLemmas
 pub mod TopLemmas
 pub mod TypingLemmas
 pub mod WalkLemmas

@@ -11,9 +11,9 @@ use Rattle.cal_ast.proofs.ListLemmas.{Contains-none}
 use Rattle.cal_ast.specs.Rules.{KeepsRules}
 use Rattle.cal_ast.specs.Tree.{Component, Design}
 use Rattle.cal_ast.specs.Wires.{HasNoLoop, shown}
-use Rattle.cal_check.specs.FirstLoop.{TellsFirstLoop, TellsFirstLooped}
+use Rattle.cal_check.specs.inside.FirstLoop.{TellsFirstLoop, TellsFirstLooped}
 use Rattle.cal_check.specs.Nests.{ArePartsFirst, HasPart, ShowsOrder}
-use Rattle.cal_check.specs.Wiring.{DependsOn, ShowsParts, TellsLoop}
+use Rattle.cal_check.specs.inside.Wiring.{DependsOn, ShowsParts, TellsLoop}
 use Rattle.cal_check.specs.declared.check.Looped.{Looped}
 use Rattle.cal_check.specs.declared.nesting.PartOrder.{PartOrder}
 use Rattle.cal_check.specs.declared.nesting.PartOrder.TheVariants.{Loop, Parts}

@@ -26,8 +26,8 @@ use Rattle.cal_ast.proofs.ListLemmas.{Contains-cases_first, Contains-from_flat_m
 use Rattle.cal_ast.specs.Ports.{inputs_in}
 use Rattle.cal_ast.specs.Tree.{PortName, own, Component, Design}
 use Rattle.cal_ast.specs.Wires.{ReadsPort, Reaches, AtOnce, Over, ReadsAlong, HasNoLoop, IsLeastLoop, shown}
-use Rattle.cal_check.specs.Nodes.{Node, APort, AHole, IsKey, input_key, key_of, node_ports}
-use Rattle.cal_check.specs.WireGraphs.{HasNumber, IsGraphOf, LeadsTo, NodeReads}
+use Rattle.cal_check.specs.inside.Nodes.{Node, APort, AHole, IsKey, input_key, key_of, node_ports}
+use Rattle.cal_check.specs.inside.WireGraphs.{HasNumber, IsGraphOf, LeadsTo, NodeReads}
 use Rattle.cal_check.specs.declared.wire_graph.WireGraph.{WireGraph}
 use Rattle.cal_check.proofs.FoundLemmas.{to_map}
 use Rattle.cal_check.proofs.GainLemmas.{IsWithin, node_at, number_within}
@@ -35,17 +35,17 @@ use Rattle.cal_check.proofs.KeyLemmas.{key_order, port_before_hole}
 use Rattle.cal_check.proofs.NodeLemmas.{NodesAlong, along_reaches, no_holes, port_reads, ports_along, ports_among, reads_through, through_nodes}
 
 -- the node of a number, and some node past the last
-abbrev pub node_in : (g : WireGraph) → All IsKey g.keys → (k : ℕ) → (k < length g.keys) ⊎ (length g.keys ≤ k) → Node
+abbrev pub node_in : (g : WireGraph) → All IsKey g.ports.keys → (k : ℕ) → (k < length g.ports.keys) ⊎ (length g.ports.keys ≤ k) → Node
 node_in g nodes k (inl lt) = (node_at g nodes k lt).0
 node_in g nodes k (inr past) = AHole 0
 
-abbrev pub node_of : (g : WireGraph) → All IsKey g.keys → ℕ → Node
-node_of g nodes k = node_in g nodes k (cases_lt k (length g.keys))
+abbrev pub node_of : (g : WireGraph) → All IsKey g.ports.keys → ℕ → Node
+node_of g nodes k = node_in g nodes k (cases_lt k (length g.ports.keys))
 
-pub node_is : (g : WireGraph) (nodes : All IsKey g.keys) (k : ℕ) → k < length g.keys → HasNumber g (node_of g nodes k) k
-node_is g nodes k lt = by (cases_lt k (length g.keys))
+pub node_is : (g : WireGraph) (nodes : All IsKey g.ports.keys) (k : ℕ) → k < length g.ports.keys → HasNumber g (node_of g nodes k) k
+node_is g nodes k lt = by (cases_lt k (length g.ports.keys))
   where
-    by : (o : (k < length g.keys) ⊎ (length g.keys ≤ k)) → HasNumber g (node_in g nodes k o) k
+    by : (o : (k < length g.ports.keys) ⊎ (length g.ports.keys ≤ k)) → HasNumber g (node_in g nodes k o) k
     by (inl less) = (node_at g nodes k less).1
     by (inr past) = absurd (omega (arith, lt, past))
 
@@ -62,13 +62,13 @@ reach_both : (reads : List (List ℕ)) (a b d : ℕ) → graph.Reaches reads a b
 reach_both reads a b d (Directly x y read) second = Through x y d read second
 reach_both reads a b d (Through x next y read rest) second = Through x next d read (reach_both reads next y d rest second)
 
-module _ (design : Design) (c : Component) (g : WireGraph) (is : IsGraphOf design c g) (distinct : AreDistinct g.keys) (reads : List (List ℕ)) (gathered : IsGathered g.entries.items (length g.keys) reads) where
+module _ (design : Design) (c : Component) (g : WireGraph) (is : IsGraphOf design c g) (distinct : AreDistinct g.ports.keys) (reads : List (List ℕ)) (gathered : IsGathered g.entries.items (length g.ports.keys) reads) where
   -- ---- reads of numbers, and of nodes
 
-  reads_at : (i : ℕ) → i < length g.keys → get_or reads i [] ≡ with_key i g.entries.items
+  reads_at : (i : ℕ) → i < length g.ports.keys → get_or reads i [] ≡ with_key i g.entries.items
   reads_at i lt = get_or_from_slice_get reads i (with_key i g.entries.items) [] (gathered.each i lt)
 
-  reader_in_range : (i j : ℕ) → HasRead reads i j → i < length g.keys
+  reader_in_range : (i j : ℕ) → HasRead reads i j → i < length g.ports.keys
   reader_in_range i j has = elim (cases_lt i (length reads)) [
     | inl lt ↦ omega (arith, lt, gathered.all)
     | inr past ↦ (let none : get_or reads i [] ≡ [] = get_or_past reads i [] past in absurd (omega (arith, has.1, ap length none)))
@@ -82,10 +82,10 @@ module _ (design : Design) (c : Component) (g : WireGraph) (is : IsGraphOf desig
       let f = from_filter (has_key i) g.entries.items m.0 m.1 in
       (m.0, f.0, (Decides-eqb (m.0).key i).0 f.1, m.2)
 
-  pub read_in_range : (i j : ℕ) → HasRead reads i j → j < length g.keys
+  pub read_in_range : (i j : ℕ) → HasRead reads i j → j < length g.ports.keys
   read_in_range i j has =
       let e = entry_of i j has in
-      let w = All-contains (IsWithin g.keys) g.entries.items e.0 g.in_range (contains_of g.entries.items e.0 e.1) in
+      let w = All-contains (IsWithin g.ports.keys) g.entries.items e.0 g.in_range (contains_of g.entries.items e.0 e.1) in
       omega (arith, w.1, e.3)
 
   edge : (i j : ℕ) (n m : Node) → HasRead reads i j → HasNumber g n i → HasNumber g m j → NodeReads design c n m
@@ -94,7 +94,7 @@ module _ (design : Design) (c : Component) (g : WireGraph) (is : IsGraphOf desig
       (is.reads n m).0 (record { entry = e.0; there = contains_of g.entries.items e.0 e.1; key = subst (HasNumber g n) (sym e.2) is_n; value = subst (HasNumber g m) (sym e.3) is_m })
 
   one_number : (n : Node) (i j : ℕ) → HasNumber g n i → HasNumber g n j → i ≡ j
-  one_number n i j is_i is_j = same_number g.keys i j (key_of n) distinct is_i.at is_j.at
+  one_number n i j is_i is_j = same_number g.ports.keys i j (key_of n) distinct is_i.at is_j.at
 
   number_reads : (i j : ℕ) (n m : Node) → NodeReads design c n m → HasNumber g n i → HasNumber g m j → HasRead reads i j
   number_reads i j n m read is_n is_m =
@@ -229,29 +229,29 @@ module _ (design : Design) (c : Component) (g : WireGraph) (is : IsGraphOf desig
       by (APort q) is_n reads' = (next, q, is_n, reach_both reads next a next (subst (graph.Reaches reads next) same rest) (Directly a next read))
       by (AHole h) is_n reads' = absurd (no_holes design c k h reads')
 
-  key_at : (n : Node) (i : ℕ) → HasNumber g n i → get_or g.keys i [] ≡ key_of n
-  key_at n i is_n = get_or_from_slice_get g.keys i (key_of n) [] is_n.at
+  key_at : (n : Node) (i : ℕ) → HasNumber g n i → get_or g.ports.keys i [] ≡ key_of n
+  key_at n i is_n = get_or_from_slice_get g.ports.keys i (key_of n) [] is_n.at
 
   -- the least number that lies on a loop is a port's
-  no_least_hole : (i k : ℕ) → HasNumber g (AHole k) i → graph.Reaches reads i i → ((m : ℕ) → graph.Reaches reads m m → IsAtMost g.keys i m) → ⊥
+  no_least_hole : (i k : ℕ) → HasNumber g (AHole k) i → graph.Reaches reads i i → ((m : ℕ) → graph.Reaches reads m m → IsAtMost g.ports.keys i m) → ⊥
   no_least_hole i k is_hole reaches least =
       let m = after_hole i i k reaches refl is_hole in
       let le = subst₂ (λ (x y : Text). slice_cmp nat_cmp x y ≢ Greater) (key_at (AHole k) i is_hole) (key_at (APort m.1) m.0 m.2) (least m.0 m.3) in
       le (port_before_hole m.1 k)
 
   -- ports of distinct numbers are distinct
-  apart : (p : PortName) (k : ℕ) (ks : List ℕ) → HasNumber g (APort p) k → ((a : ℕ) → a < length ks → get_or ks a 0 ≡ k → ⊥) → ((a : ℕ) → a < length ks → get_or ks a 0 < length g.keys) → (q : PortName) → Contains (ports_among (map (node_of g is.nodes) ks)) q → p ≢ q
+  apart : (p : PortName) (k : ℕ) (ks : List ℕ) → HasNumber g (APort p) k → ((a : ℕ) → a < length ks → get_or ks a 0 ≡ k → ⊥) → ((a : ℕ) → a < length ks → get_or ks a 0 < length g.ports.keys) → (q : PortName) → Contains (ports_among (map (node_of g is.nodes) ks)) q → p ≢ q
   apart p k ks is_p others range q has same =
       let n = Contains-from_flat_map node_ports (map (node_of g is.nodes) ks) q has in
       let j = Contains-from_map (node_of g is.nodes) ks n.0 n.1 in
       let place = j.1 in
       let at : get_or ks place.0 0 ≡ j.0 = get_or_default ks place.0 0 j.0 place.1 ∙ place.2 in
-      let lt : j.0 < length g.keys = subst (λ (m : ℕ). m < length g.keys) at (range place.0 place.1) in
+      let lt : j.0 < length g.ports.keys = subst (λ (m : ℕ). m < length g.ports.keys) at (range place.0 place.1) in
       let node : node_of g is.nodes j.0 ≡ APort p = j.2 ∙ node_port n.0 q n.2 ∙ ap APort (sym same) in
       let is_j : HasNumber g (APort p) j.0 = subst (λ (x : Node). HasNumber g x j.0) node (node_is g is.nodes j.0 lt) in
       others place.0 place.1 (at ∙ one_number (APort p) j.0 k is_j is_p)
 
-  ports_distinct : (ks : List ℕ) → ((a b : ℕ) → a < length ks → b < length ks → get_or ks a 0 ≡ get_or ks b 0 → a ≡ b) → ((a : ℕ) → a < length ks → get_or ks a 0 < length g.keys) → AllPairs (λ p q. p ≢ q) (ports_among (map (node_of g is.nodes) ks))
+  ports_distinct : (ks : List ℕ) → ((a b : ℕ) → a < length ks → b < length ks → get_or ks a 0 ≡ get_or ks b 0 → a ≡ b) → ((a : ℕ) → a < length ks → get_or ks a 0 < length g.ports.keys) → AllPairs (λ p q. p ≢ q) (ports_among (map (node_of g is.nodes) ks))
   ports_distinct [] once range = λ i j d less within. absurd (omega (arith, less, within))
   ports_distinct (k ∷ ks) once range =
       by (ports_distinct ks (λ a b la lb e. let s = once (suc a) (suc b) (omega (arith, la)) (omega (arith, lb)) e in omega (arith, s)) (λ a lt. range (suc a) (omega (arith, lt)))) (node_of g is.nodes k) refl
@@ -269,7 +269,7 @@ module _ (design : Design) (c : Component) (g : WireGraph) (is : IsGraphOf desig
   names_among (k ∷ ks) =
       ap (λ (l : List Text). map shown (node_ports (node_of g is.nodes k)) ++ l) (names_among ks) ∙ sym (map-append shown (node_ports (node_of g is.nodes k)) (ports_among (map (node_of g is.nodes) ks)))
 
-  least_loop : (i : ℕ) (ks : List ℕ) (p : PortName) → IsLeastCycle reads g.keys (i ∷ ks) → node_of g is.nodes i ≡ APort p → IsLeastLoop design c p (ports_among (map (node_of g is.nodes) ks))
+  least_loop : (i : ℕ) (ks : List ℕ) (p : PortName) → IsLeastCycle reads g.ports.keys (i ∷ ks) → node_of g is.nodes i ≡ APort p → IsLeastLoop design c p (ports_among (map (node_of g is.nodes) ks))
   least_loop i ks p least e = record {
     is_loop = record {
       along = ports_along design c p (map (node_of g is.nodes) ks) p (subst (λ (n : Node). NodesAlong design c n (map (node_of g is.nodes) ks) n) e nodes);
@@ -283,7 +283,7 @@ module _ (design : Design) (c : Component) (g : WireGraph) (is : IsGraphOf desig
       cycle : IsCycle reads (i ∷ ks)
       cycle = least.is_cycle
 
-      range : (a : ℕ) → a < length (i ∷ ks) → get_or (i ∷ ks) a 0 < length g.keys
+      range : (a : ℕ) → a < length (i ∷ ks) → get_or (i ∷ ks) a 0 < length g.ports.keys
       range a lt = omega (arith, cycle.trail.in_range a lt, gathered.all)
 
       is_p : HasNumber g (APort p) i
@@ -294,12 +294,12 @@ module _ (design : Design) (c : Component) (g : WireGraph) (is : IsGraphOf desig
           nodes_along i ks i (λ k lt. subst (λ (m : ℕ). HasRead reads (get_or (i ∷ ks) k 0) (get_or (i ∷ ks) m 0)) (add-one k) (cycle.trail.along k (omega (arith, lt))))
           (subst (λ (m : ℕ). HasRead reads (get_or (i ∷ ks) m 0) i) (let at_end : length (i ∷ ks) - 1 ≡ length ks = omega arith in at_end) cycle.back)
 
-  pub told_loop : (words : List Text) (ks : List ℕ) → words ≡ flat_map (λ k. map shown (node_ports (node_of g is.nodes k))) ks → IsLeastCycle reads g.keys ks
+  pub told_loop : (words : List Text) (ks : List ℕ) → words ≡ flat_map (λ k. map shown (node_ports (node_of g is.nodes k))) ks → IsLeastCycle reads g.ports.keys ks
       → (first : PortName) × (others : List PortName) × (words ≡ map shown (first ∷ others)) × IsLeastLoop design c first others
   told_loop words [] are least = absurd (omega (arith, least.is_cycle.some))
   told_loop words (i ∷ ks) are least = by (node_of g is.nodes i) refl
     where
-      lt : i < length g.keys
+      lt : i < length g.ports.keys
       lt = omega (arith, least.is_cycle.trail.in_range 0 (omega arith), gathered.all)
 
       by : (n : Node) → node_of g is.nodes i ≡ n → (first : PortName) × (others : List PortName) × (words ≡ map shown (first ∷ others)) × IsLeastLoop design c first others
@@ -314,7 +314,7 @@ module _ (design : Design) (c : Component) (g : WireGraph) (is : IsGraphOf desig
 
   -- ---- the inputs that an output reaches
 
-  module _ (first : KeepsTexts (map input_key (inputs_in c)) g.keys) where
+  module _ (first : KeepsTexts (map input_key (inputs_in c)) g.ports.keys) where
     pub input_number : (i : ℕ) (input : Pin) → slice_get (inputs_in c) i ≡ Some input → HasNumber g (APort (own input.name)) i
     input_number i input at = record { has_key = tt; at = first i (input_key input) (to_map input_key (inputs_in c) i input at) }
 

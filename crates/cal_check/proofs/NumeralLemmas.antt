@@ -10,7 +10,7 @@ use Rattle.std.proofs.lemmas.List.{get_or_append_left, get_or_default, get_or_pu
 use Rattle.std.proofs.lemmas.Nat.{from_be_bytes-to_be_bytes_4}
 use Rattle.hw_names.specs.Name.{Text}
 use Rattle.hw_graph.specs.ByName.{IsAtMost}
-use Rattle.cal_check.specs.Entries.{AreNumerals}
+use Rattle.cal_check.specs.inside.Entries.{AreNumerals}
 
 -- the first of two digits that differ decides
 step : (x y : ℕ) (rest : Ordering) → ordering_then (nat_cmp x y) rest ≢ Greater → (x < y) ⊎ ((x ≡ y) × (rest ≢ Greater))

@@ -7,9 +7,9 @@ use Rattle.hw_prims.specs.Meaning.{is_through}
 use Rattle.hw_prims.specs.Table.{Pin, inputs_of, name_at, outputs_of, pin_names, pins_of}
 use Rattle.hw_prims.specs.declared.prim.Primitive.{Primitive}
 use Rattle.cal_ast.specs.Tree.{port_of}
-use Rattle.cal_check.specs.Nodes.{Node, APort}
-use Rattle.cal_check.specs.Readings.{ReadsThrough}
-use Rattle.cal_check.specs.WireGraphs.{Grows, IsPair}
+use Rattle.cal_check.specs.inside.Nodes.{Node, APort}
+use Rattle.cal_check.specs.inside.Readings.{ReadsThrough}
+use Rattle.cal_check.specs.inside.WireGraphs.{Grows, IsPair}
 use Rattle.cal_check.specs.declared.wire_graph.WireGraph.{WireGraph}
 use Rattle.cal_check.proofs.GainLemmas.{grows_none, grows_same}
 

@@ -12,7 +12,7 @@ use Rattle.net_core.specs.declared.net.Guard.TheVariants as variants
 use Rattle.cal_ast.specs.Numbers.{PortHasNumbers}
 use Rattle.cal_ast.specs.Tree.{PortName, port_tree}
 use Rattle.cal_ast.specs.declared.tree.CalPort.{CalPort}
-use Rattle.cal_check.specs.Read.{AddsPorts, AreReads}
+use Rattle.cal_check.specs.inside.Read.{AddsPorts, AreReads}
 use Rattle.cal_check.proofs.ListLemmas.{All-back, All-front}
 
 -- a fact of each port of two lists

@@ -14,7 +14,7 @@ use Rattle.cal_ast.specs.Items.{Item, TheStatement, statements_in, statements_of
 use Rattle.cal_ast.specs.Numbers.{GuardHasNumbers, GuardsHaveNumbers, StatementHasNumbers, StatementsHaveNumbers}
 use Rattle.cal_ast.specs.Tree.{InBinding, OutBinding, PortName, Statement, MoreStatements, statement_tree, statement_trees}
 use Rattle.cal_ast.specs.Tree as tree
-use Rattle.cal_check.specs.Walks.{statements_from}
+use Rattle.cal_check.specs.inside.Walks.{statements_from}
 
 -- ---- guards
 

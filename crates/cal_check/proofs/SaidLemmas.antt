@@ -12,9 +12,9 @@ use Rattle.cal_ast.specs.Items.{control_statements}
 use Rattle.cal_ast.specs.Ports.{part_in, primitive_in}
 use Rattle.cal_ast.specs.Tree.{PortName, own, port_of, CellDef, Assignment, GroupDef, Component, Design}
 use Rattle.cal_ast.specs.Wires.{CrossesCell, IsAssignmentOf, all_groups, set_ports, done_ports}
-use Rattle.cal_check.specs.Nodes.{Node, APort, AHole, IsKey}
-use Rattle.cal_check.specs.Readings.{AddsGroups, ReadsEach, ReadsGroup, ReadsGroups, ReadsInCell, ReadsInCells, ReadsInPart, ReadsInPrimitive, ReadsSet, ReadsSets, groups_invoked}
-use Rattle.cal_check.specs.WireGraphs.{Adds, Grows, IsGraphOf, IsPair, NodeReads, NoPair, BySet, InGroup, OfDone, OfGo, OfPrimitive, OfPart}
+use Rattle.cal_check.specs.inside.Nodes.{Node, APort, AHole, IsKey}
+use Rattle.cal_check.specs.inside.Readings.{AddsGroups, ReadsEach, ReadsGroup, ReadsGroups, ReadsInCell, ReadsInCells, ReadsInPart, ReadsInPrimitive, ReadsSet, ReadsSets, groups_invoked}
+use Rattle.cal_check.specs.inside.WireGraphs.{Adds, Grows, IsGraphOf, IsPair, NodeReads, NoPair, BySet, InGroup, OfDone, OfGo, OfPrimitive, OfPart}
 use Rattle.cal_check.specs.declared.wire_graph.WireGraph.{WireGraph}
 use Rattle.cal_check.proofs.GainLemmas.{adds_after, adds_both, groups_both}
 use Rattle.cal_check.proofs.InvokedLemmas.{groups_are}
@@ -126,7 +126,7 @@ module _ (design : Design) (c : Component) where
   is_reading n o (inr cells) = of_cells n o cells
 
   -- the graph has all that was added
-  pub whole_graph : (start inputs sets groups control g : WireGraph) → start.keys ≡ [] → start.entries.items ≡ [] → start.holes ≡ 0 → Grows NoPair start inputs → Grows (ReadsSets None c.sets) inputs sets → AddsGroups design c c.groups sets groups
+  pub whole_graph : (start inputs sets groups control g : WireGraph) → start.ports.keys ≡ [] → start.entries.items ≡ [] → start.holes ≡ 0 → Grows NoPair start inputs → Grows (ReadsSets None c.sets) inputs sets → AddsGroups design c c.groups sets groups
       → AddsGroups design c (groups_invoked design c (control_statements c.control)) groups control → Grows (ReadsInCells design c) control g → IsGraphOf design c g
   whole_graph start inputs sets groups control g no_keys empty none first second third fourth fifth = record {
     nodes = all.nodes (subst (All IsKey) (sym no_keys) (All-nil IsKey));

@@ -6,8 +6,8 @@ use Rattle.std.proofs.lemmas.List.Elements.{All-append, All-cons, All-nil}
 use Rattle.cal_ast.specs.Items.{Item}
 use Rattle.cal_ast.specs.Rules.{all_rules}
 use Rattle.cal_check.specs.Around.{Around, KeepsAt}
-use Rattle.cal_check.specs.Least.{TellsLeast}
-use Rattle.cal_check.specs.Walks.{IsFirstIn, Passes, WalksOver}
+use Rattle.cal_check.specs.inside.Least.{TellsLeast}
+use Rattle.cal_check.specs.inside.Walks.{IsFirstIn, Passes, WalksOver}
 use Rattle.cal_check.specs.declared.rule.CompEnd.{CompEnd}
 use Rattle.cal_check.specs.declared.rule.CompEnd.TheVariants.{Broken, Memory}
 use Rattle.cal_check.specs.declared.rule.Rule as code

@@ -20,8 +20,8 @@ use Rattle.cal_check.specs.Mades.{AreMadeOf, IsMadeOf, made_component, made_prim
 use Rattle.cal_check.specs.Nests.{ArePartsFirst, HasPart}
 use Rattle.cal_check.specs.Signatures.{ShowsSignature, found}
 use Rattle.cal_check.specs.Tables.{AreMade}
-use Rattle.cal_check.specs.Totals.{AreOwn, ArePartsWhole, IsWhole}
-use Rattle.cal_check.specs.Walks.{statements_from}
+use Rattle.cal_check.specs.inside.Totals.{AreOwn, ArePartsWhole, IsWhole}
+use Rattle.cal_check.specs.inside.Walks.{statements_from}
 use Rattle.cal_check.specs.Weight.{WithCells, CellsComeTo, NoCells, NoPart, APart, IsTold, cell_words, statement_weight}
 use Rattle.cal_check.specs.declared.made.Made.{Made}
 use Rattle.cal_check.specs.declared.made.Made.TheVariants as variant

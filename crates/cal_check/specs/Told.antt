@@ -9,7 +9,7 @@ use Rattle.cal_ast.specs.Rules.{IsRefusal, KeepsItem}
 use Rattle.cal_ast.specs.Tree.{design_of}
 use Rattle.cal_ast.specs.declared.tree.CalDesign.{CalDesign}
 use Rattle.cal_check.specs.Around.{Around, KeepsAt, comp_at, design_at, earlier_at}
-use Rattle.cal_check.specs.Least.{IsLeast, place_of}
+use Rattle.cal_check.specs.inside.Least.{IsLeast, place_of}
 use Rattle.cal_check.specs.declared.rule.CalEnd.{CalEnd}
 use Rattle.cal_check.specs.declared.rule.CalEnd.TheVariants.{Refused, Memory}
 use Rattle.cal_check.specs.declared.rule.CompEnd.{CompEnd}

@@ -3,11 +3,11 @@ ghost use Rattle.std.specs.Prelude.{◌≡◌, ◌<◌, ◌∷◌, ◌++◌, [],
 ghost use Rattle.cal_ast.specs.Numbers.{HasNumbers};
 ghost use Rattle.cal_ast.specs.Rules.{CalRules, KeepsRules};
 ghost use Rattle.cal_ast.specs.Tree.{Component, Design, design_of};
-ghost use Rattle.cal_check.specs.FirstLoop.{TellsFirstLoop, TellsFirstLooped};
+ghost use Rattle.cal_check.specs.inside.FirstLoop.{TellsFirstLoop, TellsFirstLooped};
 ghost use Rattle.cal_check.specs.Nests.{HasPart, ShowsNesting};
 ghost use Rattle.cal_check.specs.Tables.{ShowsTables};
 ghost use Rattle.cal_check.specs.Told.{ComponentIs, TellsRefusal};
-ghost use Rattle.cal_check.specs.Wiring.{DependsOn, ShowsParts, TellsLoop};
+ghost use Rattle.cal_check.specs.inside.Wiring.{DependsOn, ShowsParts, TellsLoop};
 
 use crate::component::judge_component;
 use crate::nesting::{Nesting, PartOrder};

@@ -8,7 +8,7 @@ ghost use Rattle.cal_ast.specs.Rules.{KeepsComponent};
 ghost use Rattle.cal_ast.specs.Tree.{Statement, assignment_tree, cell_tree, control_tree, group_tree, statement_tree};
 ghost use Rattle.cal_check.specs.Around.{comp_at, design_at, earlier_at, names_at};
 ghost use Rattle.cal_check.specs.Told.{TellsItem};
-ghost use Rattle.cal_check.specs.Walks.{WalksOver, statements_from};
+ghost use Rattle.cal_check.specs.inside.Walks.{WalksOver, statements_from};
 
 use crate::item::{at_assignment, at_cell, at_done, at_group, at_signature, at_statement};
 use crate::place::Place;

@@ -7,7 +7,7 @@ ghost use Rattle.cal_ast.specs.Numbers.{DoneHasNumbers, InHasNumbers, OutHasNumb
 ghost use Rattle.cal_ast.specs.Ports.{side_in, width_in};
 ghost use Rattle.cal_ast.specs.Tree.{InBinding, done_tree, group_tree, in_tree, out_tree, port_of, port_tree, statement_tree};
 ghost use Rattle.cal_check.specs.Around.{comp_at, design_at, names_at};
-ghost use Rattle.cal_check.specs.Groups.{IsGroup};
+ghost use Rattle.cal_check.specs.inside.Groups.{IsGroup};
 ghost use Rattle.cal_check.specs.Signatures.{side_of};
 
 use crate::first_places::FirstPlaces;

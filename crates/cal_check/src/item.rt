@@ -5,7 +5,7 @@ ghost use Rattle.cal_ast.specs.Numbers.{CellHasNumbers, DoneHasNumbers, GroupHas
 ghost use Rattle.cal_ast.specs.Items.{TheAssignment, TheCell, TheDone, TheGroup, TheSignature, TheStatement};
 ghost use Rattle.cal_ast.specs.Tree.{assignment_tree, cell_tree, done_tree, group_tree, statement_tree};
 ghost use Rattle.cal_check.specs.Around.{KeepsAt, comp_at, earlier_at, names_at};
-ghost use Rattle.cal_check.specs.Least.{TellsLeast};
+ghost use Rattle.cal_check.specs.inside.Least.{TellsLeast};
 
 use crate::controlling::{
     enables_group, has_condition, has_done, invokes, is_only_done, may_have_done,

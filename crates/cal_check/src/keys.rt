@@ -1,6 +1,6 @@
 //! Keys of the ports of a component, and of the holes of its groups.
 ghost use Rattle.std.specs.Prelude.{◌≡◌, ◌==◌, ◌+◌, ◌≤◌, ℕ, List, ◌∷◌, ◌++◌, drop, length, slice_index, IfOk, OnOk, MatchOption};
-ghost use Rattle.cal_check.specs.Nodes.{AHole, APort, IsName, Node, key_of, marked, name_of};
+ghost use Rattle.cal_check.specs.inside.Nodes.{AHole, APort, IsName, Node, key_of, marked, name_of};
 ghost use Rattle.cal_ast.specs.Tree.{own, port_of};
 
 use hw_bits::Memory;

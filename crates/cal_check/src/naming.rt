@@ -9,7 +9,7 @@ ghost use Rattle.hw_names.specs.Name.{text_of};
 ghost use Rattle.net_core.specs.Graph.{source_ports};
 ghost use Rattle.net_core.specs.Guard.{source_tree};
 ghost use Rattle.cal_check.specs.Around.{comp_at, design_at, earlier_at, names_at};
-ghost use Rattle.cal_check.specs.Read.{AreReads};
+ghost use Rattle.cal_check.specs.inside.Read.{AreReads};
 
 use crate::made::{Made, is_primitive};
 use crate::place::Place;

@@ -2,7 +2,7 @@
 ghost use Rattle.std.specs.Prelude.{◌≡◌, ◌<◌, ◌++◌, false, length, map, All, IfOk, OnOk};
 ghost use Rattle.hw_graph.specs.Graph.{AreInRange};
 ghost use Rattle.cal_ast.specs.Tree.{Design};
-ghost use Rattle.cal_check.specs.Entries.{AreNumerals, IsOrderOf, holder_read, part_in, part_read, parts_in};
+ghost use Rattle.cal_check.specs.inside.Entries.{AreNumerals, IsOrderOf, holder_read, part_in, part_read, parts_in};
 ghost use Rattle.cal_check.specs.Holders.{AreHolders, AreMarks};
 ghost use Rattle.cal_check.specs.Nests.{IsInside, ShowsNesting};
 ghost use Rattle.cal_check.specs.Tables.{AreMade};

@@ -1,16 +1,21 @@
 //! What stands around an item: the design, the component, and what their names mean.
-ghost use Rattle.std.specs.Prelude.{map, All, IfOk};
+ghost use Rattle.std.specs.Prelude.{◌≡◌, ◌<◌, ◌≤◌, List, Some, length, map, slice_get, All, IfOk};
+ghost use Rattle.hw_names.specs.Name.{Text};
+ghost use Rattle.hw_prims.specs.Table.{pin_names};
 ghost use Rattle.cal_ast.specs.Naming.{cell_names, group_names};
-ghost use Rattle.cal_ast.specs.Numbers.{CellHasNumbers, GroupHasNumbers};
-ghost use Rattle.cal_ast.specs.Tree.{cell_tree, group_tree};
+ghost use Rattle.cal_ast.specs.Numbers.{CellHasNumbers, GroupHasNumbers, PinHasNumber};
+ghost use Rattle.cal_ast.specs.Tree.{cell_tree, group_tree, pin_tree};
 ghost use Rattle.cal_check.specs.Firsts.{ShowsFirsts};
+ghost use Rattle.cal_check.specs.inside.Nodes as nodes;
+ghost use Rattle.cal_check.specs.inside.Nodes.{pin_text};
 
 use crate::first_places::FirstPlaces;
 use crate::made::{Made, go_of, primitive_pin};
 use crate::nesting::Nesting;
 use crate::signature::{Pin, Side, Signature};
 use crate::tables::Tables;
-use cal_ast::{CalCell, CalComp, CalDesign, CalPort, Group};
+use crate::texts::PinName;
+use cal_ast::{CalCell, CalComp, CalDesign, CalPin, CalPort, Group};
 use hw_bits::Memory;
 use hw_names::{NameId, Names};
 use std::alloc::Global;
@@ -75,6 +80,19 @@ fn groups_of(alloc: Global, names: &Names, groups: &[Group]) -> Result<FirstPlac
     Ok(firsts)
 }
 
+/// The name of the port at this place of a side; one more than are written is implied.
+fn pin_at(pins: &[CalPin], number: usize, implied: &'static [u8]) -> PinName<'static>
+    ensures number { (names : List Text) → All (PinHasNumber names) pins.now → nodes.PinHasNumber names result }
+    ensures written { (names : List Text) → number < length pins.now
+        → slice_get (pin_names (map (pin_tree names) pins.now)) number ≡ Some (pin_text names result) }
+    ensures implied { (names : List Text) → length pins.now ≤ number → pin_text names result ≡ implied.now }
+{
+    if number < pins.len() {
+        return PinName::Number(pins[number].name);
+    }
+    PinName::Text(implied)
+}
+
 impl<'a> Place<'a> {
     ghost use Rattle.std.specs.Prelude.{◌≡◌, ◌↔◌, ◌<◌, length, slice_get, Contains, Some, None, IfOk, IfSome, IsTrue, codes, option_map, option_and_then, IsSome};
     ghost use Rattle.hw_names.specs.Name.{text_of};
@@ -93,6 +111,7 @@ impl<'a> Place<'a> {
     ghost use Rattle.cal_check.specs.Nests.{ShowsNesting};
     ghost use Rattle.cal_check.specs.Signatures.{ShowsSignature, found};
     ghost use Rattle.cal_check.specs.Tables.{ShowsTables};
+    ghost use Rattle.cal_check.specs.inside.Nodes.{pin_text, ports_in};
 
     /// The place of the component of this number.
     pub fn of(
@@ -163,6 +182,31 @@ impl<'a> Place<'a> {
         ensures { (c : Component) → slice_get (design_at self.now) number ≡ Some c → ShowsSignature result.now c }
     {
         &self.tables.signatures[number]
+    }
+
+    /// The component of this number.
+    fn comp_of(&self, number: usize) -> &'a CalComp
+        requires { number < length (design_at self.now) }
+        ensures comp { slice_get (design_at self.now) number ≡ Some (component_tree (names_at self.now) result.now) }
+        ensures numbers { ComponentHasNumbers (names_at self.now) result.now }
+    {
+        &self.design.comps[number]
+    }
+
+    /// The name of a port of the component of this number, by its place: inputs come first, then outputs.
+    pub fn pin_of(&self, part: usize, number: usize) -> PinName<'static>
+        requires { part < length (design_at self.now) }
+        ensures name { (c : Component) → slice_get (design_at self.now) part ≡ Some c → number < length (ports_in c)
+            → slice_get (ports_in c) number ≡ Some (pin_text (names_at self.now) result) }
+        ensures number { nodes.PinHasNumber (names_at self.now) result }
+    {
+        let comp = self.comp_of(part);
+        let inputs = self.signature_of(part).inputs;
+        if number < inputs {
+            pin_at(&comp.ins, number, b"go")
+        } else {
+            pin_at(&comp.outs, number - inputs, b"done")
+        }
     }
 
     /// Whether the component has an input `go`.

@@ -5,7 +5,7 @@ ghost use Rattle.net_core.specs.Graph.{guard_ports, guards_ports, option_ports, 
 ghost use Rattle.net_core.specs.Guard.{guard_option, guard_tree, guards_of, source_tree};
 ghost use Rattle.cal_ast.specs.Numbers.{GuardHasNumbers, SourceHasNumbers, WhenHasNumbers};
 ghost use Rattle.cal_ast.specs.Tree.{port_tree};
-ghost use Rattle.cal_check.specs.Read.{AddsPorts, AreReads};
+ghost use Rattle.cal_check.specs.inside.Read.{AddsPorts, AreReads};
 
 use cal_ast::CalPort;
 use hw_bits::Memory;

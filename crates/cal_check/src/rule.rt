@@ -1,6 +1,6 @@
 //! The rules by their numbers, and how a component or a design ends that breaks one.
 ghost use Rattle.std.specs.Prelude.{◌≡◌, ◌+◌};
-ghost use Rattle.cal_check.specs.Least.{place_of};
+ghost use Rattle.cal_check.specs.inside.Least.{place_of};
 
 use hw_bits::Memory;
 use hw_names::{NameId, Word};

@@ -13,8 +13,8 @@ pub struct Walk {
 
 impl Walk {
     ghost use Rattle.cal_check.specs.Around.{Around, KeepsAt};
-    ghost use Rattle.cal_check.specs.Least.{TellsLeast};
-    ghost use Rattle.cal_check.specs.Walks.{WalksOver};
+    ghost use Rattle.cal_check.specs.inside.Least.{TellsLeast};
+    ghost use Rattle.cal_check.specs.inside.Walks.{WalksOver};
 
     /// Goes past an item, at which this rule is the least that is broken, if one is. More than `2^64 - 1` items find no
     /// memory.

@@ -13,8 +13,8 @@ ghost use Rattle.net_core.specs.Words.{made_words};
 ghost use Rattle.cal_check.specs.Mades.{AreMadeOf, made_component, made_primitive};
 ghost use Rattle.cal_check.specs.Signatures.{ShowsSignature};
 ghost use Rattle.cal_check.specs.Tables.{AreMade, AreSignatures, ShowsTables};
-ghost use Rattle.cal_check.specs.Totals.{AreOwn, ArePartsWhole};
-ghost use Rattle.cal_check.specs.Walks.{statements_from};
+ghost use Rattle.cal_check.specs.inside.Totals.{AreOwn, ArePartsWhole};
+ghost use Rattle.cal_check.specs.inside.Walks.{statements_from};
 ghost use Rattle.cal_check.specs.Weight.{AreWords, CellsComeTo, IsTold, IsWeight, assignment_weight, cell_words, done_weight, group_weight, own_weight, own_words, statement_weight};
 
 use crate::component::is_empty_seq;

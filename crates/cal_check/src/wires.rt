@@ -1,6 +1,5 @@
 //! C12: which ports of a component read which within a row, and its least loop.
 ghost use Rattle.std.specs.Prelude.{◌≡◌, ◌↔◌, ℕ, List, ◌+◌, ◌^◌, ◌<◌, [], ◌∷◌, ◌++◌, Option, Some, length, map, option_map, slice_get, All, Contains, IfOk, IfSome, IsTrue, OnOk};
-ghost use Rattle.std.specs.List.{flat_map};
 ghost use Rattle.hw_graph.specs.Graph.{AreInRange};
 ghost use Rattle.hw_graph.specs.Groups.{IsGathered};
 ghost use Rattle.hw_names.specs.Name.{AreDistinct, KeepsTexts, Text, text_of};
@@ -11,29 +10,29 @@ ghost use Rattle.cal_ast.specs.Items.{control_statements, statements_in, stateme
 ghost use Rattle.cal_ast.specs.Numbers.{ControlHasNumbers, DoneHasNumbers, GroupHasNumbers, InHasNumbers, OutHasNumbers, PortHasNumbers, SetHasNumbers, StatementHasNumbers};
 ghost use Rattle.cal_ast.specs.Ports.{inputs_in, outputs_in};
 ghost use Rattle.cal_ast.specs.Rules.{KeepsRules};
-ghost use Rattle.cal_ast.specs.Tree.{CellDef, Component, Design, Invoke, assignment_tree, control_tree, done_tree, group_tree, in_tree, out_tree, port_tree, statement_tree};
-ghost use Rattle.cal_ast.specs.Wires.{shown};
+ghost use Rattle.cal_ast.specs.Tree.{CellDef, Component, Design, Invoke, assignment_tree, control_tree, done_tree, group_tree, in_tree, out_tree, own, port_of, port_tree, statement_tree};
 ghost use Rattle.cal_check.specs.Around.{comp_at, design_at, names_at};
-ghost use Rattle.cal_check.specs.Nodes.{Node, input_key, key_of, name_of, node_ports};
-ghost use Rattle.cal_check.specs.Readings.{AddsGroups, AreKnown, ReadsDones, ReadsEach, ReadsGo, ReadsInCell, ReadsInCells, ReadsInPart, ReadsInPrimitive, ReadsNumbers, ReadsOutput, ReadsSet, ReadsSets, ReadsThrough, group_invoked, groups_invoked};
-ghost use Rattle.cal_check.specs.Walks.{statements_from};
-ghost use Rattle.cal_check.specs.WireGraphs.{Adds, Grows, HasHole, HasNumber, IsGraphOf, LeadsTo, NoPair};
-ghost use Rattle.cal_check.specs.Wiring.{DependsOn, ShowsParts, TellsLoop};
+ghost use Rattle.cal_check.specs.inside.Nodes.{AreNumbers, Node, PinHasNumber, input_key, pin_text, port_by, ports_in};
+ghost use Rattle.cal_check.specs.inside.Readings.{AddsGroups, ReadsDones, ReadsEach, ReadsGo, ReadsInCell, ReadsInCells, ReadsInPart, ReadsInPrimitive, ReadsNumbers, ReadsOutput, ReadsSet, ReadsSets, ReadsThrough, group_invoked, groups_invoked};
+ghost use Rattle.cal_check.specs.inside.Walks.{statements_from};
+ghost use Rattle.cal_check.specs.inside.WireGraphs.{Adds, Grows, HasHole, HasNumber, IsGraphOf, LeadsTo, NoPair};
+ghost use Rattle.cal_check.specs.inside.Wiring.{DependsOn, ShowsParts, TellsLoop};
 ghost use Rattle.cal_check.specs.declared.wire_graph.Hole.{Hole};
 
-use crate::keys::{PortText, name_in};
+use crate::loops::least_loop;
 use crate::made::Made;
 use crate::place::Place;
+use crate::ports::Port;
 use crate::reads::ports_read;
+use crate::texts::{PinName, text_at};
 use crate::wire_graph::{Hole, WireGraph};
 use cal_ast::{Assign, CalPort, Control, ControlPart, DoneSet, Group, InBind, OutBind};
 use hw_bits::Memory;
-use hw_graph::{Groups, OrderEnd, Reach, gather, order_or_least_loop};
+use hw_graph::{Groups, Reach, gather};
 use hw_names::{NameId, Names, Word};
 use hw_prims::Prim;
 use net_core::Src;
 use std::alloc::Global;
-use std::collections::BTreeMap;
 
 /// On which inputs the outputs of a component depend within a row.
 #[derive(Drop)]
@@ -51,25 +50,34 @@ pub struct Judged {
     pub least_loop: Option<Vec<Word>>,
 }
 
-/// The texts of a port that a line names.
-fn port_text<'a>(place: &Place<'a>, port: CalPort) -> PortText<'a>
-    requires { PortHasNumbers (names_at place.now) port }
-    ensures { name_of result ≡ port_tree (names_at place.now) port }
+/// A port that a line names.
+fn line_port(port: CalPort) -> Port<'static>
+    ensures is { (names : List Text) → port_by names result ≡ port_tree names port }
+    ensures numbers { (names : List Text) → PortHasNumbers names port → AreNumbers names result }
 {
-    let pin = place.text(port.port);
-    match port.cell {
-        Some(cell) => PortText::of(place.text(cell), pin),
-        None => PortText::own(pin),
+    Port {
+        cell: port.cell,
+        pin: PinName::Number(port.port),
     }
 }
 
-/// The text of this number.
-fn text_at(names: &Names, number: usize) -> &[u8]
-    requires { number < length names.now }
-    ensures { slice_get names.now number ≡ Some result.now }
+/// A port of the component itself.
+fn own_port<'t>(pin: PinName<'t>) -> Port<'t>
+    ensures is { (names : List Text) → port_by names result ≡ own (pin_text names pin.entry) }
+    ensures numbers { (names : List Text) → PinHasNumber names pin.entry → AreNumbers names result }
 {
-    let _count = names.len();
-    names.text(NameId(number as u32))
+    Port { cell: None, pin }
+}
+
+/// A port of the cell of this name.
+fn cell_port<'t>(cell: NameId, pin: PinName<'t>) -> Port<'t>
+    ensures is { (names : List Text) → port_by names result ≡ port_of (text_of names cell) (pin_text names pin.entry) }
+    ensures numbers { (names : List Text) → IsNumberOf names cell → PinHasNumber names pin.entry → AreNumbers names result }
+{
+    Port {
+        cell: Some(cell),
+        pin,
+    }
 }
 
 /// The names of the component's ports: its inputs, and then its outputs.
@@ -83,15 +91,6 @@ fn port_names<'a>(place: &Place<'a>) -> &'a Names
     place.signature().names.names()
 }
 
-/// Those of the component of this number.
-fn part_names<'a>(place: &Place<'a>, part: usize) -> &'a Names
-    requires kept { KeepsRules (design_at place.now) }
-    requires part { part < length (design_at place.now) }
-    ensures { (c : Component) → slice_get (design_at place.now) part ≡ Some c → result.now ≡ pin_names (inputs_in c ++ outputs_in c) }
-{
-    place.signature_of(part).names.names()
-}
-
 /// Adds that the port or hole of this number reads each of these ports.
 fn add_reads(
     graph: &mut WireGraph,
@@ -99,13 +98,14 @@ fn add_reads(
     number: usize,
     reads: &[CalPort],
 ) -> Result<(), Memory>
-    requires number { number < length graph.old.keys }
+    requires names { graph.old.ports.names ≡ names_at place.now }
+    requires number { number < length graph.old.ports.keys }
     requires reads { All (PortHasNumbers (names_at place.now)) reads.now }
     ensures { (node : Node) → HasNumber graph.old node number
         → OnOk result (Grows (ReadsEach node (map (port_tree (names_at place.now)) reads.now)) graph.old graph.new) }
 {
     for read in reads {
-        let other = graph.port(port_text(place, *read))?;
+        let other = graph.port(line_port(*read))?;
         graph.add(number, other)?;
     }
     Ok(())
@@ -118,11 +118,12 @@ fn add_set(
     hole: Option<Hole>,
     set: &Assign,
 ) -> Result<(), Memory>
+    requires names { graph.old.ports.names ≡ names_at place.now }
     requires set { SetHasNumbers (names_at place.now) set.now }
     requires hole { IfSome hole (HasHole graph.old) }
     ensures { OnOk result (Grows (ReadsSet (option_map (λ (h : Hole). h.group) hole) (assignment_tree (names_at place.now) set.now)) graph.old graph.new) }
 {
-    let number = graph.port(port_text(place, set.dst))?;
+    let number = graph.port(line_port(set.dst))?;
     let reads = ports_read(graph.alloc, &set.guard, set.src)?;
     add_reads(graph, place, number, &reads)?;
     match hole {
@@ -138,6 +139,7 @@ fn add_sets(
     hole: Option<Hole>,
     sets: &[Assign],
 ) -> Result<(), Memory>
+    requires names { graph.old.ports.names ≡ names_at place.now }
     requires sets { All (SetHasNumbers (names_at place.now)) sets.now }
     requires hole { IfSome hole (HasHole graph.old) }
     ensures { OnOk result (Grows (ReadsSets (option_map (λ (h : Hole). h.group) hole) (map (assignment_tree (names_at place.now)) sets.now)) graph.old graph.new) }
@@ -159,7 +161,7 @@ fn add_hole(graph: &mut WireGraph, place: &Place) -> Result<Hole, Memory>
     if !place.has_go() {
         return Ok(hole);
     }
-    let go = graph.port(PortText::own(b"go"))?;
+    let go = graph.port(own_port(PinName::Text(b"go")))?;
     graph.add(hole.node, go)?;
     Ok(hole)
 }
@@ -171,6 +173,7 @@ fn add_dones(
     hole: Hole,
     dones: &[DoneSet],
 ) -> Result<(), Memory>
+    requires names { graph.old.ports.names ≡ names_at place.now }
     requires hole { HasHole graph.old hole }
     requires dones { All (DoneHasNumbers (names_at place.now)) dones.now }
     ensures { OnOk result (Grows (ReadsDones hole.group (map (done_tree (names_at place.now)) dones.now)) graph.old graph.new) }
@@ -184,7 +187,8 @@ fn add_dones(
 
 /// Adds what a group says.
 fn add_group(graph: &mut WireGraph, place: &Place, group: &Group) -> Result<(), Memory>
-    requires { GroupHasNumbers (names_at place.now) group.now }
+    requires names { graph.old.ports.names ≡ names_at place.now }
+    requires group { GroupHasNumbers (names_at place.now) group.now }
     ensures { OnOk result (AddsGroups (design_at place.now) (comp_at place.now) (group_tree (names_at place.now) group.now ∷ []) graph.old graph.new) }
 {
     let hole = add_hole(graph, place)?;
@@ -194,7 +198,8 @@ fn add_group(graph: &mut WireGraph, place: &Place, group: &Group) -> Result<(), 
 
 /// Adds what groups say.
 fn add_groups(graph: &mut WireGraph, place: &Place, groups: &[Group]) -> Result<(), Memory>
-    requires { All (GroupHasNumbers (names_at place.now)) groups.now }
+    requires names { graph.old.ports.names ≡ names_at place.now }
+    requires groups { All (GroupHasNumbers (names_at place.now)) groups.now }
     ensures { OnOk result (AddsGroups (design_at place.now) (comp_at place.now) (map (group_tree (names_at place.now)) groups.now) graph.old graph.new) }
 {
     for group in groups {
@@ -243,6 +248,7 @@ fn add_ins(
     cell: NameId,
     ins: &[InBind],
 ) -> Result<(), Memory>
+    requires names { graph.old.ports.names ≡ names_at place.now }
     requires hole { HasHole graph.old hole }
     requires cell { IsNumberOf (names_at place.now) cell }
     requires ins { All (InHasNumbers (names_at place.now)) ins.now }
@@ -256,13 +262,14 @@ fn add_ins(
 
 /// Adds that the port that starts the invoked cell reads the hole.
 fn add_start(graph: &mut WireGraph, place: &Place, hole: Hole, cell: NameId) -> Result<(), Memory>
+    requires names { graph.old.ports.names ≡ names_at place.now }
     requires hole { HasHole graph.old hole }
     requires cell { IsNumberOf (names_at place.now) cell }
     ensures { OnOk result (Grows (ReadsSets (Some hole.group) (starts_cell (text_of (names_at place.now) cell) (go_of (design_at place.now) (comp_at place.now) (text_of (names_at place.now) cell)))) graph.old graph.new) }
 {
     match place.go(cell) {
         Some(go) => {
-            let number = graph.port(PortText::of(place.text(cell), go.as_bytes()))?;
+            let number = graph.port(cell_port(cell, PinName::Text(go.as_bytes())))?;
             graph.add(number, hole.node)
         }
         None => Ok(()),
@@ -277,6 +284,7 @@ fn add_outs(
     cell: NameId,
     outs: &[OutBind],
 ) -> Result<(), Memory>
+    requires names { graph.old.ports.names ≡ names_at place.now }
     requires hole { HasHole graph.old hole }
     requires cell { IsNumberOf (names_at place.now) cell }
     requires outs { All (OutHasNumbers (names_at place.now)) outs.now }
@@ -290,11 +298,12 @@ fn add_outs(
 
 /// Adds that the hole reads the `done` of the invoked cell.
 fn add_done(graph: &mut WireGraph, place: &Place, hole: Hole, cell: NameId) -> Result<(), Memory>
+    requires names { graph.old.ports.names ≡ names_at place.now }
     requires hole { HasHole graph.old hole }
     requires cell { IsNumberOf (names_at place.now) cell }
     ensures { OnOk result (Grows (ReadsDones hole.group (invoke_done [] (text_of (names_at place.now) cell) ∷ [])) graph.old graph.new) }
 {
-    let done = graph.port(PortText::of(place.text(cell), b"done"))?;
+    let done = graph.port(cell_port(cell, PinName::Text(b"done")))?;
     graph.add(hole.node, done)
 }
 
@@ -306,6 +315,7 @@ fn add_invoke(
     ins: &[InBind],
     outs: &[OutBind],
 ) -> Result<(), Memory>
+    requires names { graph.old.ports.names ≡ names_at place.now }
     requires cell { IsNumberOf (names_at place.now) cell }
     requires ins { All (InHasNumbers (names_at place.now)) ins.now }
     requires outs { All (OutHasNumbers (names_at place.now)) outs.now }
@@ -322,7 +332,8 @@ fn add_invoke(
 /// Adds what the invokes of a statement say.
 #[cycle(add_statement)]
 fn add_statement(graph: &mut WireGraph, place: &Place, statement: &Control) -> Result<(), Memory>
-    requires { StatementHasNumbers (names_at place.now) statement.now }
+    requires names { graph.old.ports.names ≡ names_at place.now }
+    requires statement { StatementHasNumbers (names_at place.now) statement.now }
     ensures { OnOk result (AddsGroups (design_at place.now) (comp_at place.now) (groups_invoked (design_at place.now) (comp_at place.now) (statements_in (statement_tree (names_at place.now) statement.now))) graph.old graph.new) }
 {
     match statement {
@@ -341,7 +352,8 @@ fn add_statement(graph: &mut WireGraph, place: &Place, statement: &Control) -> R
 /// Adds what the invokes of the statements of a list say.
 #[cycle(add_statement)]
 fn add_statements(graph: &mut WireGraph, place: &Place, list: &[Control]) -> Result<(), Memory>
-    requires { All (StatementHasNumbers (names_at place.now)) list.now }
+    requires names { graph.old.ports.names ≡ names_at place.now }
+    requires list { All (StatementHasNumbers (names_at place.now)) list.now }
     ensures { OnOk result (AddsGroups (design_at place.now) (comp_at place.now) (groups_invoked (design_at place.now) (comp_at place.now) (statements_of (statements_from (map (statement_tree (names_at place.now)) list.now)))) graph.old graph.new) }
 {
     for statement in list {
@@ -352,7 +364,8 @@ fn add_statements(graph: &mut WireGraph, place: &Place, list: &[Control]) -> Res
 
 /// Adds what the invokes of a component's control say.
 fn add_control(graph: &mut WireGraph, place: &Place, control: &ControlPart) -> Result<(), Memory>
-    requires { ControlHasNumbers (names_at place.now) control.now }
+    requires names { graph.old.ports.names ≡ names_at place.now }
+    requires control { ControlHasNumbers (names_at place.now) control.now }
     ensures { OnOk result (AddsGroups (design_at place.now) (comp_at place.now) (groups_invoked (design_at place.now) (comp_at place.now) (control_statements (control_tree (names_at place.now) control.now))) graph.old graph.new) }
 {
     match control {
@@ -377,37 +390,41 @@ fn pin_name(prim: Prim, place: usize) -> &'static str
 /// Adds that an output of a cell of a primitive reads an input, if it depends on it.
 fn add_through(
     graph: &mut WireGraph,
-    cell: &[u8],
+    cell: NameId,
     prim: Prim,
     output: usize,
     input: usize,
 ) -> Result<(), Memory>
+    requires cell { IsNumberOf graph.old.ports.names cell }
     requires made { IsMade prim }
     requires output { output < length (outputs_of prim) }
     requires input { input < length (inputs_of prim) }
-    ensures { OnOk result (Grows (ReadsThrough cell.now prim (name_at (outputs_of prim) output) (name_at (inputs_of prim) input)) graph.old graph.new) }
+    ensures { (names : List Text) → graph.old.ports.names ≡ names
+        → OnOk result (Grows (ReadsThrough (text_of names cell) prim (name_at (outputs_of prim) output) (name_at (inputs_of prim) input)) graph.old graph.new) }
 {
     if !prim.through(input, output) {
         return Ok(());
     }
     let place = prim.inputs() + output;
     let pin = pin_name(prim, place);
-    let number = graph.port(PortText::of(cell, pin.as_bytes()))?;
+    let number = graph.port(cell_port(cell, PinName::Text(pin.as_bytes())))?;
     let read = pin_name(prim, input);
-    let other = graph.port(PortText::of(cell, read.as_bytes()))?;
+    let other = graph.port(cell_port(cell, PinName::Text(read.as_bytes())))?;
     graph.add(number, other)
 }
 
 /// Adds on which inputs an output of a cell of a primitive depends.
 fn add_primitive_output(
     graph: &mut WireGraph,
-    cell: &[u8],
+    cell: NameId,
     prim: Prim,
     output: usize,
 ) -> Result<(), Memory>
+    requires cell { IsNumberOf graph.old.ports.names cell }
     requires made { IsMade prim }
     requires output { output < length (outputs_of prim) }
-    ensures { OnOk result (Grows (ReadsOutput cell.now prim (name_at (outputs_of prim) output)) graph.old graph.new) }
+    ensures { (names : List Text) → graph.old.ports.names ≡ names
+        → OnOk result (Grows (ReadsOutput (text_of names cell) prim (name_at (outputs_of prim) output)) graph.old graph.new) }
 {
     for input in 0..prim.inputs() {
         add_through(graph, cell, prim, output, input)?;
@@ -416,9 +433,11 @@ fn add_primitive_output(
 }
 
 /// Adds on which inputs the outputs of a cell of a primitive depend.
-fn add_primitive(graph: &mut WireGraph, cell: &[u8], prim: Prim) -> Result<(), Memory>
-    requires { IsMade prim }
-    ensures { OnOk result (Grows (ReadsInPrimitive cell.now prim) graph.old graph.new) }
+fn add_primitive(graph: &mut WireGraph, cell: NameId, prim: Prim) -> Result<(), Memory>
+    requires cell { IsNumberOf graph.old.ports.names cell }
+    requires made { IsMade prim }
+    ensures { (names : List Text) → graph.old.ports.names ≡ names
+        → OnOk result (Grows (ReadsInPrimitive (text_of names cell) prim) graph.old graph.new) }
 {
     for output in 0..prim.outputs() {
         add_primitive_output(graph, cell, prim, output)?;
@@ -426,89 +445,58 @@ fn add_primitive(graph: &mut WireGraph, cell: &[u8], prim: Prim) -> Result<(), M
     Ok(())
 }
 
-/// The ports of a cell by their names, and the numbers in the graph of those that are known.
-#[derive(Drop)]
-struct CellPorts<'a> {
-    cell: &'a [u8],
-    names: &'a Names,
-    known: BTreeMap<usize, usize>,
-}
-
-impl<'a> CellPorts<'a> {
-    ghost use Rattle.std.specs.Prelude.{◌≡◌, ◌<◌, IfOk, OnOk, length};
-    ghost use Rattle.cal_check.specs.Readings.{AreKnown, numbered};
-    ghost use Rattle.cal_check.specs.WireGraphs.{Grows, HasNumber, NoPair};
-
-    /// The number of the port at this place; a new one goes last. Its name is made once.
-    fn number(&mut self, graph: &mut WireGraph, place: usize) -> Result<usize, Memory>
-        requires place { place < length self.old.names.now }
-        requires known { AreKnown graph.old self.old }
-        ensures number { IfOk result (HasNumber graph.new (numbered self.old.cell.now self.old.names.now place)) }
-        ensures known { OnOk result (AreKnown graph.new self.new) }
-        ensures grows { OnOk result (Grows NoPair graph.old graph.new) }
-        ensures cell { self.new.cell ≡ self.old.cell }
-        ensures names { self.new.names ≡ self.old.names }
-    {
-        if let Some(number) = self.known.get(&place) {
-            return Ok(*number);
-        }
-        let number = graph.port(PortText::of(self.cell, text_at(self.names, place)))?;
-        self.known.insert(place, number)?;
-        Ok(number)
-    }
+/// A cell that is made of a component: the number of its name, and that of the component.
+#[derive(Clone, Copy)]
+struct PartCell {
+    name: NameId,
+    part: usize,
 }
 
 /// Adds that a port of a cell reads others of it, by their places.
 fn add_part_output(
     graph: &mut WireGraph,
-    ports: &mut CellPorts,
+    place: &Place,
+    cell: PartCell,
     output: usize,
     inputs: &[usize],
 ) -> Result<(), Memory>
-    requires output { output < length ports.old.names.now }
-    requires inputs { All (λ input. input < length ports.old.names.now) inputs.now }
-    requires known { AreKnown graph.old ports.old }
-    ensures reads { OnOk result (Grows (ReadsNumbers ports.old.cell.now ports.old.names.now output inputs.now) graph.old graph.new) }
-    ensures known { OnOk result (AreKnown graph.new ports.new) }
-    ensures cell { ports.new.cell ≡ ports.old.cell }
-    ensures names { ports.new.names ≡ ports.old.names }
+    requires names { graph.old.ports.names ≡ names_at place.now }
+    requires cell { IsNumberOf (names_at place.now) cell.name }
+    requires part { cell.part < length (design_at place.now) }
+    requires output { (c : Component) → slice_get (design_at place.now) cell.part ≡ Some c → output < length (ports_in c) }
+    requires inputs { (c : Component) → slice_get (design_at place.now) cell.part ≡ Some c → All (λ input. input < length (ports_in c)) inputs.now }
+    ensures { (c : Component) → slice_get (design_at place.now) cell.part ≡ Some c
+        → OnOk result (Grows (ReadsNumbers (text_of (names_at place.now) cell.name) (ports_in c) output inputs.now) graph.old graph.new) }
 {
     if inputs.is_empty() {
         return Ok(());
     }
-    let number = ports.number(graph, output)?;
+    let number = graph.port(cell_port(cell.name, place.pin_of(cell.part, output)))?;
     for input in inputs {
-        let other = ports.number(graph, *input)?;
+        let other = graph.port(cell_port(cell.name, place.pin_of(cell.part, *input)))?;
         graph.add(number, other)?;
     }
     Ok(())
 }
 
-/// Adds on which inputs the outputs of a cell depend that is made of the component of this number.
+/// Adds on which inputs the outputs of a cell depend that is made of a component with these wires.
 fn add_part(
     graph: &mut WireGraph,
     place: &Place,
-    cell: &[u8],
-    part: usize,
+    cell: PartCell,
     wires: &Wires,
 ) -> Result<(), Memory>
-    requires kept { KeepsRules (design_at place.now) }
-    requires part { part < length (design_at place.now) }
-    requires wires { (c : Component) → slice_get (design_at place.now) part ≡ Some c → DependsOn (design_at place.now) c wires.now }
-    ensures { (c : Component) → slice_get (design_at place.now) part ≡ Some c
-        → OnOk result (Grows (ReadsInPart (design_at place.now) cell.now c) graph.old graph.new) }
+    requires names { graph.old.ports.names ≡ names_at place.now }
+    requires cell { IsNumberOf (names_at place.now) cell.name }
+    requires part { cell.part < length (design_at place.now) }
+    requires wires { (c : Component) → slice_get (design_at place.now) cell.part ≡ Some c → DependsOn (design_at place.now) c wires.now }
+    ensures { (c : Component) → slice_get (design_at place.now) cell.part ≡ Some c
+        → OnOk result (Grows (ReadsInPart (design_at place.now) (text_of (names_at place.now) cell.name) c) graph.old graph.new) }
 {
-    let inputs = place.signature_of(part).inputs;
-    let names = part_names(place, part);
-    let _count = names.len();
-    let mut ports = CellPorts {
-        cell,
-        names,
-        known: BTreeMap::new(graph.alloc),
-    };
+    let inputs = place.signature_of(cell.part).inputs;
     for (output, reached) in wires.inputs.iter().enumerate() {
         let number = inputs + output;
-        add_part_output(graph, &mut ports, number, reached)?;
+        add_part_output(graph, place, cell, number, reached)?;
     }
     Ok(())
 }
@@ -528,16 +516,19 @@ fn add_cell(
     wires: &[Wires],
     number: usize,
 ) -> Result<(), Memory>
+    requires names { graph.old.ports.names ≡ names_at place.now }
     requires kept { KeepsRules (design_at place.now) }
     requires parts { ShowsParts (design_at place.now) place.now.number wires.now }
     requires number { number < length (comp_at place.now).cells }
     ensures { (cell : CellDef) → slice_get (comp_at place.now).cells number ≡ Some cell
         → OnOk result (Grows (ReadsInCell (design_at place.now) (comp_at place.now) cell.name) graph.old graph.new) }
 {
-    let name = place.text(place.comp().cells[number].name);
+    let name = place.comp().cells[number].name;
     match place.made(number) {
         Some(Made::Primitive(prim)) => add_primitive(graph, name, prim),
-        Some(Made::Component(part)) => add_part(graph, place, name, part, wires_at(wires, part)),
+        Some(Made::Component(part)) => {
+            add_part(graph, place, PartCell { name, part }, wires_at(wires, part))
+        }
         None => Ok(()),
     }
 }
@@ -545,6 +536,7 @@ fn add_cell(
 /// Adds on which inputs the outputs of the component's cells depend, where `wires` are those of all components before it
 /// in the order of parts, by their numbers.
 fn add_cells(graph: &mut WireGraph, place: &Place, wires: &[Wires]) -> Result<(), Memory>
+    requires names { graph.old.ports.names ≡ names_at place.now }
     requires kept { KeepsRules (design_at place.now) }
     requires parts { ShowsParts (design_at place.now) place.now.number wires.now }
     ensures { OnOk result (Grows (ReadsInCells (design_at place.now) (comp_at place.now)) graph.old graph.new) }
@@ -558,26 +550,30 @@ fn add_cells(graph: &mut WireGraph, place: &Place, wires: &[Wires]) -> Result<()
 /// Numbers the component's own inputs, in their order.
 fn add_inputs(graph: &mut WireGraph, place: &Place) -> Result<(), Memory>
     requires kept { KeepsRules (design_at place.now) }
-    requires none { graph.old.keys ≡ [] }
-    ensures inputs { OnOk result (graph.new.keys ≡ map input_key (inputs_in (comp_at place.now))) }
+    requires none { graph.old.ports.keys ≡ [] }
+    ensures inputs { OnOk result (graph.new.ports.keys ≡ map input_key (inputs_in (comp_at place.now))) }
     ensures grows { OnOk result (Grows NoPair graph.old graph.new) }
 {
     let ports = port_names(place);
     for input in 0..place.signature().inputs {
-        let _number = graph.port(PortText::own(text_at(ports, input)))?;
+        let _number = graph.port(own_port(PinName::Text(text_at(ports, input))))?;
     }
     Ok(())
 }
 
 /// Which port of the component reads which within a row. Its own inputs are the first ports, by their numbers.
-fn wire_graph(alloc: Global, place: &Place, wires: &[Wires]) -> Result<WireGraph, Memory>
+fn wire_graph<'a>(
+    alloc: Global,
+    place: &Place<'a>,
+    wires: &[Wires],
+) -> Result<WireGraph<'a>, Memory>
     requires kept { KeepsRules (design_at place.now) }
     requires parts { ShowsParts (design_at place.now) place.now.number wires.now }
     ensures reads { IfOk result (IsGraphOf (design_at place.now) (comp_at place.now)) }
-    ensures inputs { IfOk result (λ graph. KeepsTexts (map input_key (inputs_in (comp_at place.now))) graph.keys) }
+    ensures inputs { IfOk result (λ graph. KeepsTexts (map input_key (inputs_in (comp_at place.now))) graph.ports.keys) }
 {
     let comp = place.comp();
-    let mut graph = WireGraph::new(alloc);
+    let mut graph = WireGraph::new(alloc, place.names());
     add_inputs(&mut graph, place)?;
     add_sets(&mut graph, place, None, &comp.sets)?;
     add_groups(&mut graph, place, &comp.groups)?;
@@ -609,14 +605,14 @@ fn inputs_of(
 ) -> Result<Vec<usize>, Memory>
     requires in_range { AreInRange reads.now }
     requires size { reach.old ≡ length reads.now }
-    requires keys { length reads.now ≡ length graph.now.keys }
-    requires distinct { AreDistinct graph.now.keys }
+    requires keys { length reads.now ≡ length graph.now.ports.keys }
+    requires distinct { AreDistinct graph.now.ports.keys }
     ensures reached { IfOk result (λ numbers. (i : ℕ) → Contains numbers.items i ↔ ((i < inputs) × LeadsTo graph.now reads.now output.now i)) }
     ensures size { reach.new ≡ reach.old }
 {
-    match graph.find(PortText::own(output))? {
+    match graph.ports.find(own_port(PinName::Text(output))) {
         Some(start) => {
-            let reached = reach.from(graph.alloc, reads, start.0 as usize)?;
+            let reached = reach.from(graph.alloc, reads, start)?;
             below(graph.alloc, &reached, inputs)
         }
         None => Ok(Vec::new(graph.alloc)),
@@ -627,9 +623,9 @@ fn inputs_of(
 fn wires_of(place: &Place, graph: &WireGraph, reads: &Groups) -> Result<Wires, Memory>
     requires kept { KeepsRules (design_at place.now) }
     requires graph { IsGraphOf (design_at place.now) (comp_at place.now) graph.now }
-    requires inputs { KeepsTexts (map input_key (inputs_in (comp_at place.now))) graph.now.keys }
-    requires distinct { AreDistinct graph.now.keys }
-    requires reads { IsGathered graph.now.entries.items (length graph.now.keys) reads.now }
+    requires inputs { KeepsTexts (map input_key (inputs_in (comp_at place.now))) graph.now.ports.keys }
+    requires distinct { AreDistinct graph.now.ports.keys }
+    requires reads { IsGathered graph.now.entries.items (length graph.now.ports.keys) reads.now }
     ensures { IfOk result (DependsOn (design_at place.now) (comp_at place.now)) }
 {
     let ports = port_names(place);
@@ -652,9 +648,9 @@ fn part_wires(
 ) -> Result<Wires, Memory>
     requires kept { KeepsRules (design_at place.now) }
     requires graph { IsGraphOf (design_at place.now) (comp_at place.now) graph.now }
-    requires inputs { KeepsTexts (map input_key (inputs_in (comp_at place.now))) graph.now.keys }
-    requires distinct { AreDistinct graph.now.keys }
-    requires reads { IsGathered graph.now.entries.items (length graph.now.keys) reads.now }
+    requires inputs { KeepsTexts (map input_key (inputs_in (comp_at place.now))) graph.now.ports.keys }
+    requires distinct { AreDistinct graph.now.ports.keys }
+    requires reads { IsGathered graph.now.entries.items (length graph.now.ports.keys) reads.now }
     ensures { IsTrue is_part → IfOk result (DependsOn (design_at place.now) (comp_at place.now)) }
 {
     if is_part {
@@ -662,46 +658,6 @@ fn part_wires(
     }
     let inputs = Vec::new(graph.alloc);
     Ok(Wires { inputs })
-}
-
-/// Puts the full name last that the key tells, if it is a port's.
-fn add_full_name(alloc: Global, names: &mut Vec<Word>, key: &[u8]) -> Result<(), Memory>
-    ensures { (node : Node) → key.now ≡ key_of node → OnOk result (names.new.items ≡ names.old.items ++ map shown (node_ports node)) }
-{
-    match name_in(alloc, key)? {
-        Some(name) => {
-            names.push(name)?;
-            Ok(())
-        }
-        None => Ok(()),
-    }
-}
-
-/// The full names of those of the numbers that are ports.
-fn full_names(alloc: Global, keys: &Names, numbers: &[usize]) -> Result<Vec<Word>, Memory>
-    requires { All (λ number. number < length keys.now) numbers.now }
-    ensures { (node : ℕ → Node) → All (λ number. slice_get keys.now number ≡ Some (key_of (node number))) numbers.now
-        → IfOk result (λ names. names.items ≡ flat_map (λ number. map shown (node_ports (node number))) numbers.now) }
-{
-    let mut names = Vec::new(alloc);
-    for number in numbers {
-        add_full_name(alloc, &mut names, text_at(keys, *number))?;
-    }
-    Ok(names)
-}
-
-/// The least loop, if there is a loop.
-fn least_loop(graph: &WireGraph, reads: &Groups) -> Result<Option<Vec<Word>>, Memory>
-    requires distinct { AreDistinct graph.now.keys }
-    requires room { length graph.now.keys < 2 ^ 32 }
-    requires reads { IsGathered graph.now.entries.items (length graph.now.keys) reads.now }
-    ensures { (design : Design) (c : Component) → IsGraphOf design c graph.now → IfOk result (TellsLoop design c) }
-{
-    match order_or_least_loop(graph.alloc, reads, &graph.keys) {
-        Ok(_order) => Ok(None),
-        Err(OrderEnd::Loop { ports }) => Ok(Some(full_names(graph.alloc, &graph.keys, &ports)?)),
-        Err(OrderEnd::Memory) => Err(Memory),
-    }
 }
 
 /// Judges a component of a design that keeps C1 to C11 by C12, where `wires` are those of its parts, by the numbers of
@@ -718,7 +674,7 @@ pub fn judge_wires(
     ensures cycle { IfOk result (λ judged. TellsLoop (design_at place.now) (comp_at place.now) judged.least_loop) }
 {
     let graph = wire_graph(alloc, place, wires)?;
-    let reads = gather(alloc, graph.entries.as_slice(), graph.keys.len())?;
+    let reads = gather(alloc, graph.entries.as_slice(), graph.ports.len())?;
     let least_loop = least_loop(&graph, &reads)?;
     let wires = part_wires(place, &graph, &reads, is_part)?;
     Ok(Judged { wires, least_loop })

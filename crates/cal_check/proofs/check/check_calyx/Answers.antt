@@ -1,7 +1,7 @@
 use Rattle.std.proofs.Common.{◌≡◌, Option, Some, length, slice_get, refl, sym, subst, arith}
 use Rattle.std.proofs.lemmas.Option.{slice_get_read}
 use Rattle.cal_ast.specs.Tree.{design_of}
-use Rattle.cal_check.specs.FirstLoop.{TellsFirstLoop}
+use Rattle.cal_check.specs.inside.FirstLoop.{TellsFirstLoop}
 use Rattle.cal_check.specs.Tables.{AreMade}
 use Rattle.cal_check.specs.Told.{TellsRefusal}
 use Rattle.cal_check.specs.declared.check.Looped.{Looped}

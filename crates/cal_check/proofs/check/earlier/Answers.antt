@@ -1,6 +1,6 @@
 use Rattle.std.proofs.Common.{Option, Vec, Global, subst}
 use Rattle.hw_names.specs.Name.{Text}
-use Rattle.cal_check.specs.Wiring.{TellsLoop}
+use Rattle.cal_check.specs.inside.Wiring.{TellsLoop}
 use Rattle.cal_check.proofs.LoopedLemmas.{clear_more, looped_here, looped_kept, stands_later}
 use Rattle.cal_check.proofs.check.earlier.Goals as goal
 

@@ -1,7 +1,7 @@
 use Rattle.std.proofs.Common.{◌≡◌, ◌<◌, ℕ, List, length, take, get_or, subst, ap, ◌∙◌, arith}
 use Rattle.std.proofs.lemmas.List.{length-map, length-set, take_all}
 use Rattle.cal_ast.specs.Tree.{component_tree, design_of}
-use Rattle.cal_check.specs.FirstLoop.{TellsFirstLooped}
+use Rattle.cal_check.specs.inside.FirstLoop.{TellsFirstLooped}
 use Rattle.cal_check.proofs.GraphLemmas.{exists_at}
 use Rattle.cal_check.proofs.LoopedLemmas.{first_loop_told, in_order, knows_next, knows_none, looped_none, no_other_order, numbers_next, parts_first, parts_shown}
 use Rattle.cal_check.proofs.check.first_looped.Goals as goal

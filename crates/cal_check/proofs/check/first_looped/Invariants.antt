@@ -1,6 +1,6 @@
 use Rattle.std.proofs.Common.{◌≡◌, length, take}
 use Rattle.cal_ast.specs.Tree.{design_of}
-use Rattle.cal_check.specs.FirstLoop.{TellsFirstLooped}
+use Rattle.cal_check.specs.inside.FirstLoop.{TellsFirstLooped}
 use Rattle.cal_check.proofs.LoopedLemmas.{KnowsParts}
 use Rattle.cal_check.proofs.check.first_looped.Given as goal
 

@@ -4,7 +4,7 @@ use Rattle.std.proofs.lemmas.Option.{same_Some}
 use Rattle.cal_ast.specs.Rules.{KeepsRules}
 use Rattle.cal_ast.specs.Tree.{Component, Design, component_tree, design_of}
 use Rattle.cal_check.specs.Around.{comp_at}
-use Rattle.cal_check.specs.Wiring.{DependsOn, ShowsParts, TellsLoop}
+use Rattle.cal_check.specs.inside.Wiring.{DependsOn, ShowsParts, TellsLoop}
 use Rattle.cal_check.specs.declared.wires.Judged.{Judged}
 use Rattle.cal_check.proofs.LoopedLemmas.{told_part}
 use Rattle.cal_check.proofs.check.judge_number.Goals as goal

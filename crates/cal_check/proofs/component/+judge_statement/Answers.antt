@@ -5,7 +5,7 @@ use Rattle.cal_ast.specs.Numbers.{StatementHasNumbers}
 use Rattle.cal_ast.specs.Tree.{Statement, statement_tree}
 use Rattle.cal_ast.specs.declared.tree.Control.{Control, the_lemmas}
 use Rattle.cal_check.specs.Around.{names_at}
-use Rattle.cal_check.specs.Walks.{Passes, WalksOver, statements_from}
+use Rattle.cal_check.specs.inside.Walks.{Passes, WalksOver, statements_from}
 use Rattle.cal_check.proofs.BranchLemmas.{begins, branch_none, branch_some, trees}
 use Rattle.cal_check.proofs.FoundLemmas.{to_map}
 use Rattle.cal_check.proofs.ListLemmas.{at_mapped}

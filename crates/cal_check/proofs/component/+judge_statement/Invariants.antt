@@ -2,7 +2,7 @@ use Rattle.std.proofs.Common.{map, take}
 use Rattle.std.specs.Prelude.{flat_map}
 use Rattle.cal_ast.specs.Tree.{statement_tree}
 use Rattle.cal_check.specs.Around.{names_at}
-use Rattle.cal_check.specs.Walks.{Passes}
+use Rattle.cal_check.specs.inside.Walks.{Passes}
 use Rattle.cal_check.proofs.RowLemmas.{items_in}
 use Rattle.cal_check.proofs.component.+judge_statement.Given as goal
 

@@ -1,7 +1,7 @@
 use Rattle.std.proofs.Common.{take}
 use Rattle.cal_ast.specs.Items.{TheCell, each}
 use Rattle.cal_check.specs.Around.{comp_at}
-use Rattle.cal_check.specs.Walks.{Passes}
+use Rattle.cal_check.specs.inside.Walks.{Passes}
 use Rattle.cal_check.proofs.component.judge_cells.Given as goal
 
 abbrev pub invariant-loop-number : goal.invariant-loop-number

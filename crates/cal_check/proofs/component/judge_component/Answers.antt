@@ -7,7 +7,7 @@ use Rattle.cal_ast.specs.declared.tree.Assign.{Assign}
 use Rattle.cal_ast.specs.declared.tree.CalCell.{CalCell}
 use Rattle.cal_ast.specs.declared.tree.Group.{Group}
 use Rattle.cal_check.specs.Around.{names_at}
-use Rattle.cal_check.specs.Walks.{Passes, WalksOver}
+use Rattle.cal_check.specs.inside.Walks.{Passes, WalksOver}
 use Rattle.cal_check.specs.declared.walk.Walk.{Walk}
 use Rattle.cal_check.proofs.ComponentLemmas.{cell_part, end_told, ends_by_cells, ends_by_groups, ends_by_sets, ends_by_signature, group_part, set_part, signature_part, statement_part, to_cells, to_groups, to_sets, walk_told}
 use Rattle.cal_check.proofs.WalkLemmas.{Ends, ended, ends_later, passes_both, walks_on}

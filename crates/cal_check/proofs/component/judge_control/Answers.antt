@@ -3,7 +3,7 @@ use Rattle.cal_ast.specs.Items.{TheStatement, control_statements}
 use Rattle.cal_ast.specs.Tree.{control_tree}
 use Rattle.cal_ast.specs.declared.tree.ControlPart.{ControlPart}
 use Rattle.cal_check.specs.Around.{names_at}
-use Rattle.cal_check.specs.Walks.{Passes, WalksOver}
+use Rattle.cal_check.specs.inside.Walks.{Passes, WalksOver}
 use Rattle.cal_check.proofs.WalkLemmas.{passes_none}
 use Rattle.cal_check.proofs.component.judge_control.Goals as goal
 

@@ -2,7 +2,7 @@ use Rattle.std.proofs.Common.{take}
 use Rattle.cal_ast.specs.Items.{TheDone, each}
 use Rattle.cal_ast.specs.Tree.{group_tree}
 use Rattle.cal_check.specs.Around.{names_at}
-use Rattle.cal_check.specs.Walks.{Passes}
+use Rattle.cal_check.specs.inside.Walks.{Passes}
 use Rattle.cal_check.proofs.component.judge_dones.Given as goal
 
 abbrev pub invariant-loop-number : goal.invariant-loop-number

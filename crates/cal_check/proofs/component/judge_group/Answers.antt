@@ -4,7 +4,7 @@ use Rattle.cal_ast.specs.Numbers.{SetHasNumbers}
 use Rattle.cal_ast.specs.Tree.{assignment_tree, group_tree}
 use Rattle.cal_ast.specs.declared.tree.Assign.{Assign}
 use Rattle.cal_check.specs.Around.{comp_at, names_at}
-use Rattle.cal_check.specs.Walks.{Passes}
+use Rattle.cal_check.specs.inside.Walks.{Passes}
 use Rattle.cal_check.proofs.WalkLemmas.{Ends, ended, ends_later, ends_sooner, passes_both, walk_passed, walks_on}
 use Rattle.cal_check.proofs.component.judge_group.Goals as goal
 

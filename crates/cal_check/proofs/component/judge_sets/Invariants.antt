@@ -2,7 +2,7 @@ use Rattle.std.proofs.Common.{map, take}
 use Rattle.cal_ast.specs.Items.{TheAssignment}
 use Rattle.cal_ast.specs.Tree.{assignment_tree}
 use Rattle.cal_check.specs.Around.{names_at}
-use Rattle.cal_check.specs.Walks.{Passes}
+use Rattle.cal_check.specs.inside.Walks.{Passes}
 use Rattle.cal_check.proofs.component.judge_sets.Given as goal
 
 abbrev pub invariant-loop-set : goal.invariant-loop-set

@@ -5,7 +5,7 @@ use Rattle.hw_names.specs.Name.{Text, text_of}
 use Rattle.hw_names.specs.declared.names.NameId.{NameId}
 use Rattle.net_core.specs.Numbers.{IsNumberOf}
 use Rattle.cal_check.specs.Around.{comp_at, names_at}
-use Rattle.cal_check.specs.Groups.{IsGroup}
+use Rattle.cal_check.specs.inside.Groups.{IsGroup}
 use Rattle.cal_check.proofs.ListLemmas.{told_true}
 use Rattle.cal_check.proofs.controlling.is_combinational.Goals as goal
 

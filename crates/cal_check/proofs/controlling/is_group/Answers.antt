@@ -3,7 +3,7 @@ use Rattle.hw_names.specs.Name.{text_of}
 use Rattle.cal_ast.specs.Tree.{group_tree}
 use Rattle.cal_ast.specs.declared.tree.Group.{Group}
 use Rattle.cal_check.specs.Around.{comp_at, names_at}
-use Rattle.cal_check.specs.Groups.{IsGroup}
+use Rattle.cal_check.specs.inside.Groups.{IsGroup}
 use Rattle.cal_check.proofs.GroupLemmas.{group_told, no_group}
 use Rattle.cal_check.proofs.GuardLemmas.{both_ways}
 use Rattle.cal_check.proofs.ListLemmas.{told_false}

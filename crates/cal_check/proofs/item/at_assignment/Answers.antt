@@ -8,7 +8,7 @@ use Rattle.cal_ast.specs.Wires.{set_ports}
 use Rattle.cal_ast.specs.declared.tree.CalPort.{CalPort}
 use Rattle.net_core.specs.Graph.{option_ports, source_ports}
 use Rattle.cal_check.specs.Around.{KeepsAt, comp_at, design_at, names_at}
-use Rattle.cal_check.specs.Read.{AreReads}
+use Rattle.cal_check.specs.inside.Read.{AreReads}
 use Rattle.cal_check.proofs.LeastLemmas.{all_kept, is_C2, is_C4, is_C5, is_C6}
 use Rattle.cal_check.proofs.ReadLemmas.{all_both}
 use Rattle.cal_check.proofs.item.at_assignment.Goals as goal

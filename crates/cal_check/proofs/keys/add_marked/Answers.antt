@@ -1,6 +1,6 @@
 use Rattle.std.proofs.Common.{ℕ, List, [], ◌∷◌, ◌++◌, get_or, sym, ap, ◌∙◌}
 use Rattle.std.proofs.lemmas.List.{append-nil, take_all}
-use Rattle.cal_check.specs.Nodes.{marked}
+use Rattle.cal_check.specs.inside.Nodes.{marked}
 use Rattle.cal_check.proofs.KeyLemmas.{marked_more}
 use Rattle.cal_check.proofs.keys.add_marked.Goals as goal
 

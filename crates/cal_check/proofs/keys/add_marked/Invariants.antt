@@ -1,5 +1,5 @@
 use Rattle.std.proofs.Common.{◌≡◌, ◌++◌, take}
-use Rattle.cal_check.specs.Nodes.{marked}
+use Rattle.cal_check.specs.inside.Nodes.{marked}
 use Rattle.cal_check.proofs.keys.add_marked.Given as goal
 
 -- the bytes so far are there

@@ -1,6 +1,6 @@
 use Rattle.std.proofs.Common.{◌≡◌, ◌≤◌, ◌+◌, ℕ, List, ◌++◌, Some, length, drop, length-drop, sym, ap, subst, ◌∙◌, arith}
 use Rattle.hw_names.specs.Name.{Text}
-use Rattle.cal_check.specs.Nodes.{IsName, marked}
+use Rattle.cal_check.specs.inside.Nodes.{IsName, marked}
 use Rattle.cal_check.proofs.KeyLemmas.{name_told, none_told, read_more}
 use Rattle.cal_check.proofs.keys.name_in.Goals as goal
 

@@ -1,5 +1,5 @@
 use Rattle.std.proofs.Common.{◌≡◌, ◌≤◌, ◌-◌, ◌++◌, drop, length}
-use Rattle.cal_check.specs.Nodes.{marked}
+use Rattle.cal_check.specs.inside.Nodes.{marked}
 use Rattle.cal_check.proofs.keys.name_in.Given as goal
 
 -- what was read of the key, and what is left of it

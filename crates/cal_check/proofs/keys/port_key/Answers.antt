@@ -1,7 +1,7 @@
 use Rattle.std.proofs.Common.{◌≡◌, ◌++◌, [], ◌∷◌, Bor, Option, option_map, append_assoc, ap, sym, ◌∙◌}
 use Rattle.hw_names.specs.Name.{Text, dot}
 use Rattle.cal_ast.specs.Tree.{port_of}
-use Rattle.cal_check.specs.Nodes.{APort, key_of, marked}
+use Rattle.cal_check.specs.inside.Nodes.{APort, key_of, marked}
 use Rattle.cal_check.specs.declared.keys.TheConstants.{BYTE, END}
 use Rattle.cal_check.proofs.KeyLemmas.{cell_port_key}
 use Rattle.cal_check.proofs.keys.port_key.Goals as goal

@@ -1,6 +1,6 @@
 use Rattle.std.proofs.Common.{◌++◌, List, None, Option, map, get_or, sym, ap, ◌∙◌, append-nil}
 use Rattle.std.proofs.lemmas.List.{get_or_default, take_all}
-use Rattle.cal_check.specs.Entries.{holder_read, part_read, parts_in}
+use Rattle.cal_check.specs.inside.Entries.{holder_read, part_read, parts_in}
 use Rattle.cal_check.specs.declared.made.Made.{Made}
 use Rattle.cal_check.proofs.GraphLemmas.{entries_step}
 use Rattle.cal_check.proofs.nesting.add_entries.Goals as goal

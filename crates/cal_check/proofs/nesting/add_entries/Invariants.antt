@@ -1,5 +1,5 @@
 use Rattle.std.proofs.Common.{◌≡◌, ◌++◌, map, take}
-use Rattle.cal_check.specs.Entries.{holder_read, part_read, parts_in}
+use Rattle.cal_check.specs.inside.Entries.{holder_read, part_read, parts_in}
 use Rattle.cal_check.proofs.nesting.add_entries.Given as goal
 
 abbrev pub invariant-loop-cell : goal.invariant-loop-cell

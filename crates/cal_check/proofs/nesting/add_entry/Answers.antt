@@ -1,5 +1,5 @@
 use Rattle.std.proofs.Common.{refl}
-use Rattle.cal_check.specs.Entries.{holder_read, part_read}
+use Rattle.cal_check.specs.inside.Entries.{holder_read, part_read}
 use Rattle.cal_check.proofs.EntryLemmas.{no_entry, one_entry}
 use Rattle.cal_check.proofs.nesting.add_entry.Goals as goal
 

@@ -1,7 +1,7 @@
 use Rattle.std.proofs.Common.{◌≡◌, ◌+◌, ◌<◌, ◌^◌, ◌∷◌, ◌++◌, [], Contains, subst, ap, ◌∙◌, arith}
 use Rattle.std.specs.Int.{to_be_bytes, w32}
 use Rattle.hw_names.specs.Name.{Text}
-use Rattle.cal_check.specs.Entries.{AreNumerals}
+use Rattle.cal_check.specs.inside.Entries.{AreNumerals}
 use Rattle.cal_check.proofs.NumeralLemmas.{new_numeral, no_numerals, numerals_more}
 use Rattle.cal_check.proofs.nesting.numerals.Goals as goal
 

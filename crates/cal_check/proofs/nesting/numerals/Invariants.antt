@@ -1,4 +1,4 @@
-use Rattle.cal_check.specs.Entries.{AreNumerals}
+use Rattle.cal_check.specs.inside.Entries.{AreNumerals}
 use Rattle.cal_check.proofs.nesting.numerals.Given as goal
 
 abbrev pub invariant-loop-number : goal.invariant-loop-number

@@ -5,7 +5,7 @@ use Rattle.hw_graph.specs.Loop.{AtLoop}
 use Rattle.hw_graph.specs.declared.order_end.OrderEnd.{OrderEnd}
 use Rattle.hw_graph.specs.declared.order_end.OrderEnd.TheVariants.{Loop}
 use Rattle.hw_names.specs.Name.{Text}
-use Rattle.cal_check.specs.Entries.{AreNumerals, IsFirstOnCycle}
+use Rattle.cal_check.specs.inside.Entries.{AreNumerals, IsFirstOnCycle}
 use Rattle.cal_check.proofs.HolderLemmas.{first_on_cycle}
 use Rattle.cal_check.proofs.nesting.order_of.Goals.{In-Err-Loop}
 use Rattle.cal_check.proofs.nesting.order_of.Goals as goal

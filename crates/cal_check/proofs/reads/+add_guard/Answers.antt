@@ -9,7 +9,7 @@ use Rattle.net_core.specs.declared.net.Guard.{Guard}
 use Rattle.cal_ast.specs.Numbers.{GuardHasNumbers}
 use Rattle.cal_ast.specs.Tree.{PortName, port_tree}
 use Rattle.cal_ast.specs.declared.tree.CalPort.{CalPort}
-use Rattle.cal_check.specs.Read.{AddsPorts}
+use Rattle.cal_check.specs.inside.Read.{AddsPorts}
 use Rattle.cal_check.proofs.ReadLemmas.{adds_both, adds_none, guard_list, guards_next}
 use Rattle.cal_check.proofs.RowLemmas.{list_numbers}
 use Rattle.cal_check.proofs.reads.+add_guard.Goals as goal

@@ -5,7 +5,7 @@ use Rattle.net_core.specs.Guard.{guard_tree, guards_of}
 use Rattle.net_core.specs.declared.net.Guard.{size-Guard}
 use Rattle.cal_ast.specs.Numbers.{GuardHasNumbers}
 use Rattle.cal_ast.specs.Tree.{port_tree}
-use Rattle.cal_check.specs.Read.{AddsPorts}
+use Rattle.cal_check.specs.inside.Read.{AddsPorts}
 use Rattle.cal_check.proofs.reads.+add_guard.Given as goal
 
 -- what is left reads what the guard reads, its names have texts, it is no deeper, and nothing is added yet

@@ -5,7 +5,7 @@ use Rattle.net_core.specs.declared.net.Src.{Src}
 use Rattle.cal_ast.specs.Numbers.{SourceHasNumbers}
 use Rattle.cal_ast.specs.Tree.{port_tree}
 use Rattle.cal_ast.specs.declared.tree.CalPort.{CalPort}
-use Rattle.cal_check.specs.Read.{AddsPorts}
+use Rattle.cal_check.specs.inside.Read.{AddsPorts}
 use Rattle.cal_check.proofs.ReadLemmas.{adds_none, adds_one}
 use Rattle.cal_check.proofs.reads.add_source.Goals as goal
 

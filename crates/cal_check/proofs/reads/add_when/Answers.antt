@@ -6,7 +6,7 @@ use Rattle.net_core.specs.declared.net.Guard.{Guard}
 use Rattle.cal_ast.specs.Numbers.{WhenHasNumbers}
 use Rattle.cal_ast.specs.Tree.{port_tree}
 use Rattle.cal_ast.specs.declared.tree.CalPort.{CalPort}
-use Rattle.cal_check.specs.Read.{AddsPorts}
+use Rattle.cal_check.specs.inside.Read.{AddsPorts}
 use Rattle.cal_check.proofs.ReadLemmas.{adds_none}
 use Rattle.cal_check.proofs.reads.add_when.Goals as goal
 

@@ -4,7 +4,7 @@ use Rattle.net_core.specs.Weight.{saturated}
 use Rattle.cal_ast.specs.Items.{statements_in, statements_of}
 use Rattle.cal_ast.specs.Tree.{Statement, in_tree, out_tree, statement_tree}
 use Rattle.cal_ast.specs.declared.tree.Control.{Control}
-use Rattle.cal_check.specs.Walks.{statements_from}
+use Rattle.cal_check.specs.inside.Walks.{statements_from}
 use Rattle.cal_check.specs.Weight.{statement_weight}
 use Rattle.cal_check.proofs.BranchLemmas.{branch_none, branch_some, branch_statements, trees}
 use Rattle.cal_check.proofs.ListLemmas.{at_mapped}

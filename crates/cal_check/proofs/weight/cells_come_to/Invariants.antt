@@ -1,7 +1,7 @@
 use Rattle.std.proofs.Common.{◌≡◌, ℕ, Some, slice_get, take}
 use Rattle.cal_ast.specs.Tree.{Component, Design}
 use Rattle.cal_check.specs.Mades.{AreMadeOf}
-use Rattle.cal_check.specs.Totals.{ArePartsWhole}
+use Rattle.cal_check.specs.inside.Totals.{ArePartsWhole}
 use Rattle.cal_check.proofs.WeightLemmas.{CellsWeigh}
 use Rattle.cal_check.proofs.weight.cells_come_to.Given as goal
 

@@ -5,7 +5,7 @@ use Rattle.cal_ast.specs.Tree.{Component, Design, component_tree, design_of}
 use Rattle.cal_check.specs.Mades.{AreMadeOf}
 use Rattle.cal_check.specs.Nests.{ArePartsFirst, ShowsOrder}
 use Rattle.cal_check.specs.Tables.{AreMade}
-use Rattle.cal_check.specs.Totals.{ArePartsWhole}
+use Rattle.cal_check.specs.inside.Totals.{ArePartsWhole}
 use Rattle.cal_check.specs.declared.made.Made.{Made}
 use Rattle.cal_check.specs.declared.nesting.PartOrder.{PartOrder}
 use Rattle.cal_check.specs.declared.nesting.PartOrder.TheVariants.{Parts}

@@ -1,6 +1,6 @@
 use Rattle.std.proofs.Common.{◌≡◌, ℕ, length}
 use Rattle.cal_ast.specs.Tree.{Component, design_of}
-use Rattle.cal_check.specs.Totals.{AreOwn}
+use Rattle.cal_check.specs.inside.Totals.{AreOwn}
 use Rattle.cal_check.proofs.WeightLemmas.{WeighSoFar}
 use Rattle.cal_check.proofs.weight.come_to.Given as goal
 

@@ -1,6 +1,6 @@
 use Rattle.std.proofs.Common.{take}
 use Rattle.cal_ast.specs.Tree.{design_of}
-use Rattle.cal_check.specs.Totals.{AreOwn}
+use Rattle.cal_check.specs.inside.Totals.{AreOwn}
 use Rattle.cal_check.specs.Weight.{own_weight}
 use Rattle.cal_check.proofs.weight.own_weights.Given as goal
 

@@ -1,7 +1,7 @@
 use Rattle.std.proofs.Common.{take}
 use Rattle.cal_ast.specs.Tree.{Design}
 use Rattle.cal_check.specs.Tables.{AreMade}
-use Rattle.cal_check.specs.Totals.{AreOwn}
+use Rattle.cal_check.specs.inside.Totals.{AreOwn}
 use Rattle.cal_check.specs.Weight.{own_words}
 use Rattle.cal_check.proofs.weight.own_words_of_each.Given as goal
 

@@ -10,8 +10,8 @@ use Rattle.cal_ast.specs.declared.tree.Control.{Control, the_lemmas}
 use Rattle.cal_ast.specs.declared.tree.InBind.{InBind}
 use Rattle.cal_ast.specs.declared.tree.OutBind.{OutBind}
 use Rattle.cal_check.specs.Around.{comp_at, design_at, names_at}
-use Rattle.cal_check.specs.Readings.{AddsGroups, group_invoked, groups_invoked}
-use Rattle.cal_check.specs.Walks.{statements_from}
+use Rattle.cal_check.specs.inside.Readings.{AddsGroups, group_invoked, groups_invoked}
+use Rattle.cal_check.specs.inside.Walks.{statements_from}
 use Rattle.cal_check.proofs.GainLemmas.{groups_both, groups_none}
 use Rattle.cal_check.proofs.InvokedLemmas.{groups_of_if, groups_of_next, groups_of_while}
 use Rattle.cal_check.proofs.RowLemmas.{par_numbers, par_tree, seq_numbers, seq_tree}
@@ -27,14 +27,14 @@ pub add_statement-add_statements-requires : goal.add_statement-add_statements-re
 add_statement-add_statements-requires t c =
     let names = names_at c.args.place.now in (
       search (rules, the_lemmas),
-      subst (λ (ss : List Control). All (StatementHasNumbers names) ss) (sym c.deref-in-Seq.ensures.value) (seq_numbers names c.in-Seq.list (subst (λ (s : Control). StatementHasNumbers names s) c.in-Seq.is c.requires)),
+      (c.requires.names, subst (λ (ss : List Control). All (StatementHasNumbers names) ss) (sym c.deref-in-Seq.ensures.value) (seq_numbers names c.in-Seq.list (subst (λ (s : Control). StatementHasNumbers names s) c.in-Seq.is c.requires.statement))),
     )
 
 pub add_statement-add_statements-requires-in-Par : goal.add_statement-add_statements-requires-in-Par
 add_statement-add_statements-requires-in-Par t c =
     let names = names_at c.args.place.now in (
       search (rules, the_lemmas),
-      subst (λ (ss : List Control). All (StatementHasNumbers names) ss) (sym c.deref-in-Par.ensures.value) (par_numbers names c.in-Par.list (subst (λ (s : Control). StatementHasNumbers names s) c.in-Par.is c.requires)),
+      (c.requires.names, subst (λ (ss : List Control). All (StatementHasNumbers names) ss) (sym c.deref-in-Par.ensures.value) (par_numbers names c.in-Par.list (subst (λ (s : Control). StatementHasNumbers names s) c.in-Par.is c.requires.statement))),
     )
 
 pub add_statement-returns-in-Invoke : goal.add_statement-returns-in-Invoke
@@ -106,7 +106,7 @@ pub add_statements-add_statement-requires : goal.add_statements-add_statement-re
 add_statements-add_statement-requires t c =
     let S : Control → Type 0 = StatementHasNumbers (names_at c.args.place.now) in (
       search (rules, the_lemmas),
-      subst S (sym c.statement-item.is) (c.requires c.loop-statement.statement-index c.statement-item.result c.loop-statement-test.true),
+      (c.loop-statement.invariant.adds.names ∙ c.requires.names, subst S (sym c.statement-item.is) (c.requires.list c.loop-statement.statement-index c.statement-item.result c.loop-statement-test.true)),
     )
 
 pub add_statements-loop-statement-preserved : goal.add_statements-loop-statement-preserved

@@ -2,8 +2,8 @@ use Rattle.std.proofs.Common.{map, take}
 use Rattle.cal_ast.specs.Items.{statements_of}
 use Rattle.cal_ast.specs.Tree.{statement_tree}
 use Rattle.cal_check.specs.Around.{comp_at, design_at, names_at}
-use Rattle.cal_check.specs.Readings.{AddsGroups, groups_invoked}
-use Rattle.cal_check.specs.Walks.{statements_from}
+use Rattle.cal_check.specs.inside.Readings.{AddsGroups, groups_invoked}
+use Rattle.cal_check.specs.inside.Walks.{statements_from}
 use Rattle.cal_check.proofs.wires.+add_statement.Given as goal
 
 -- the graph has the groups of the statements so far

@@ -1,7 +1,7 @@
-use Rattle.std.proofs.Common.{◌<◌, length, arith}
+use Rattle.std.proofs.Common.{◌<◌, length, ◌∙◌, arith}
 use Rattle.cal_ast.specs.Tree.{CellDef}
 use Rattle.cal_check.specs.Around.{comp_at, design_at}
-use Rattle.cal_check.specs.Readings.{ReadsInCell}
+use Rattle.cal_check.specs.inside.Readings.{ReadsInCell}
 use Rattle.cal_check.proofs.GainLemmas.{grows_all, grows_next, grows_start}
 use Rattle.cal_check.proofs.DependLemmas.{got_at}
 use Rattle.cal_check.proofs.WiredCellLemmas.{cells_counted}
@@ -11,6 +11,9 @@ pub loop-number-init : goal.loop-number-init
 loop-number-init c =
     let p = c.args.place.now in
     grows_start (λ j (cell : CellDef). ReadsInCell (design_at p) (comp_at p) cell.name) (comp_at p).cells c.args.graph.now
+
+pub add_cell-requires-clause-names : goal.add_cell-requires-clause-names
+add_cell-requires-clause-names c = c.loop-number.invariant.adds.names ∙ c.requires.names
 
 pub add_cell-requires-clause-number : goal.add_cell-requires-clause-number
 add_cell-requires-clause-number c =

@@ -1,8 +1,8 @@
 use Rattle.std.proofs.Common.{take}
 use Rattle.cal_ast.specs.Tree.{CellDef}
 use Rattle.cal_check.specs.Around.{comp_at, design_at}
-use Rattle.cal_check.specs.Readings.{AnyOf, ReadsInCell}
-use Rattle.cal_check.specs.WireGraphs.{Grows}
+use Rattle.cal_check.specs.inside.Readings.{AnyOf, ReadsInCell}
+use Rattle.cal_check.specs.inside.WireGraphs.{Grows}
 use Rattle.cal_check.proofs.wires.add_cells.Given as goal
 
 -- the graph has the cells so far

@@ -5,7 +5,7 @@ use Rattle.cal_ast.specs.Numbers.{ControlHasNumbers}
 use Rattle.cal_ast.specs.Tree.{control_tree}
 use Rattle.cal_ast.specs.declared.tree.ControlPart.{ControlPart}
 use Rattle.cal_check.specs.Around.{comp_at, design_at, names_at}
-use Rattle.cal_check.specs.Readings.{AddsGroups, groups_invoked}
+use Rattle.cal_check.specs.inside.Readings.{AddsGroups, groups_invoked}
 use Rattle.cal_check.proofs.GainLemmas.{groups_none}
 use Rattle.cal_check.proofs.wires.add_control.Goals as goal
 
@@ -22,7 +22,7 @@ returns-in-Empty c =
     subst (λ (part : ControlPart). AddsGroups (design_at p) (comp_at p) (groups_invoked (design_at p) (comp_at p) (control_statements (control_tree (names_at p) part))) g g) (sym c.in-Empty.is) (groups_none (design_at p) (comp_at p) g)
 
 pub add_statement-requires : goal.add_statement-requires
-add_statement-requires c = subst (λ (part : ControlPart). ControlHasNumbers (names_at c.args.place.now) part) c.in-Body.is c.requires
+add_statement-requires c = record { names = c.requires.names; statement = subst (λ (part : ControlPart). ControlHasNumbers (names_at c.args.place.now) part) c.in-Body.is c.requires.control }
 
 pub returns-in-Body : goal.returns-in-Body
 returns-in-Body c =

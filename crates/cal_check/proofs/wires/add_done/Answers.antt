@@ -1,12 +1,16 @@
-use Rattle.std.proofs.Common.{codes, ap, subst, ◌∙◌}
+use Rattle.std.proofs.Common.{List, codes, ap, sym, subst, ◌∙◌}
 use Rattle.std.proofs.lemmas.Result.{on_ok_weaker}
 use Rattle.hw_names.specs.Name.{Text, text_of}
+use Rattle.net_core.specs.Numbers.{IsNumberOf}
 use Rattle.cal_ast.specs.Tree.{PortName, port_of}
 use Rattle.cal_check.specs.Around.{names_at}
-use Rattle.cal_check.specs.Nodes.{APort, AHole}
-use Rattle.cal_check.specs.WireGraphs.{HasNumber, IsPair}
+use Rattle.cal_check.specs.inside.Nodes.{APort, AHole, port_by}
+use Rattle.cal_check.specs.inside.WireGraphs.{HasNumber, IsPair}
 use Rattle.cal_check.proofs.GainLemmas.{done_added, grows_after, number_kept, number_within}
 use Rattle.cal_check.proofs.wires.add_done.Goals as goal
+
+pub port-requires : goal.port-requires
+port-requires c = c.cell_port.ensures.numbers c.args.graph.now.ports.names (subst (λ (names : List Text). IsNumberOf names c.args.cell) (sym c.requires.names) c.requires.cell) tt
 
 pub add-requires : goal.add-requires
 add-requires c = record {
@@ -20,7 +24,8 @@ returns c =
     let k = c.args.hole.group in
     let start = c.args.graph.now in
     let mid = c.port.new.self in
-    let named = c.of.ensures ∙ ap (λ (t : Text). port_of t (codes "done")) c.text.ensures in
+    let names = ap (λ (names : List Text). port_by names c.cell_port.result) c.requires.names in
+    let named = names ∙ c.cell_port.ensures.is (names_at c.args.place.now) in
     let is = subst (λ (p : PortName). HasNumber mid (APort p) c.in_ok-done.done) named c.in_ok-done.ensures.number in
     let hole = number_kept start mid (AHole k) c.args.hole.node c.port.ensures.grows.adds.texts c.requires.hole in
     on_ok_weaker c.add.result

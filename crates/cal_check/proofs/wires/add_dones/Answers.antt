@@ -5,10 +5,10 @@ use Rattle.cal_ast.specs.Numbers.{DoneHasNumbers, PortHasNumbers}
 use Rattle.cal_ast.specs.Tree.{PortName, done_tree, port_tree}
 use Rattle.cal_ast.specs.declared.tree.DoneSet.{DoneSet}
 use Rattle.cal_check.specs.Around.{names_at}
-use Rattle.cal_check.specs.Nodes.{AHole}
-use Rattle.cal_check.specs.Read.{AreReads}
-use Rattle.cal_check.specs.Readings.{ReadsDone, ReadsEach}
-use Rattle.cal_check.specs.WireGraphs.{Grows, HasHole}
+use Rattle.cal_check.specs.inside.Nodes.{AHole}
+use Rattle.cal_check.specs.inside.Read.{AreReads}
+use Rattle.cal_check.specs.inside.Readings.{ReadsDone, ReadsEach}
+use Rattle.cal_check.specs.inside.WireGraphs.{Grows, HasHole}
 use Rattle.cal_ast.specs.Wires.{done_ports}
 use Rattle.cal_check.proofs.FoundLemmas.{to_map}
 use Rattle.cal_check.proofs.GainLemmas.{grows_all, grows_next, grows_start, item_at, number_kept, number_within}
@@ -30,6 +30,7 @@ pub add_reads-requires : goal.add_reads-requires
 add_reads-requires c =
     let r : In_ok-reads = (goal.at.add_reads-requires c).In_ok-reads in
     record {
+      names = r.loop-done.invariant.adds.names ∙ r.requires.names;
       number = number_within r.loop-done.graph _ r.args.hole.node (is_hole r);
       reads = subst (All (PortHasNumbers (names_at r.args.place.now))) (sym c.deref.ensures.value) (own_reads r).numbers;
     }

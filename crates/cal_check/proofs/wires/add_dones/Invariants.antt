@@ -1,8 +1,8 @@
 use Rattle.std.proofs.Common.{map, take}
 use Rattle.cal_ast.specs.Tree.{done_tree}
 use Rattle.cal_check.specs.Around.{names_at}
-use Rattle.cal_check.specs.Readings.{ReadsDones}
-use Rattle.cal_check.specs.WireGraphs.{Grows}
+use Rattle.cal_check.specs.inside.Readings.{ReadsDones}
+use Rattle.cal_check.specs.inside.WireGraphs.{Grows}
 use Rattle.cal_check.proofs.wires.add_dones.Given as goal
 
 -- the graph has the done lines so far

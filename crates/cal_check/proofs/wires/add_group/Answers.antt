@@ -1,4 +1,4 @@
-use Rattle.std.proofs.Common.{List, Some, map, sym, subst}
+use Rattle.std.proofs.Common.{List, Some, map, sym, subst, ◌∙◌}
 use Rattle.std.specs.Prelude.{All, OnOk}
 use Rattle.std.proofs.lemmas.Result.{on_ok_weaker}
 use Rattle.cal_ast.specs.Numbers.{DoneHasNumbers, SetHasNumbers}
@@ -6,21 +6,23 @@ use Rattle.cal_ast.specs.Tree.{assignment_tree, done_tree, group_tree}
 use Rattle.cal_ast.specs.declared.tree.Assign.{Assign}
 use Rattle.cal_ast.specs.declared.tree.DoneSet.{DoneSet}
 use Rattle.cal_check.specs.Around.{comp_at, design_at, names_at}
-use Rattle.cal_check.specs.Readings.{ReadsDones, ReadsSets}
-use Rattle.cal_check.specs.WireGraphs.{Grows}
+use Rattle.cal_check.specs.inside.Readings.{ReadsDones, ReadsSets}
+use Rattle.cal_check.specs.inside.WireGraphs.{Grows}
 use Rattle.cal_check.proofs.GainLemmas.{group_added, number_kept}
 use Rattle.cal_check.proofs.wires.add_group.Goals as goal
 
 pub add_sets-requires : goal.add_sets-requires
 add_sets-requires c = record {
-  sets = subst (All (SetHasNumbers (names_at c.args.place.now))) (sym c.deref.ensures.value) c.requires.sets;
+  names = c.in_ok-hole.ensures.adds.names ∙ c.requires.names;
+  sets = subst (All (SetHasNumbers (names_at c.args.place.now))) (sym c.deref.ensures.value) c.requires.group.sets;
   hole = c.in_ok-hole.ensures.hole;
 }
 
 pub add_dones-requires : goal.add_dones-requires
 add_dones-requires c = record {
+  names = c.in_ok-add_sets.ensures.adds.names ∙ c.in_ok-hole.ensures.adds.names ∙ c.requires.names;
   hole = number_kept c.add_hole.new.graph c.add_sets.new.graph _ c.in_ok-hole.hole.node c.in_ok-add_sets.ensures.adds.texts c.in_ok-hole.ensures.hole;
-  dones = subst (All (DoneHasNumbers (names_at c.args.place.now))) (sym c.deref-2.ensures.value) c.requires.dones;
+  dones = subst (All (DoneHasNumbers (names_at c.args.place.now))) (sym c.deref-2.ensures.value) c.requires.group.dones;
 }
 
 pub returns : goal.returns

@@ -1,4 +1,4 @@
-use Rattle.std.proofs.Common.{map, refl, subst, sym, arith}
+use Rattle.std.proofs.Common.{map, refl, subst, sym, ◌∙◌, arith}
 use Rattle.std.proofs.lemmas.List.{length-map}
 use Rattle.cal_ast.specs.Numbers.{GroupHasNumbers}
 use Rattle.cal_ast.specs.Tree.{group_tree}
@@ -11,7 +11,7 @@ use Rattle.cal_check.proofs.wires.add_groups.Goals as goal
 pub add_group-requires : goal.add_group-requires
 add_group-requires c =
     let H : Group → Type 0 = GroupHasNumbers (names_at c.args.place.now) in
-    subst H (sym c.group-item.is) (c.requires c.loop-group.group-index c.group-item.result c.loop-group-test.true)
+    record { names = c.loop-group.invariant.adds.names ∙ c.requires.names; group = subst H (sym c.group-item.is) (c.requires.groups c.loop-group.group-index c.group-item.result c.loop-group-test.true) }
 
 pub loop-group-init : goal.loop-group-init
 loop-group-init c = groups_none (design_at c.args.place.now) (comp_at c.args.place.now) c.args.graph.now

@@ -1,7 +1,7 @@
 use Rattle.std.proofs.Common.{map, take}
 use Rattle.cal_ast.specs.Tree.{group_tree}
 use Rattle.cal_check.specs.Around.{comp_at, design_at, names_at}
-use Rattle.cal_check.specs.Readings.{AddsGroups}
+use Rattle.cal_check.specs.inside.Readings.{AddsGroups}
 use Rattle.cal_check.proofs.wires.add_groups.Given as goal
 
 -- the graph has the groups so far

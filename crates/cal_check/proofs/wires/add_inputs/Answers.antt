@@ -5,8 +5,8 @@ use Rattle.hw_names.specs.Name.{Text}
 use Rattle.cal_ast.specs.Ports.{inputs_in, outputs_in}
 use Rattle.cal_ast.specs.Tree.{PortName, own}
 use Rattle.cal_check.specs.Around.{comp_at}
-use Rattle.cal_check.specs.Nodes.{APort, input_key, key_of, name_of}
-use Rattle.cal_check.specs.WireGraphs.{NoPair}
+use Rattle.cal_check.specs.inside.Nodes.{APort, input_key, key_of, port_by}
+use Rattle.cal_check.specs.inside.WireGraphs.{NoPair}
 use Rattle.cal_check.proofs.GainLemmas.{grows_after, grows_none}
 use Rattle.cal_check.proofs.InputLemmas.{input_absent, input_next}
 use Rattle.cal_check.proofs.DependLemmas.{got_at, input_named, ports_counted}
@@ -18,6 +18,9 @@ text_at-requires c =
     let shows = c.signature.ensures in
     let are = c.port_names-ports.ensures.names in
     omega (arith, c.loop-input-test.true, shows.inputs, ap length are, ports_counted (inputs_in (comp_at p)) (outputs_in (comp_at p)))
+
+pub port-requires : goal.port-requires
+port-requires c = c.own_port.ensures.numbers c.loop-input.graph.ports.names tt
 
 pub loop-input-init : goal.loop-input-init
 loop-input-init c = record { keys = c.requires.none; grows = grows_none NoPair c.args.graph.now (λ n o none. none) }
@@ -32,15 +35,15 @@ loop-input-preserved c =
     let are = c.port_names-ports.ensures.names in
     let input = got_at ins i (omega (arith, c.loop-input-test.true, shows.inputs)) in
     let text : c.text_at.result.now ≡ input.0.name = same_Some c.text_at.result.now input.0.name (sym c.text_at.ensures ∙ ap (λ (l : List Text). slice_get l i) are ∙ input_named ins outs i input.0 input.1) in
-    let named : name_of c.own.result ≡ own input.0.name = c.own.ensures ∙ ap own text in
-    let key : key_of (APort (name_of c.own.result)) ≡ input_key input.0 = ap (λ (x : PortName). key_of (APort x)) named in
+    let named : port_by c.loop-input.graph.ports.names c.own_port.result ≡ own input.0.name = c.own_port.ensures.is c.loop-input.graph.ports.names ∙ ap own text in
+    let key : key_of (APort (port_by c.loop-input.graph.ports.names c.own_port.result)) ≡ input_key input.0 = ap (λ (x : PortName). key_of (APort x)) named in
     let keys = map input_key ins in
-    let absent : Contains c.loop-input.graph.keys (key_of (APort (name_of c.own.result))) → ⊥ =
+    let absent : Contains c.loop-input.graph.ports.keys (key_of (APort (port_by c.loop-input.graph.ports.names c.own_port.result))) → ⊥ =
     (λ has. input_absent ins outs c.port_names-ports.ensures.distinct i input.0 input.1
-    (subst (λ (l : List Text). Contains l (input_key input.0)) c.loop-input.invariant.keys (subst (λ (t : Text). Contains c.loop-input.graph.keys t) key has))) in
+    (subst (λ (l : List Text). Contains l (input_key input.0)) c.loop-input.invariant.keys (subst (λ (t : Text). Contains c.loop-input.graph.ports.keys t) key has))) in
     record {
       keys = c.in_ok-_number.ensures.added absent
-          ∙ ap (λ (l : List Text). l ++ key_of (APort (name_of c.own.result)) ∷ []) c.loop-input.invariant.keys
+          ∙ ap (λ (l : List Text). l ++ key_of (APort (port_by c.loop-input.graph.ports.names c.own_port.result)) ∷ []) c.loop-input.invariant.keys
           ∙ ap (λ (t : Text). take i keys ++ t ∷ []) key
           ∙ input_next ins i input.0 input.1;
       grows = grows_after NoPair c.args.graph.now c.loop-input.graph c.port.new.self c.loop-input.invariant.grows c.port.ensures.grows;

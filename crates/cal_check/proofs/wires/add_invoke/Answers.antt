@@ -1,12 +1,12 @@
-use Rattle.std.proofs.Common.{[], ◌++◌, Some, map}
+use Rattle.std.proofs.Common.{[], ◌++◌, ◌∙◌, Some, map}
 use Rattle.std.proofs.lemmas.Result.{on_ok_weaker}
 use Rattle.hw_names.specs.Name.{text_of}
 use Rattle.cal_ast.specs.Invoking.{gives_input, go_of, invoke_group, starts_cell, takes_output}
 use Rattle.cal_ast.specs.Tree.{GroupDef, in_tree, out_tree}
 use Rattle.cal_check.specs.Around.{comp_at, design_at, names_at}
-use Rattle.cal_check.specs.Nodes.{Node, AHole}
-use Rattle.cal_check.specs.Readings.{ReadsSet}
-use Rattle.cal_check.specs.WireGraphs.{Grows, HasHole}
+use Rattle.cal_check.specs.inside.Nodes.{Node, AHole}
+use Rattle.cal_check.specs.inside.Readings.{ReadsSet}
+use Rattle.cal_check.specs.inside.WireGraphs.{Grows, HasHole}
 use Rattle.cal_check.specs.declared.wire_graph.Hole.{Hole}
 use Rattle.cal_check.specs.declared.wire_graph.WireGraph.{WireGraph}
 use Rattle.cal_check.proofs.GainLemmas.{group_added, grows_parts, number_kept}
@@ -16,8 +16,12 @@ use Rattle.cal_check.proofs.wires.add_invoke.Goals as goal
 still_there : (P : Node → Node → Type 0) (old new : WireGraph) (h : Hole) → Grows P old new → HasHole old h → HasHole new h
 still_there P old new h grows is = number_kept old new (AHole h.group) h.node grows.adds.texts is
 
+pub add_ins-requires : goal.add_ins-requires
+add_ins-requires c = record { names = c.in_ok-hole.ensures.adds.names ∙ c.requires.names; hole = c.in_ok-hole.ensures.hole; cell = c.requires.cell; ins = c.requires.ins }
+
 pub add_start-requires : goal.add_start-requires
 add_start-requires c = record {
+  names = c.in_ok-add_ins.ensures.adds.names ∙ c.in_ok-hole.ensures.adds.names ∙ c.requires.names;
   hole = still_there _ c.add_hole.new.graph c.add_ins.new.graph c.in_ok-hole.hole c.in_ok-add_ins.ensures c.in_ok-hole.ensures.hole;
   cell = c.requires.cell;
 }
@@ -26,14 +30,14 @@ pub add_outs-requires : goal.add_outs-requires
 add_outs-requires c =
     let h = c.in_ok-hole.hole in
     let first = still_there _ c.add_hole.new.graph c.add_ins.new.graph h c.in_ok-add_ins.ensures c.in_ok-hole.ensures.hole in
-    record { hole = still_there _ c.add_ins.new.graph c.add_start.new.graph h c.in_ok-add_start.ensures first; cell = c.requires.cell; outs = c.requires.outs }
+    record { names = c.in_ok-add_start.ensures.adds.names ∙ c.in_ok-add_ins.ensures.adds.names ∙ c.in_ok-hole.ensures.adds.names ∙ c.requires.names; hole = still_there _ c.add_ins.new.graph c.add_start.new.graph h c.in_ok-add_start.ensures first; cell = c.requires.cell; outs = c.requires.outs }
 
 pub add_done-requires : goal.add_done-requires
 add_done-requires c =
     let h = c.in_ok-hole.hole in
     let first = still_there _ c.add_hole.new.graph c.add_ins.new.graph h c.in_ok-add_ins.ensures c.in_ok-hole.ensures.hole in
     let second = still_there _ c.add_ins.new.graph c.add_start.new.graph h c.in_ok-add_start.ensures first in
-    record { hole = still_there _ c.add_start.new.graph c.add_outs.new.graph h c.in_ok-add_outs.ensures second; cell = c.requires.cell }
+    record { names = c.in_ok-add_outs.ensures.adds.names ∙ c.in_ok-add_start.ensures.adds.names ∙ c.in_ok-add_ins.ensures.adds.names ∙ c.in_ok-hole.ensures.adds.names ∙ c.requires.names; hole = still_there _ c.add_start.new.graph c.add_outs.new.graph h c.in_ok-add_outs.ensures second; cell = c.requires.cell }
 
 pub returns : goal.returns
 returns c =

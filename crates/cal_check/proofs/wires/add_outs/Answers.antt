@@ -1,16 +1,17 @@
-use Rattle.std.proofs.Common.{Some, map, subst, arith}
+use Rattle.std.proofs.Common.{Some, map, subst, ◌∙◌, arith}
 use Rattle.std.proofs.lemmas.List.{length-map}
 use Rattle.hw_names.specs.Name.{text_of}
 use Rattle.cal_ast.specs.Invoking.{takes_output}
 use Rattle.cal_ast.specs.Tree.{Assignment, out_tree}
 use Rattle.cal_check.specs.Around.{names_at}
-use Rattle.cal_check.specs.Readings.{ReadsSet}
-use Rattle.cal_check.specs.WireGraphs.{Grows}
+use Rattle.cal_check.specs.inside.Readings.{ReadsSet}
+use Rattle.cal_check.specs.inside.WireGraphs.{Grows}
 use Rattle.cal_check.proofs.GainLemmas.{bind_next_out, grows_all, grows_start, number_kept}
 use Rattle.cal_check.proofs.wires.add_outs.Goals as goal
 
 pub add_set-requires : goal.add_set-requires
 add_set-requires c = record {
+  names = c.loop-bind.invariant.adds.names ∙ c.requires.names;
   set = c.taken.ensures.numbers (names_at c.args.place.now) c.requires.cell (c.requires.outs c.loop-bind.bind-index _ c.loop-bind-test.true);
   hole = number_kept c.args.graph.now c.loop-bind.graph _ c.args.hole.node c.loop-bind.invariant.adds.texts c.requires.hole;
 }

@@ -3,8 +3,8 @@ use Rattle.hw_names.specs.Name.{text_of}
 use Rattle.cal_ast.specs.Invoking.{takes_output}
 use Rattle.cal_ast.specs.Tree.{out_tree}
 use Rattle.cal_check.specs.Around.{names_at}
-use Rattle.cal_check.specs.Readings.{ReadsSets}
-use Rattle.cal_check.specs.WireGraphs.{Grows}
+use Rattle.cal_check.specs.inside.Readings.{ReadsSets}
+use Rattle.cal_check.specs.inside.WireGraphs.{Grows}
 use Rattle.cal_check.proofs.wires.add_outs.Given as goal
 
 -- the graph has the bindings so far

@@ -1,10 +1,10 @@
-use Rattle.std.proofs.Common.{map, option_map, refl, subst, sym, arith}
+use Rattle.std.proofs.Common.{map, option_map, ◌∙◌, refl, subst, sym, arith}
 use Rattle.std.proofs.lemmas.List.{length-map}
 use Rattle.cal_ast.specs.Numbers.{SetHasNumbers}
 use Rattle.cal_ast.specs.Tree.{assignment_tree}
 use Rattle.cal_ast.specs.declared.tree.Assign.{Assign}
 use Rattle.cal_check.specs.Around.{names_at}
-use Rattle.cal_check.specs.Readings.{ReadsSet}
+use Rattle.cal_check.specs.inside.Readings.{ReadsSet}
 use Rattle.cal_check.specs.declared.wire_graph.Hole.{Hole}
 use Rattle.cal_check.proofs.FoundLemmas.{to_map}
 use Rattle.cal_check.proofs.GainLemmas.{grows_all, grows_next, grows_start, hole_kept, item_at}
@@ -14,6 +14,7 @@ pub add_set-requires : goal.add_set-requires
 add_set-requires c =
     let S : Assign → Type 0 = SetHasNumbers (names_at c.args.place.now) in
     record {
+      names = c.loop-set.invariant.adds.names ∙ c.requires.names;
       set = subst S (sym c.set-item.is) (c.requires.sets c.loop-set.set-index c.set-item.result c.loop-set-test.true);
       hole = hole_kept c.args.graph.now c.loop-set.graph c.args.hole c.loop-set.invariant.adds.texts c.requires.hole;
     }

@@ -1,8 +1,8 @@
 use Rattle.std.proofs.Common.{map, option_map, take}
 use Rattle.cal_ast.specs.Tree.{assignment_tree}
 use Rattle.cal_check.specs.Around.{names_at}
-use Rattle.cal_check.specs.Readings.{ReadsSets}
-use Rattle.cal_check.specs.WireGraphs.{Grows}
+use Rattle.cal_check.specs.inside.Readings.{ReadsSets}
+use Rattle.cal_check.specs.inside.WireGraphs.{Grows}
 use Rattle.cal_check.specs.declared.wire_graph.Hole.{Hole}
 use Rattle.cal_check.proofs.wires.add_sets.Given as goal
 

@@ -1,15 +1,19 @@
-use Rattle.std.proofs.Common.{Bor, Option, Some, None, ap, sym, subst, ◌∙◌}
+use Rattle.std.proofs.Common.{Bor, List, Option, Some, None, ap, sym, subst, ◌∙◌}
 use Rattle.std.specs.Option.{option_map}
 use Rattle.std.proofs.lemmas.Result.{on_ok_weaker}
 use Rattle.hw_names.specs.Name.{Text, text_of}
+use Rattle.net_core.specs.Numbers.{IsNumberOf}
 use Rattle.cal_ast.specs.Invoking.{starts_cell}
 use Rattle.cal_ast.specs.Tree.{PortName, port_of}
 use Rattle.cal_check.specs.Around.{names_at}
-use Rattle.cal_check.specs.Nodes.{APort, AHole}
-use Rattle.cal_check.specs.Readings.{ReadsSet, ReadsSets}
-use Rattle.cal_check.specs.WireGraphs.{Grows, HasNumber, IsPair}
+use Rattle.cal_check.specs.inside.Nodes.{APort, AHole, port_by}
+use Rattle.cal_check.specs.inside.Readings.{ReadsSet, ReadsSets}
+use Rattle.cal_check.specs.inside.WireGraphs.{Grows, HasNumber, IsPair}
 use Rattle.cal_check.proofs.GainLemmas.{at_none, grows_after, grows_none, number_kept, number_within, start_added}
 use Rattle.cal_check.proofs.wires.add_start.Goals as goal
+
+pub port-requires : goal.port-requires
+port-requires c = c.cell_port.ensures.numbers c.args.graph.now.ports.names (subst (λ (names : List Text). IsNumberOf names c.args.cell) (sym c.requires.names) c.requires.cell) tt
 
 pub add-requires : goal.add-requires
 add-requires c = record {
@@ -24,7 +28,8 @@ returns-in_ok-number-in-Some c =
     let go : Text = c.in-Some.go.now in
     let start = c.args.graph.now in
     let mid = c.port.new.self in
-    let named = c.of.ensures ∙ ap (λ (t : Text). port_of t c.as_bytes.result.now) c.text.ensures ∙ ap (port_of cell) c.as_bytes.ensures.value in
+    let names = ap (λ (names : List Text). port_by names c.cell_port.result) c.requires.names in
+    let named = names ∙ c.cell_port.ensures.is (names_at c.args.place.now) ∙ ap (port_of cell) c.as_bytes.ensures.value in
     let is = subst (λ (p : PortName). HasNumber mid (APort p) c.in_ok-number-in-Some.number) named c.in_ok-number-in-Some.ensures.number in
     let hole = number_kept start mid (AHole k) c.args.hole.node c.port.ensures.grows.adds.texts c.requires.hole in
     let pair = c.add.ensures.pair (APort (port_of cell go)) (AHole k) is hole in

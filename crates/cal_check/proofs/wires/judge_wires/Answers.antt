@@ -14,7 +14,7 @@ pub gather-requires : goal.gather-requires
 gather-requires c =
     let g = c.in_ok-graph.graph in
     record {
-      in_range = subst (All (λ (e : Entry). e.key < c.len.result)) (sym c.as_slice.ensures.value) (All-weaker (IsWithin g.keys) (λ (e : Entry). e.key < c.len.result) (λ e within. omega (arith, within.0, c.len.ensures.len)) g.entries.items g.in_range);
+      in_range = subst (All (λ (e : Entry). e.key < c.len.result)) (sym c.as_slice.ensures.value) (All-weaker (IsWithin g.ports.keys) (λ (e : Entry). e.key < c.len.result) (λ e within. omega (arith, within.0, c.len.ensures.len)) g.entries.items g.in_range);
       room = omega (arith, c.len.ensures.small);
     }
 
@@ -24,7 +24,7 @@ least_loop-requires c =
     record {
       distinct = c.len.ensures.distinct;
       room = omega (arith, c.len.ensures.len, c.len.ensures.small);
-      reads = gathered_as c.as_slice.result.now g.entries.items c.len.result (length g.keys) c.in_ok-reads.reads c.as_slice.ensures.value c.len.ensures.len c.in_ok-reads.ensures;
+      reads = gathered_as c.as_slice.result.now g.entries.items c.len.result (length g.ports.keys) c.in_ok-reads.reads c.as_slice.ensures.value c.len.ensures.len c.in_ok-reads.ensures;
     }
 
 pub part_wires-requires : goal.part_wires-requires
@@ -35,7 +35,7 @@ part_wires-requires c =
       graph = c.in_ok-graph.ensures.reads;
       inputs = c.in_ok-graph.ensures.inputs;
       distinct = c.len.ensures.distinct;
-      reads = gathered_as c.as_slice.result.now g.entries.items c.len.result (length g.keys) c.in_ok-reads.reads c.as_slice.ensures.value c.len.ensures.len c.in_ok-reads.ensures;
+      reads = gathered_as c.as_slice.result.now g.entries.items c.len.result (length g.ports.keys) c.in_ok-reads.reads c.as_slice.ensures.value c.len.ensures.len c.in_ok-reads.ensures;
     }
 
 pub returns-clause-wires : goal.returns-clause-wires

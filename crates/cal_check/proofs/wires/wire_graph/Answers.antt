@@ -5,19 +5,26 @@ use Rattle.cal_ast.specs.Items.{control_statements}
 use Rattle.cal_ast.specs.Numbers.{GroupHasNumbers, SetHasNumbers}
 use Rattle.cal_ast.specs.Tree.{Assignment, Component, ControlSection, GroupDef, assignment_tree, group_tree}
 use Rattle.cal_check.specs.Around.{comp_at, design_at, names_at}
-use Rattle.cal_check.specs.Readings.{AddsGroups, ReadsSets, groups_invoked}
-use Rattle.cal_check.specs.WireGraphs.{Grows}
+use Rattle.cal_check.specs.inside.Readings.{AddsGroups, ReadsSets, groups_invoked}
+use Rattle.cal_check.specs.inside.WireGraphs.{Grows}
 use Rattle.cal_check.proofs.SaidLemmas.{whole_graph}
 use Rattle.cal_check.proofs.wires.wire_graph.Goals as goal
 
 pub add_sets-requires : goal.add_sets-requires
-add_sets-requires c = record { sets = subst (All (SetHasNumbers (names_at c.args.place.now))) (sym c.deref.ensures.value) c.comp-comp.ensures.numbers.sets; hole = tt }
+add_sets-requires c = record { names = c.in_ok-add_inputs.ensures.grows.adds.names ∙ c.new-graph.ensures.names ∙ c.names.ensures; sets = subst (All (SetHasNumbers (names_at c.args.place.now))) (sym c.deref.ensures.value) c.comp-comp.ensures.numbers.sets; hole = tt }
 
 pub add_groups-requires : goal.add_groups-requires
-add_groups-requires c = subst (All (GroupHasNumbers (names_at c.args.place.now))) (sym c.deref-2.ensures.value) c.comp-comp.ensures.numbers.groups
+add_groups-requires c = record { names = c.in_ok-add_sets.ensures.adds.names ∙ c.in_ok-add_inputs.ensures.grows.adds.names ∙ c.new-graph.ensures.names ∙ c.names.ensures; groups = subst (All (GroupHasNumbers (names_at c.args.place.now))) (sym c.deref-2.ensures.value) c.comp-comp.ensures.numbers.groups }
 
 pub add_control-requires : goal.add_control-requires
-add_control-requires c = c.comp-comp.ensures.numbers.control
+add_control-requires c = record { names = c.in_ok-add_groups.ensures.adds.names ∙ c.in_ok-add_sets.ensures.adds.names ∙ c.in_ok-add_inputs.ensures.grows.adds.names ∙ c.new-graph.ensures.names ∙ c.names.ensures; control = c.comp-comp.ensures.numbers.control }
+
+pub add_cells-requires : goal.add_cells-requires
+add_cells-requires c = record {
+  names = c.in_ok-add_control.ensures.adds.names ∙ c.in_ok-add_groups.ensures.adds.names ∙ c.in_ok-add_sets.ensures.adds.names ∙ c.in_ok-add_inputs.ensures.grows.adds.names ∙ c.new-graph.ensures.names ∙ c.names.ensures;
+  kept = c.requires.kept;
+  parts = c.requires.parts;
+}
 
 pub returns-clause-reads : goal.returns-clause-reads
 returns-clause-reads c =

@@ -12,7 +12,7 @@ inputs_of-requires c =
     let g = c.args.graph.now in
     let gathered = c.requires.reads in
     record {
-      in_range = gathered_in_range g.entries.items (length g.keys) c.args.reads.now g.in_range gathered;
+      in_range = gathered_in_range g.entries.items (length g.ports.keys) c.args.reads.now g.in_range gathered;
       size = c.loop-output.invariant.size;
       keys = gathered.all;
       distinct = c.requires.distinct;

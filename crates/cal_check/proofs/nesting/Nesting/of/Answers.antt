@@ -1,5 +1,5 @@
 use Rattle.std.proofs.Common.{length, refl}
-use Rattle.cal_check.specs.Entries.{holder_read, part_read}
+use Rattle.cal_check.specs.inside.Entries.{holder_read, part_read}
 use Rattle.cal_check.proofs.EntryLemmas.{entries_all, entries_next, holders_fit, nesting_shown, parts_fit, reads_in_range}
 use Rattle.cal_check.proofs.ListLemmas.{item_at}
 use Rattle.cal_check.proofs.nesting.Nesting.of.Goals as goal

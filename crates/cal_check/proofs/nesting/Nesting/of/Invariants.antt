@@ -1,5 +1,5 @@
 use Rattle.std.proofs.Common.{◌≡◌, take}
-use Rattle.cal_check.specs.Entries.{entries_from, holder_read, part_read}
+use Rattle.cal_check.specs.inside.Entries.{entries_from, holder_read, part_read}
 use Rattle.cal_check.proofs.nesting.Nesting.of.Given as goal
 
 abbrev pub invariant-loop-number : goal.invariant-loop-number

@@ -5,7 +5,7 @@ use Rattle.cal_check.proofs.wire_graph.WireGraph.add.Goals as goal
 pub invariant_of-self : goal.invariant_of-self
 invariant_of-self c =
     let old = c.args.self.now in
-    record { in_range = within_pushed old.keys old.entries.items c.push.new.self.items _ _ c.push.ensures.items old.in_range (c.requires.key, c.requires.value) }
+    record { in_range = within_pushed old.ports.keys old.entries.items c.push.new.self.items _ _ c.push.ensures.items old.in_range (c.requires.key, c.requires.value) }
 
 pub returns-clause-pair : goal.returns-clause-pair
 returns-clause-pair c node other is_key is_value =

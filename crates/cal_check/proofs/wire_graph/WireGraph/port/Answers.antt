@@ -1,31 +1,27 @@
-use Rattle.std.proofs.Common.{◌≡◌, ◌++◌, ◌∷◌, [], Contains, Some, slice_get, sym, ap, subst, ◌∙◌}
-use Rattle.std.specs.Prelude.{OnOk}
+use Rattle.std.proofs.Common.{refl}
 use Rattle.std.proofs.lemmas.Result.{IfOk-weaker}
-use Rattle.hw_names.specs.Name.{Text}
-use Rattle.cal_check.specs.Nodes.{APort, name_of}
-use Rattle.cal_check.specs.WireGraphs.{HasNumber, NoPair}
-use Rattle.cal_check.proofs.GainLemmas.{adds_keys, grows_none}
+use Rattle.cal_check.specs.inside.Nodes.{APort, key_of, port_by}
+use Rattle.cal_check.proofs.GainLemmas.{adds_keys, keys_grown, keys_kept, within_more}
 use Rattle.cal_check.proofs.wire_graph.WireGraph.port.Goals as goal
 
-pub returns-in_err-key-clause-grows : goal.returns-in_err-key-clause-grows
-returns-in_err-key-clause-grows c = grows_none NoPair c.args.self.now (λ n o none. none)
-
-pub number-requires : goal.number-requires
-number-requires c = record { node = APort (name_of c.args.port); has_key = tt; is = c.deref.ensures.value ∙ c.in_ok-key.ensures }
+pub invariant_of-self : goal.invariant_of-self
+invariant_of-self c =
+    let old = c.args.self.now in
+    let new = c.port.new.self in
+    record { in_range = within_more old.ports.keys new.keys old.entries.items (keys_kept old.ports.keys new.keys _ c.port.ensures.grown) old.in_range }
 
 pub returns-clause-number : goal.returns-clause-number
 returns-clause-number c =
-    let new = c.number.new.self in
-    let is = c.deref.ensures.value ∙ c.in_ok-key.ensures in
-    IfOk-weaker c.number.result (λ n. slice_get new.keys n ≡ Some c.deref.result.now) (HasNumber new (APort (name_of c.args.port))) (λ n at. record { has_key = tt; at = at ∙ ap Some is }) c.number.ensures.number
-
-pub returns-clause-added : goal.returns-clause-added
-returns-clause-added c absent =
-    let old = c.args.self.now in
-    let new = c.number.new.self in
-    let is = c.deref.ensures.value ∙ c.in_ok-key.ensures in
-    subst (λ (t : Text). OnOk c.number.result (new.keys ≡ old.keys ++ t ∷ [])) is (c.number.ensures.added (subst (λ (t : Text). ¬ Contains old.keys t) (sym is) absent))
+    let new = c.port.new.self in
+    let node = APort (port_by c.args.self.now.ports.names c.args.port) in
+    IfOk-weaker c.port.result _ _ (λ n at. record { has_key = tt; at = at }) c.port.ensures.number
 
 pub returns-clause-grows : goal.returns-clause-grows
 returns-clause-grows c =
-    record { adds = adds_keys c.args.self.now c.number.new.self c.number.ensures.kept c.number.ensures.nodes c.number.ensures.entries; holes = c.number.ensures.holes }
+    let old = c.args.self.now in
+    let new = c.port.new.self in
+    let node = APort (port_by old.ports.names c.args.port) in
+    record {
+      adds = adds_keys old _ c.port.ensures.names (keys_kept old.ports.keys new.keys (key_of node) c.port.ensures.grown) (λ all. keys_grown old.ports.keys new.keys (key_of node) c.port.ensures.grown all (record { node = node; has_key = tt; is = refl })) refl;
+      holes = refl;
+    }

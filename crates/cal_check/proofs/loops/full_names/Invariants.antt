@@ -1,0 +1,10 @@
+use Rattle.std.proofs.Common.{◌≡◌, ℕ, Some, All, map, take, slice_get}
+use Rattle.std.specs.List.{flat_map}
+use Rattle.cal_ast.specs.Wires.{shown}
+use Rattle.cal_check.specs.inside.Nodes.{Node, key_of, node_ports}
+use Rattle.cal_check.proofs.loops.full_names.Given as goal
+
+-- the full names so far
+abbrev pub invariant-loop-number : goal.invariant-loop-number
+invariant-loop-number l = (node : ℕ → Node) → All (λ (number : ℕ). slice_get l.keys number ≡ Some (key_of (node number))) l.numbers
+    → l.names.items ≡ flat_map (λ (number : ℕ). map shown (node_ports (node number))) (take l.number-index l.numbers)

@@ -1,0 +1,14 @@
+use Rattle.std.proofs.Common.{length}
+use Rattle.hw_graph.proofs.ComponentLemmas.{gathered_in_range}
+use Rattle.cal_check.proofs.NumberLemmas.{no_loop}
+use Rattle.cal_check.proofs.loops.least_loop.Goals as goal
+
+pub has_order-requires-clause-in_range : goal.has_order-requires-clause-in_range
+has_order-requires-clause-in_range c =
+    let g = c.args.graph.now in
+    gathered_in_range g.entries.items (length g.ports.keys) c.args.reads.now g.in_range c.requires.reads
+
+pub returns-then-branch : goal.returns-then-branch
+returns-then-branch c design comp is =
+    let order = c.in_ok-has_order.ensures c.if-branch.true in
+    no_loop design comp c.args.graph.now is c.requires.distinct c.args.reads.now c.requires.reads order.0 order.1

@@ -1,0 +1,12 @@
+-- What only the functions inside the crate are specified by.
+pub mod Entries
+pub mod FirstLoop
+pub mod Groups
+pub mod Least
+pub mod Nodes
+pub mod Read
+pub mod Readings
+pub mod Totals
+pub mod Walks
+pub mod WireGraphs
+pub mod Wiring

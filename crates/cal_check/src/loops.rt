@@ -1,0 +1,99 @@
+//! The least loop of a graph, by the full names of its ports.
+ghost use Rattle.std.specs.Prelude.{◌≡◌, ℕ, ◌^◌, ◌<◌, ◌++◌, Some, length, map, slice_get, All, IfOk, IsTrue, OnOk};
+ghost use Rattle.std.specs.List.{flat_map};
+ghost use Rattle.hw_graph.specs.Graph.{AreInRange};
+ghost use Rattle.hw_graph.specs.Groups.{IsGathered};
+ghost use Rattle.hw_names.specs.Name.{AreDistinct};
+ghost use Rattle.cal_ast.specs.Tree.{Component, Design};
+ghost use Rattle.cal_ast.specs.Wires.{shown};
+ghost use Rattle.cal_check.specs.inside.Nodes.{Node, key_of, node_ports};
+ghost use Rattle.cal_check.specs.inside.WireGraphs.{HasOrder, IsGraphOf};
+ghost use Rattle.cal_check.specs.inside.Wiring.{TellsLoop};
+
+use crate::keys::name_in;
+use crate::texts::text_at;
+use crate::wire_graph::WireGraph;
+use hw_bits::Memory;
+use hw_graph::{Groups, OrderEnd, order_or_least_loop};
+use hw_names::{Names, Word};
+use std::alloc::Global;
+
+/// So many names, of which nothing matters.
+fn some_names(alloc: Global, count: usize) -> Result<Names, Memory>
+    requires { count < 2 ^ 32 }
+    ensures { IfOk result (λ names. length names ≡ count) }
+{
+    let mut names = Names::new(alloc);
+    for number in 0..count {
+        let _number = names.intern(&number.to_be_bytes())?;
+    }
+    Ok(names)
+}
+
+/// Whether there is an order in which each port comes after all that it reads. No name is looked at.
+fn has_order(alloc: Global, reads: &Groups) -> Result<bool, Memory>
+    requires in_range { AreInRange reads.now }
+    requires room { length reads.now < 2 ^ 32 }
+    ensures { IfOk result (λ has. IsTrue has → HasOrder reads.now) }
+{
+    let names = some_names(alloc, reads.len())?;
+    match order_or_least_loop(alloc, reads, &names) {
+        Ok(_order) => Ok(true),
+        Err(OrderEnd::Loop { ports: _some }) => Ok(false),
+        Err(OrderEnd::Memory) => Err(Memory),
+    }
+}
+
+/// Puts the full name last that the key tells, if it is a port's.
+fn add_full_name(alloc: Global, names: &mut Vec<Word>, key: &[u8]) -> Result<(), Memory>
+    ensures { (node : Node) → key.now ≡ key_of node → OnOk result (names.new.items ≡ names.old.items ++ map shown (node_ports node)) }
+{
+    match name_in(alloc, key)? {
+        Some(name) => {
+            names.push(name)?;
+            Ok(())
+        }
+        None => Ok(()),
+    }
+}
+
+/// The full names of those of the numbers that are ports.
+fn full_names(alloc: Global, keys: &Names, numbers: &[usize]) -> Result<Vec<Word>, Memory>
+    requires { All (λ number. number < length keys.now) numbers.now }
+    ensures { (node : ℕ → Node) → All (λ number. slice_get keys.now number ≡ Some (key_of (node number))) numbers.now
+        → IfOk result (λ names. names.items ≡ flat_map (λ number. map shown (node_ports (node number))) numbers.now) }
+{
+    let mut names = Vec::new(alloc);
+    for number in numbers {
+        add_full_name(alloc, &mut names, text_at(keys, *number))?;
+    }
+    Ok(names)
+}
+
+/// The least loop, where there is one. Keys, which have the full names of ports, are made only here.
+fn told_loop(graph: &WireGraph, reads: &Groups) -> Result<Option<Vec<Word>>, Memory>
+    requires distinct { AreDistinct graph.now.ports.keys }
+    requires room { length graph.now.ports.keys < 2 ^ 32 }
+    requires reads { IsGathered graph.now.entries.items (length graph.now.ports.keys) reads.now }
+    ensures { (design : Design) (c : Component) → IsGraphOf design c graph.now → IfOk result (TellsLoop design c) }
+{
+    let keys = graph.ports.keys()?;
+    match order_or_least_loop(graph.alloc, reads, &keys) {
+        Ok(_order) => Ok(None),
+        Err(OrderEnd::Loop { ports }) => Ok(Some(full_names(graph.alloc, &keys, &ports)?)),
+        Err(OrderEnd::Memory) => Err(Memory),
+    }
+}
+
+/// The least loop, if there is a loop.
+pub fn least_loop(graph: &WireGraph, reads: &Groups) -> Result<Option<Vec<Word>>, Memory>
+    requires distinct { AreDistinct graph.now.ports.keys }
+    requires room { length graph.now.ports.keys < 2 ^ 32 }
+    requires reads { IsGathered graph.now.entries.items (length graph.now.ports.keys) reads.now }
+    ensures { (design : Design) (c : Component) → IsGraphOf design c graph.now → IfOk result (TellsLoop design c) }
+{
+    if has_order(graph.alloc, reads)? {
+        return Ok(None);
+    }
+    told_loop(graph, reads)
+}
