@@ -1,2 +1,2 @@
+pub mod inside
 pub mod Copies
-pub mod Negations

@@ -4,7 +4,7 @@ ghost use Rattle.std.specs.List.{AllZip};
 ghost use Rattle.hw_names.specs.Name.{Text};
 ghost use Rattle.cal_ast.specs.Numbers.{GuardHasNumbers};
 ghost use Rattle.cal_copy.specs.Copies.{IsCellCopy, IsDoneCopy, IsGroupCopy, IsGuardCopy, IsSetCopy, IsWhenCopy, port_guard};
-ghost use Rattle.cal_copy.specs.Negations.{negations};
+ghost use Rattle.cal_copy.specs.inside.Negations.{negations};
 
 use cal_ast::{Assign, CalCell, CalPort, DoneSet, Group};
 use hw_bits::Memory;
@@ -60,7 +60,7 @@ pub fn copy_guard(alloc: Global, guard: &Guard<CalPort>) -> Result<Guard<CalPort
 pub fn copy_guards(alloc: Global, guards: &[Guard<CalPort>]) -> Result<Vec<Guard<CalPort>>, Memory>
     ensures { IfOk result (λ copies. AllZip IsGuardCopy guards.now copies.items) }
 {
-    let mut copies = Vec::new(alloc);
+    let mut copies = Vec::with_capacity(alloc, guards.len())?;
     for guard in guards {
         copies.push(copy_guard(alloc, guard)?)?;
     }
@@ -96,7 +96,7 @@ fn copy_set(alloc: Global, set: &Assign) -> Result<Assign, Memory>
 pub fn copy_sets(alloc: Global, sets: &[Assign]) -> Result<Vec<Assign>, Memory>
     ensures { IfOk result (λ copies. AllZip IsSetCopy sets.now copies.items) }
 {
-    let mut copies = Vec::new(alloc);
+    let mut copies = Vec::with_capacity(alloc, sets.len())?;
     for set in sets {
         copies.push(copy_set(alloc, set)?)?;
     }
@@ -117,7 +117,7 @@ fn copy_done(alloc: Global, done: &DoneSet) -> Result<DoneSet, Memory>
 fn copy_dones(alloc: Global, dones: &[DoneSet]) -> Result<Vec<DoneSet>, Memory>
     ensures { IfOk result (λ copies. AllZip IsDoneCopy dones.now copies.items) }
 {
-    let mut copies = Vec::new(alloc);
+    let mut copies = Vec::with_capacity(alloc, dones.len())?;
     for done in dones {
         copies.push(copy_done(alloc, done)?)?;
     }
@@ -141,7 +141,7 @@ fn copy_group(alloc: Global, group: &Group) -> Result<Group, Memory>
 pub fn copy_groups(alloc: Global, groups: &[Group]) -> Result<Vec<Group>, Memory>
     ensures { IfOk result (λ copies. AllZip IsGroupCopy groups.now copies.items) }
 {
-    let mut copies = Vec::new(alloc);
+    let mut copies = Vec::with_capacity(alloc, groups.len())?;
     for group in groups {
         copies.push(copy_group(alloc, group)?)?;
     }
@@ -164,7 +164,7 @@ fn copy_cell(alloc: Global, cell: &CalCell) -> Result<CalCell, Memory>
 pub fn copy_cells(alloc: Global, cells: &[CalCell]) -> Result<Vec<CalCell>, Memory>
     ensures { IfOk result (λ copies. AllZip IsCellCopy cells.now copies.items) }
 {
-    let mut copies = Vec::new(alloc);
+    let mut copies = Vec::with_capacity(alloc, cells.len())?;
     for cell in cells {
         copies.push(copy_cell(alloc, cell)?)?;
     }

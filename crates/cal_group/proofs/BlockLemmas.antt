@@ -14,7 +14,7 @@ use Rattle.cal_ast.specs.Tree.{Statement, Statements, NoStatements, MoreStatemen
 use Rattle.cal_ast.specs.Tree as tree
 use Rattle.cal_ast.specs.declared.tree.Control.{Control, Row_of-Control, end_of-Control, more_of-Control, items-the_row-Control, items_hidden-the_row-Control-0}
 use Rattle.cal_ast.specs.declared.tree.Control as code
-use Rattle.cal_group.specs.Expansion.{listed}
+use Rattle.cal_group.specs.inside.Expansion.{statements_listed}
 
 abbrev row_of : Control → (n : Count) × Row_of-Control n
 row_of (code.Seq' shape r) = (_, r)
@@ -45,7 +45,7 @@ module _ (names : List Text) where
   row_is n end_of-Control = refl
   row_is n (more_of-Control s rest) = ap (MoreStatements (statement_tree names s)) (row_is _ rest)
 
-  pub listed_from : (ss : List Control) → statements_of (statements_from (trees names ss)) ≡ listed names ss
+  pub listed_from : (ss : List Control) → statements_of (statements_from (trees names ss)) ≡ statements_listed names ss
   listed_from [] = refl
   listed_from (s ∷ ss) = ap (λ (l : List Statement). statements_in (statement_tree names s) ++ l) (listed_from ss)
 

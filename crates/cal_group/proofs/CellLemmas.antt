@@ -21,7 +21,7 @@ use Rattle.cal_ast.specs.Rules.{KeepsRules}
 use Rattle.cal_ast.specs.Tree.{CellDef, Invoke, Component, Design, cell_tree}
 use Rattle.cal_ast.specs.declared.tree.CalCell.{CalCell}
 use Rattle.cal_copy.proofs.CopyLemmas.{take_next}
-use Rattle.cal_group.specs.Expansion.{AreNamed, CanStart, HasCells, HoldsCells}
+use Rattle.cal_group.specs.inside.Expansion.{AreNamed, CanStart, HasCells, HoldsCells}
 use Rattle.cal_group.specs.declared.expand.CellTable.{CellTable}
 use Rattle.cal_group.specs.declared.expand.PortNames.{PortNames}
 use Rattle.cal_group.proofs.RuleOfLemmas.{Contains-before}

@@ -24,7 +24,7 @@ use Rattle.cal_ast.specs.declared.tree.InBind.{InBind}
 use Rattle.cal_ast.specs.declared.tree.OutBind.{OutBind}
 use Rattle.cal_copy.proofs.CopyLemmas.{take_next}
 use Rattle.cal_group.specs.Expanded.{invoke_name, expanded_from}
-use Rattle.cal_group.specs.Expansion.{AddsGroups, AreExpansions, AreNamed, CanStart, HasCells, IsExpansion, IsInvokedGroup, IsLater, counted, groups_of_invokes, listed}
+use Rattle.cal_group.specs.inside.Expansion.{AddsGroups, AreExpansions, AreNamed, CanStart, HasCells, IsExpansion, IsInvokedGroup, IsLater, counted, groups_of_invokes, statements_listed}
 use Rattle.cal_group.specs.declared.expand.Call.{Call}
 use Rattle.cal_group.specs.declared.expand.CellTable.{CellTable}
 use Rattle.cal_group.specs.declared.expand.Made.{Made}
@@ -165,7 +165,7 @@ module _ (source : List Text) where
 
   -- one more
   expansions_push : (old new : List Text) → KeepsTexts old new → (k : ℕ) (cs xs : List Control) (s x : Control) → AreExpansions source old k (trees source cs) xs
-      → IsExpansion source new (k + length (listed source cs)) (statement_tree source s) x → AreExpansions source new k (trees source cs ++ statement_tree source s ∷ []) (xs ++ x ∷ [])
+      → IsExpansion source new (k + length (statements_listed source cs)) (statement_tree source s) x → AreExpansions source new k (trees source cs ++ statement_tree source s ∷ []) (xs ++ x ∷ [])
   expansions_push old new kept k [] [] s x are is =
       let same : k + 0 ≡ k = omega arith in
       (subst (λ (n : ℕ). IsExpansion source new n (statement_tree source s) x) same is, tt)
@@ -173,7 +173,7 @@ module _ (source : List Text) where
   expansions_push old new kept k (c ∷ cs) [] s x are is = absurd are
   expansions_push old new kept k (c ∷ cs) (y ∷ xs) s x are is =
       let first = statements_in (statement_tree source c) in
-      let count : k + length (listed source (c ∷ cs)) ≡ (k + length first) + length (listed source cs) = omega (arith, length-append first (listed source cs)) in (
+      let count : k + length (statements_listed source (c ∷ cs)) ≡ (k + length first) + length (statements_listed source cs) = omega (arith, length-append first (statements_listed source cs)) in (
         expansion_later old new kept k (statement_tree source c) y are.0,
         expansions_push old new kept (k + length first) cs xs s x are.1 (subst (λ (n : ℕ). IsExpansion source new n (statement_tree source s) x) count is),
       )
@@ -228,7 +228,7 @@ module _ (source : List Text) (table : CellTable) (ports : PortNames) where
   IsExpandedBranch s a d x = Grows (counted (statement_tree source s)) a d × IsExpansion source d.names a.item (statement_tree source s) x
 
   abbrev pub AreExpanded : List Control → Made → Made → List Control → Type 0
-  AreExpanded ss a d xs = Grows (listed source ss) a d × AreExpansions source d.names a.item (trees source ss) xs
+  AreExpanded ss a d xs = Grows (statements_listed source ss) a d × AreExpansions source d.names a.item (trees source ss) xs
 
   pub enable_arm : (s : Control) (id : NameId) (a b : Made) → s ≡ controls.Enable id → StatementHasNumbers source s → IsNext a b → IsExpanded s a b (controls.Enable id)
   enable_arm s id a b is has next =
@@ -330,9 +330,9 @@ module _ (source : List Text) (table : CellTable) (ports : PortNames) where
       let Y : List Control → Type 0 = λ l. AreExpansions source d.names a.item (trees source (take i cs ++ s ∷ [])) l in
       let T : List Statement → Type 0 = λ l. AreExpansions source d.names a.item l (xs ++ x ∷ []) in
       let E : ℕ → Type 0 = λ k. IsExpansion source d.names k (statement_tree source s) x in
-      let first = listed source (take i cs) in
+      let first = statements_listed source (take i cs) in
       let here = statements_in (statement_tree source s) in
-      let list : listed source (take i cs ++ s ∷ []) ≡ first ++ here =
+      let list : statements_listed source (take i cs ++ s ∷ []) ≡ first ++ here =
       flat_map-append (λ (c : Control). statements_in (statement_tree source c)) (take i cs) (s ∷ []) ∙ ap (λ (l : List Statement). first ++ l) (append-nil here) in
       subst P (sym (take_next cs i s at)) (
         subst G (sym list) (grows_both first here a b d all.0 one.0),

@@ -9,8 +9,8 @@ ghost use Rattle.cal_ast.specs.Rules.{KeepsRules};
 ghost use Rattle.cal_ast.specs.Tree.{CellDef, Component, Design, NoStatements, Seq, Statement, cell_tree, component_tree, control_tree, design_of, group_tree, statement_tree};
 ghost use Rattle.cal_ast.specs.declared.tree.Group.{Group as GroupOf};
 ghost use Rattle.cal_group.specs.Expanded.{expanded, expanded_design, expanded_section, invoke_name};
-ghost use Rattle.cal_group.specs.Expansion.{AddsGroups, AreExpansions, AreNamed, CanStart, HasCells, HoldsCells, IsExpansion, IsInvokedGroup, IsLater};
-ghost use Rattle.cal_group.specs.Expansion.{binding_sets, counted, done_line, listed, start_set, taking_sets};
+ghost use Rattle.cal_group.specs.inside.Expansion.{AddsGroups, AreExpansions, AreNamed, CanStart, HasCells, HoldsCells, IsExpansion, IsInvokedGroup, IsLater};
+ghost use Rattle.cal_group.specs.inside.Expansion.{binding_sets, counted, done_line, statements_listed, start_set, taking_sets};
 
 use cal_ast::{
     Assign, CalCell, CalComp, CalDesign, CalOk, CalPort, Control, ControlPart, DoneSet, Group,
@@ -286,10 +286,10 @@ fn expand_statements(
     requires numbers { All (StatementHasNumbers cells.source.now) statements.now }
     requires cells { HoldsCells cells.source.now cells.table.now }
     ensures kept { KeepsTexts made.old.names made.new.names }
-    ensures item { OnOk result (made.new.item ≡ made.old.item + length (listed cells.entry.source.now statements.now)) }
+    ensures item { OnOk result (made.new.item ≡ made.old.item + length (statements_listed cells.entry.source.now statements.now)) }
     ensures groups { (design : Design) (c : Component) → HasCells c cells.entry.source.now cells.entry.table.now → AreNamed made.old.names cells.entry.ports
-        → CanStart design c (listed cells.entry.source.now statements.now)
-        → OnOk result (AddsGroups design c cells.entry.source.now made.new.names made.old.item (listed cells.entry.source.now statements.now)
+        → CanStart design c (statements_listed cells.entry.source.now statements.now)
+        → OnOk result (AddsGroups design c cells.entry.source.now made.new.names made.old.item (statements_listed cells.entry.source.now statements.now)
         made.old.groups.items made.new.groups.items) }
     ensures statements { IfOk result (λ answers.
         AreExpansions cells.entry.source.now made.new.names made.old.item (map (statement_tree cells.entry.source.now) statements.now) answers.items) }

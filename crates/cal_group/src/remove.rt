@@ -29,7 +29,7 @@ fn both(
     ensures tree { (names : List Text) → IfOk result (λ guard.
         port_guard names guard ≡ AllOf (guards_of (port_guard names first ∷ port_guard names second ∷ []))) }
 {
-    let mut guards = Vec::new(alloc);
+    let mut guards = Vec::with_capacity(alloc, 2)?;
     guards.push(first)?;
     guards.push(second)?;
     Ok(Guard::All(guards))

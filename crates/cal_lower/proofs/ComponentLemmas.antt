@@ -30,11 +30,11 @@ use Rattle.cal_ast.specs.declared.tree.InBind.{InBind}
 use Rattle.cal_ast.specs.declared.tree.OutBind.{OutBind}
 use Rattle.cal_copy.specs.Copies.{IsCellCopy, IsSetCopy}
 use Rattle.cal_group.specs.Ruling.{RuleHasNumbers}
-use Rattle.cal_lower.specs.Labels.{KeepsLabels}
+use Rattle.cal_lower.specs.inside.Labels.{KeepsLabels}
 use Rattle.cal_lower.specs.Lowered.{lowered, rule_of, with_registers}
-use Rattle.cal_lower.specs.Making.{ShowRules, rule_when}
+use Rattle.cal_lower.specs.inside.Making.{ShowRules, rule_when}
 use Rattle.cal_lower.specs.Pieces.{Piece, piece_cell, piece_sets}
-use Rattle.cal_lower.specs.Shown.{ShowAll, Shows, ShowsGuard}
+use Rattle.cal_lower.specs.inside.Shown.{ShowAll, Shows, ShowsGuard}
 use Rattle.cal_lower.specs.declared.labels.Labels.{Labels}
 use Rattle.cal_lower.proofs.CopiedLemmas.{cells_copied, sets_copied}
 use Rattle.cal_lower.proofs.GrownLemmas.{labels_trans, show_all_kept, show_append, show_push}

@@ -22,7 +22,7 @@ use Rattle.cal_ast.specs.Sides.{IsSource, StatementReads}
 use Rattle.cal_ast.specs.Statement.{IfCondition}
 use Rattle.cal_ast.specs.Tree.{PortName, own, DoneLine, GroupDef, Statement, Enable, Seq, Par, If, While, Invoke, Component, Design}
 use Rattle.cal_walk.specs.Left.{is_over}
-use Rattle.cal_lower.specs.Added.{Additions, extended}
+use Rattle.cal_lower.specs.inside.Added.{Additions, extended}
 use Rattle.cal_lower.specs.Lowered.{acts_guard, acts_wire, done_wire, group_pieces, control_ends, start_guard, instance_pieces, plan_pieces, control_pieces}
 use Rattle.cal_lower.specs.Parts.{part_ends, part_pieces, enabling, testing}
 use Rattle.cal_lower.specs.Pieces.{Piece, Wire, Register, piece, start_name, busy_name, over_name, acts_name, done_name, shown, is_set, either, both, any_of, is_done}

@@ -10,7 +10,7 @@ use Rattle.cal_ast.specs.Holes.{ActivityRule, is_rule_of, rules_of}
 use Rattle.cal_ast.specs.NoInvoke.{IsPlainDesign}
 use Rattle.cal_ast.specs.Plain.{HasPlainTree}
 use Rattle.cal_ast.specs.Tree.{GroupDef, Component, Design}
-use Rattle.cal_lower.specs.Added.{Additions, extended}
+use Rattle.cal_lower.specs.inside.Added.{Additions, extended}
 use Rattle.cal_lower.specs.Lowered.{rule_of, rules_from}
 use Rattle.cal_lower.proofs.ListLemmas.{Each, each_at}
 use Rattle.cal_lower.proofs.ExtendedLemmas.{extended_name}

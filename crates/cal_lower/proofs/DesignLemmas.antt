@@ -16,9 +16,9 @@ use Rattle.cal_ast.specs.declared.tree.CalComp.{CalComp}
 use Rattle.cal_ast.specs.declared.tree.CalDesign.{CalDesign}
 use Rattle.cal_ast.specs.declared.lowered.ActRule.{ActRule}
 use Rattle.cal_lower.specs.Lowered.{HasFewParts, IsLoweringOf, lowered, rule_of, rules_from}
-use Rattle.cal_lower.specs.Making.{ShowRules}
-use Rattle.cal_lower.specs.Shown.{Shows, ShowAll}
-use Rattle.cal_lower.specs.Statements.{CanLowerComponent, HasNoInvoke, HaveNoInvoke, SectionHasNoInvoke}
+use Rattle.cal_lower.specs.inside.Making.{ShowRules}
+use Rattle.cal_lower.specs.inside.Shown.{Shows, ShowAll}
+use Rattle.cal_lower.specs.inside.Statements.{CanLowerComponent, HasNoInvoke, HaveNoInvoke, SectionHasNoInvoke}
 use Rattle.cal_lower.proofs.GrownLemmas.{show_all_kept, show_push, shows_kept}
 use Rattle.cal_lower.proofs.NextLemmas.{All-at, All-next, map_next, one_more}
 use Rattle.cal_lower.proofs.StableLemmas.{KeepsTexts-refl}

@@ -13,7 +13,7 @@ use Rattle.cal_token.specs.Tokens.{Ended, size}
 use Rattle.cal_walk.specs.Left.{is_over}
 use Rattle.cal_lower.specs.Parts.{ended_guards, none_if_over, part_ends}
 use Rattle.cal_lower.specs.Pieces.{either, has_token}
-use Rattle.cal_lower.specs.Shown.{ShowsGuards}
+use Rattle.cal_lower.specs.inside.Shown.{ShowsGuards}
 use Rattle.cal_lower.proofs.SizeLemmas.{item_after, plan, plans, plans_end, plans_next}
 
 -- a part that takes no row has no guard, and any other one has its own

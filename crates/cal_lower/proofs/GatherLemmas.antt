@@ -12,10 +12,10 @@ use Rattle.cal_ast.specs.Tree.{PortName, port_tree}
 use Rattle.cal_ast.specs.declared.tree.CalPort.{CalPort}
 use Rattle.cal_token.specs.Tokens.{Again, Going, size}
 use Rattle.cal_walk.specs.Left.{is_over}
-use Rattle.cal_lower.specs.Making.{Made, ShowsParts, loop_made, part_made, tests_group, with_made}
+use Rattle.cal_lower.specs.inside.Making.{Made, ShowsParts, loop_made, part_made, tests_group, with_made}
 use Rattle.cal_lower.specs.Parts.{again_guard, chooses_nothing, ends_guard, ends_wire, none_if_over, part_ends, part_pieces, tested_guard}
 use Rattle.cal_lower.specs.Pieces.{Piece, Register, any_of, both, either, has_token, piece, reads, token_name}
-use Rattle.cal_lower.specs.Shown.{Guards, ShowsActs, ShowsGuard, ShowsGuards, ShowsPieces, ShowsPort, ShowsWanted, more_of, nothing, seen_guard}
+use Rattle.cal_lower.specs.inside.Shown.{Guards, ShowsActs, ShowsGuard, ShowsGuards, ShowsPieces, ShowsPort, ShowsWanted, more_of, nothing, seen_guard}
 use Rattle.cal_lower.specs.declared.acts.Acts.{Acts}
 use Rattle.cal_lower.specs.declared.pieces.Pieces.{Pieces}
 use Rattle.cal_lower.proofs.GrownLemmas.{show_all_kept, show_push, shows_kept}

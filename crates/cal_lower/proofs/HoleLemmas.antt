@@ -11,7 +11,7 @@ use Rattle.cal_ast.specs.Plain.{HasPlainTree}
 use Rattle.cal_ast.specs.Ports.{is_bare}
 use Rattle.cal_ast.specs.Rules.{HasNoLoops}
 use Rattle.cal_ast.specs.Tree.{PortName, GroupDef, Component, Design}
-use Rattle.cal_lower.specs.Added.{Additions, extended}
+use Rattle.cal_lower.specs.inside.Added.{Additions, extended}
 use Rattle.cal_lower.specs.Laws.{LoweringsAreHoles}
 use Rattle.cal_lower.specs.Lowered.{lowered, rules_from, HasFewParts}
 use Rattle.cal_lower.specs.Pieces.{acts_name, is_set, never}

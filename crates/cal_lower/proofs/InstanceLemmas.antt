@@ -17,12 +17,12 @@ use Rattle.cal_ast.specs.declared.tree.ControlPart.{ControlPart}
 use Rattle.cal_ast.specs.declared.tree.ControlPart.TheVariants as parts
 use Rattle.cal_ast.specs.declared.tree.Group.{Group}
 use Rattle.cal_walk.specs.Left.{is_over}
-use Rattle.cal_lower.specs.Labels.{KeepsLabels}
-use Rattle.cal_lower.specs.Making.{CanLowerGroup, Made, ShowsParts, ShowsPlan, part_made, plan_made, with_made}
+use Rattle.cal_lower.specs.inside.Labels.{KeepsLabels}
+use Rattle.cal_lower.specs.inside.Making.{CanLowerGroup, Made, ShowsParts, ShowsPlan, part_made, plan_made, with_made}
 use Rattle.cal_lower.specs.Parts.{part_pieces}
 use Rattle.cal_lower.specs.Pieces.{Piece, is_set, start_name}
-use Rattle.cal_lower.specs.Shown.{ShowsGuard, ShowsGuards, seen_guard}
-use Rattle.cal_lower.specs.Statements.{CanLowerComponent, CanLowerSection}
+use Rattle.cal_lower.specs.inside.Shown.{ShowsGuard, ShowsGuards, seen_guard}
+use Rattle.cal_lower.specs.inside.Statements.{CanLowerComponent, CanLowerSection}
 use Rattle.cal_lower.specs.declared.acts.Acts.{Acts}
 use Rattle.cal_lower.specs.declared.labels.Labels.{Labels}
 use Rattle.cal_lower.specs.declared.made.Parts.{Parts}

@@ -13,7 +13,7 @@ use Rattle.cal_ast.specs.Ports.{SidedPin, port_named, port_in, width_in}
 use Rattle.cal_ast.specs.Sides.{DrivesDestination, IsSource, ReadsSources, DoneReadsSources}
 use Rattle.cal_ast.specs.Tree.{PortName, Assignment, DoneLine, GroupDef, Component, Design}
 use Rattle.cal_ast.specs.Typing.{source_width, GuardAgrees, GuardsAgree, OptionAgrees, WidthsAgree, DoneAgrees}
-use Rattle.cal_lower.specs.Added.{Additions, extended}
+use Rattle.cal_lower.specs.inside.Added.{Additions, extended}
 use Rattle.cal_lower.proofs.ExtendedLemmas.{AreOfPrimitives, answer, ports_kept, place_found, destination_kept, source_kept}
 
 module _ (add : Additions) (primitive : AreOfPrimitives add) (source : Design) (c : Component) where

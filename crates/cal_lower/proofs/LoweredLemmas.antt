@@ -10,7 +10,7 @@ use Rattle.hw_prims.specs.declared.prim.Primitive.TheVariants.{StdWire, StdReg}
 use Rattle.cal_ast.proofs.ListLemmas.{Contains-from_map, Contains-none, find-Some}
 use Rattle.cal_ast.specs.Ports.{is_bare, cell_named, primitive_of}
 use Rattle.cal_ast.specs.Tree.{CellDef, Component}
-use Rattle.cal_lower.specs.Added.{Additions}
+use Rattle.cal_lower.specs.inside.Added.{Additions}
 use Rattle.cal_lower.specs.Lowered.{control_pieces}
 use Rattle.cal_lower.specs.Pieces.{Kind, Wire, Register, Piece, made_by, piece_cell, piece_sets}
 use Rattle.cal_lower.proofs.ExtendedLemmas.{AreOfPrimitives, added_cells}

@@ -10,7 +10,7 @@ use Rattle.cal_ast.specs.Numbers.{PinHasNumber}
 use Rattle.cal_ast.specs.Ports.{has_pin, with_pin}
 use Rattle.cal_ast.specs.Tree.{pin_tree}
 use Rattle.cal_ast.specs.declared.tree.CalPin.{CalPin}
-use Rattle.cal_lower.specs.Shown.{ShowAll, Shows, ShowsName}
+use Rattle.cal_lower.specs.inside.Shown.{ShowAll, Shows, ShowsName}
 use Rattle.cal_lower.proofs.GrownLemmas.{name_number, name_text, show_all_kept, show_push}
 use Rattle.cal_lower.proofs.StableLemmas.{KeepsTexts-trans, pins_kept, pins_numbers}
 

@@ -13,7 +13,7 @@ use Rattle.cal_ast.specs.NoInvoke.{IsPlainDesign}
 use Rattle.cal_ast.specs.Plain.{HasPlainTree}
 use Rattle.cal_ast.specs.Ports.{is_bare, component_named, part_of}
 use Rattle.cal_ast.specs.Tree.{CellDef, Component, Design}
-use Rattle.cal_lower.specs.Added.{Additions, extended}
+use Rattle.cal_lower.specs.inside.Added.{Additions, extended}
 use Rattle.cal_lower.proofs.ExtendedLemmas.{AreOfPrimitives, AreNamed, CellsApart, answer, extended_name, extended_cells, added_cells, added_is_primitive, part_of-extended}
 use Rattle.cal_lower.proofs.ListLemmas.{Each, each_from, each_at, each_weaker}
 use Rattle.cal_lower.proofs.SourceLemmas.{Contains-before}

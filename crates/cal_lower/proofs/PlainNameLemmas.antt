@@ -19,7 +19,7 @@ use Rattle.cal_ast.specs.Tree.{CellDef, DoneLine, GroupDef, Component, Design}
 use Rattle.cal_group.specs.Laws.{IsPlainGroup, AreGroupsPlain, HasPlainGroups}
 use Rattle.cal_token.specs.Tokens.{Going, Starting, Ended, Again, size}
 use Rattle.cal_walk.specs.Left.{is_over}
-use Rattle.cal_lower.specs.Added.{Additions, extended}
+use Rattle.cal_lower.specs.inside.Added.{Additions, extended}
 use Rattle.cal_lower.specs.Laws.{LoweringsArePlain}
 use Rattle.cal_lower.specs.Lowered.{done_wire, group_pieces, instance_pieces, plan_pieces, control_pieces, HasFewParts}
 use Rattle.cal_lower.specs.Parts.{part_pieces}

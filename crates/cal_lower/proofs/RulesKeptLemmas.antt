@@ -19,7 +19,7 @@ use Rattle.cal_ast.specs.Rules.{Rule, C1, C2, C3, C4, C5, C6, C7, C8, Keeps, Kee
 use Rattle.cal_ast.specs.Sides.{IsSource}
 use Rattle.cal_ast.specs.Tree.{own, CellDef, Assignment, GroupDef, Component, Design}
 use Rattle.cal_ast.specs.Typing.{HasParameters, HasWidth, HasWidths}
-use Rattle.cal_lower.specs.Added.{Additions, extended}
+use Rattle.cal_lower.specs.inside.Added.{Additions, extended}
 use Rattle.cal_lower.specs.Lowered.{done_set}
 use Rattle.cal_lower.specs.Pieces.{acts_name, shown, over_name}
 use Rattle.cal_lower.proofs.ExtendedLemmas.{AreOfPrimitives, AreNamed, answer, extended_bare, extended_is_bare, extended_name, extended_groups, extended_ins, extended_outs, extended_inputs, extended_outputs, extended_absent, extended_sets, extended_cells, added_cells, added_made, added_is_primitive, part_of-extended}

@@ -35,7 +35,7 @@ use Rattle.cal_ast.specs.Spans.{View}
 use Rattle.cal_ast.specs.Tree.{PortName, own, port_of, CellDef, Assignment, GroupDef, Component, Design}
 use Rattle.cal_walk.proofs.StageLemmas.{walking_is_the_schedule}
 use Rattle.cal_walk.specs.Stages.{progress_at, acts_now, is_done_now}
-use Rattle.cal_lower.specs.Added.{Additions, extended}
+use Rattle.cal_lower.specs.inside.Added.{Additions, extended}
 use Rattle.cal_lower.specs.Laws.{KeepsRunsFromEach}
 use Rattle.cal_lower.specs.Lowered.{done_set, rules_from}
 use Rattle.cal_lower.specs.Pieces.{never, is_set, acts_name, shown, over_name}

@@ -9,7 +9,7 @@ use Rattle.cal_ast.specs.Keeping.{IsAddedCell, KeepsComponentShape, KeepsShape}
 use Rattle.cal_ast.specs.Naming.{IsReserved}
 use Rattle.cal_ast.specs.Ports.{is_bare}
 use Rattle.cal_ast.specs.Tree.{CellDef, Component, Design}
-use Rattle.cal_lower.specs.Added.{Additions, extended}
+use Rattle.cal_lower.specs.inside.Added.{Additions, extended}
 use Rattle.cal_lower.specs.Laws.{LoweringsKeepShape}
 use Rattle.cal_lower.specs.Lowered.{control_pieces, HasFewParts}
 use Rattle.cal_lower.specs.Pieces.{Kind, Wire, Register, Piece, made_by, piece_cell}

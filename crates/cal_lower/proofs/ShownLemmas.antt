@@ -28,7 +28,7 @@ use Rattle.cal_ast.specs.Plain.{HasPlainTree}
 use Rattle.cal_ast.specs.Ports.{is_bare, cell_named, primitive_of, primitive_in, part_in, made_inputs, SidedPin, port_in}
 use Rattle.cal_ast.specs.Sides.{IsDestination}
 use Rattle.cal_ast.specs.Tree.{PortName, port_of, CellDef, Assignment, GroupDef, Component, Design}
-use Rattle.cal_lower.specs.Added.{Additions, extended}
+use Rattle.cal_lower.specs.inside.Added.{Additions, extended}
 use Rattle.cal_lower.specs.Lowered.{done_set, rules_from}
 use Rattle.cal_lower.specs.Pieces.{Kind, Wire, Register, Piece, piece_cell, piece_set, enables_piece, piece_sets, shown}
 use Rattle.cal_lower.proofs.ExtendedLemmas.{AreOfPrimitives, AreNamed, CellsApart, DrivesAdded, answer, lasting_sets, extended_sets, extended_groups, added_cells, cell_other, HasPlace, place_found, instance_kept}

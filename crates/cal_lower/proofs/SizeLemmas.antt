@@ -16,7 +16,7 @@ use Rattle.cal_ast.specs.declared.tree.ControlPart.TheVariants as part
 use Rattle.cal_token.specs.Tokens.{size, sizes}
 use Rattle.cal_walk.specs.Left.{are_over, is_over}
 use Rattle.cal_lower.specs.Parts.{last_part}
-use Rattle.cal_lower.specs.Statements.{statements_from}
+use Rattle.cal_lower.specs.inside.Statements.{statements_from}
 use Rattle.cal_lower.proofs.StatementLemmas.{par_tree, seq_tree}
 
 -- the plans of statements, the first of which is at this item

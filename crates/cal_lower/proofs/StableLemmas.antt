@@ -19,7 +19,7 @@ use Rattle.cal_ast.specs.declared.tree.CalPin.{CalPin}
 use Rattle.cal_ast.specs.declared.tree.CalPort.{CalPort}
 use Rattle.cal_ast.specs.declared.tree.DoneSet.{DoneSet}
 use Rattle.cal_ast.specs.declared.tree.Group.{Group}
-use Rattle.cal_lower.specs.Making.{by_group}
+use Rattle.cal_lower.specs.inside.Making.{by_group}
 
 pub KeepsTexts-refl : (names : List Text) → KeepsTexts names names
 KeepsTexts-refl names i text found = found

@@ -14,7 +14,7 @@ use Rattle.cal_ast.specs.declared.tree.CalPort.{CalPort}
 use Rattle.cal_ast.specs.declared.tree.Control.{Control, Row_of-Control, end_of-Control, more_of-Control, items-the_row-Control, items_hidden-the_row-Control-0}
 use Rattle.cal_ast.specs.declared.tree.Control as code
 use Rattle.cal_ast.specs.declared.tree.Control.TheVariants as controls
-use Rattle.cal_lower.specs.Statements.{CanLower, CanLowerAll, HasNoInvoke, HaveNoInvoke, statements_from}
+use Rattle.cal_lower.specs.inside.Statements.{CanLower, CanLowerAll, HasNoInvoke, HaveNoInvoke, statements_from}
 use Rattle.cal_lower.proofs.StableLemmas.{KeepsTexts-trans}
 use Rattle.cal_lower.proofs.NextLemmas.{All-at}
 

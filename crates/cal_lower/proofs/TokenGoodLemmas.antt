@@ -9,7 +9,7 @@ use Rattle.cal_ast.specs.Plan.{plan_of}
 use Rattle.cal_ast.specs.Ports.{is_bare, primitive_in}
 use Rattle.cal_ast.specs.Tree.{Assignment, Component, Design}
 use Rattle.cal_token.specs.Tokens.{size}
-use Rattle.cal_lower.specs.Added.{extended}
+use Rattle.cal_lower.specs.inside.Added.{extended}
 use Rattle.cal_lower.specs.Lowered.{control_pieces}
 use Rattle.cal_lower.specs.Pieces.{Piece, piece_cell, piece_sets, shown}
 use Rattle.cal_lower.proofs.ControlGoodLemmas.{acts_bit, over_bit, pieces_good}

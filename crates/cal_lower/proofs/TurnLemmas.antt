@@ -7,7 +7,7 @@ use Rattle.cal_ast.specs.Tree.{PortName}
 use Rattle.cal_ast.specs.declared.tree.Control.{Control}
 use Rattle.cal_token.specs.Tokens.{size}
 use Rattle.cal_walk.specs.Left.{is_over}
-use Rattle.cal_lower.specs.Making.{Made, ShowsParts, with_made, in_turn_made, at_once_made, turn_made}
+use Rattle.cal_lower.specs.inside.Making.{Made, ShowsParts, with_made, in_turn_made, at_once_made, turn_made}
 use Rattle.cal_lower.specs.declared.made.Parts.{Parts}
 use Rattle.cal_lower.proofs.MakingLemmas.{Alike, alike_refl, alike_sym, alike_trans, none_made, with_none, with_assoc, with_second, shows_alike, rest_made, rest_none, rest_over, rest_lasts, at_once_over, at_once_lasts, one_at_once}
 use Rattle.cal_lower.proofs.SizeLemmas.{item_after, plan, plans, plans_end, plans_next}

@@ -12,7 +12,7 @@ use Rattle.net_core.specs.declared.net.Guard.{Guard}
 use Rattle.cal_ast.specs.Numbers.{GuardHasNumbers}
 use Rattle.cal_ast.specs.Tree.{PortName}
 use Rattle.cal_ast.specs.declared.tree.CalPort.{CalPort}
-use Rattle.cal_lower.specs.Shown.{Guards, PutsGuard, ShowsActs, ShowsGuard, ShowsGuards, ShowsWanted, enabled_in, more_of, nothing, seen_guard, tested_in}
+use Rattle.cal_lower.specs.inside.Shown.{Guards, PutsGuard, ShowsActs, ShowsGuard, ShowsGuards, ShowsWanted, enabled_in, more_of, nothing, seen_guard, tested_in}
 use Rattle.cal_lower.specs.declared.acts.Acts.{Acts}
 use Rattle.cal_lower.specs.declared.acts.Wanted.{Wanted}
 use Rattle.cal_lower.proofs.GrownLemmas.{show_push}

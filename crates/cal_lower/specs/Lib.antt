@@ -1,9 +1,5 @@
+pub mod inside
 pub mod Pieces
 pub mod Parts
 pub mod Lowered
-pub mod Added
 pub mod Laws
-pub mod Labels
-pub mod Statements
-pub mod Shown
-pub mod Making

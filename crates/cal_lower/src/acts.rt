@@ -5,7 +5,7 @@ ghost use Rattle.net_core.specs.Guard.{GuardTree};
 ghost use Rattle.cal_ast.specs.Tree.{PortName};
 ghost use Rattle.cal_ast.specs.declared.tree.Group.{Group as GroupOf};
 ghost use Rattle.net_core.specs.Numbers.{IsNumberOf};
-ghost use Rattle.cal_lower.specs.Shown.{Guards, PutsGuard, ShowsActs, ShowsGuard, ShowsWanted, enabled_in, more_of, nothing, tested_in};
+ghost use Rattle.cal_lower.specs.inside.Shown.{Guards, PutsGuard, ShowsActs, ShowsGuard, ShowsWanted, enabled_in, more_of, nothing, tested_in};
 
 use cal_ast::{CalPort, Group};
 use cal_copy::add_name;

@@ -4,8 +4,8 @@ ghost use Rattle.hw_names.specs.Name.{KeepsTexts, Text};
 ghost use Rattle.cal_ast.specs.Numbers.{ComponentHasNumbers, PinHasNumber, PortHasNumbers, SetHasNumbers};
 ghost use Rattle.cal_ast.specs.Ports.{drives_done, has_pin, is_bare, is_own, with_pin};
 ghost use Rattle.cal_ast.specs.Tree.{assignment_tree, component_tree, pin_tree, port_tree};
-ghost use Rattle.cal_lower.specs.Labels.{KeepsLabels};
-ghost use Rattle.cal_lower.specs.Shown.{ShowAll};
+ghost use Rattle.cal_lower.specs.inside.Labels.{KeepsLabels};
+ghost use Rattle.cal_lower.specs.inside.Shown.{ShowAll};
 
 use crate::labels::Labels;
 use cal_ast::{CalComp, CalPin, CalPort, ControlPart};

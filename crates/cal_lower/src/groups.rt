@@ -4,11 +4,11 @@ ghost use Rattle.hw_names.specs.Name.{KeepsTexts, Text};
 ghost use Rattle.cal_ast.specs.Numbers.{DoneHasNumbers};
 ghost use Rattle.cal_ast.specs.Plan.{Plan};
 ghost use Rattle.cal_ast.specs.Tree.{done_tree, group_tree};
-ghost use Rattle.cal_lower.specs.Labels.{AreTexts, KeepsLabels};
+ghost use Rattle.cal_lower.specs.inside.Labels.{AreTexts, KeepsLabels};
 ghost use Rattle.cal_lower.specs.Lowered.{acts_guard, done_wire, group_pieces};
-ghost use Rattle.cal_lower.specs.Making.{CanLowerGroup};
+ghost use Rattle.cal_lower.specs.inside.Making.{CanLowerGroup};
 ghost use Rattle.cal_lower.specs.Pieces.{Piece};
-ghost use Rattle.cal_lower.specs.Shown.{ShowsGuard, ShowsPieces};
+ghost use Rattle.cal_lower.specs.inside.Shown.{ShowsGuard, ShowsPieces};
 
 use crate::acts::Acts;
 use crate::guards::{any_of, unless};

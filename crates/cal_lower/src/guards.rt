@@ -4,7 +4,7 @@ ghost use Rattle.hw_names.specs.Name.{Text};
 ghost use Rattle.net_core.specs.Guard.{GuardTree, Negates};
 ghost use Rattle.cal_ast.specs.Tree.{PortName};
 ghost use Rattle.cal_lower.specs.Pieces.{all_of, any_of, both, either, never, reads};
-ghost use Rattle.cal_lower.specs.Shown.{ShowsGuard, ShowsGuards, ShowsPort};
+ghost use Rattle.cal_lower.specs.inside.Shown.{ShowsGuard, ShowsGuards, ShowsPort};
 
 use cal_ast::CalPort;
 use hw_bits::Memory;
@@ -40,7 +40,7 @@ fn pair(
     ensures { (names : List Text) (one other : GuardTree PortName) → ShowsGuard names one left → ShowsGuard names other right
         → IfOk result (λ guards. ShowsGuards names (one ∷ other ∷ []) guards.items) }
 {
-    let mut guards = Vec::new(alloc);
+    let mut guards = Vec::with_capacity(alloc, 2)?;
     guards.push(left)?;
     guards.push(right)?;
     Ok(guards)

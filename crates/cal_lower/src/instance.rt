@@ -4,12 +4,12 @@ ghost use Rattle.hw_names.specs.Name.{KeepsTexts, Text, text_of};
 ghost use Rattle.cal_ast.specs.Numbers.{ComponentHasNumbers, ControlHasNumbers};
 ghost use Rattle.cal_ast.specs.Plan.{plan_at, section_plan};
 ghost use Rattle.cal_ast.specs.Tree.{component_tree, control_tree, statement_tree};
-ghost use Rattle.cal_lower.specs.Labels.{AreTexts, KeepsLabels};
+ghost use Rattle.cal_lower.specs.inside.Labels.{AreTexts, KeepsLabels};
 ghost use Rattle.cal_lower.specs.Lowered.{control_ends, control_pieces, instance_pieces, start_guard};
-ghost use Rattle.cal_lower.specs.Making.{Made, ShowsParts, busy_guard, plan_made, with_made};
+ghost use Rattle.cal_lower.specs.inside.Making.{Made, ShowsParts, busy_guard, plan_made, with_made};
 ghost use Rattle.cal_lower.specs.Pieces.{Piece};
-ghost use Rattle.cal_lower.specs.Shown.{ShowsGuard, ShowsPieces};
-ghost use Rattle.cal_lower.specs.Statements.{CanLower, CanLowerComponent, CanLowerSection};
+ghost use Rattle.cal_lower.specs.inside.Shown.{ShowsGuard, ShowsPieces};
+ghost use Rattle.cal_lower.specs.inside.Statements.{CanLower, CanLowerComponent, CanLowerSection};
 ghost use Rattle.cal_walk.specs.Left.{is_over};
 
 use crate::acts::Acts;

@@ -4,12 +4,12 @@ ghost use Rattle.hw_names.specs.Name.{Text};
 ghost use Rattle.net_core.specs.Guard.{GuardTree};
 ghost use Rattle.cal_ast.specs.Plan.{plan_at, plans_from};
 ghost use Rattle.cal_ast.specs.Tree.{PortName, statement_tree};
-ghost use Rattle.cal_lower.specs.Labels.{AreTexts, KeepsLabels};
-ghost use Rattle.cal_lower.specs.Making.{Made, ShowsParts, at_once_made, in_turn_made, later_made, part_made, turn_made, with_made};
+ghost use Rattle.cal_lower.specs.inside.Labels.{AreTexts, KeepsLabels};
+ghost use Rattle.cal_lower.specs.inside.Making.{Made, ShowsParts, at_once_made, in_turn_made, later_made, part_made, turn_made, with_made};
 ghost use Rattle.cal_lower.specs.Parts.{part_ends};
 ghost use Rattle.cal_lower.specs.Pieces.{reads};
-ghost use Rattle.cal_lower.specs.Shown.{ShowsGuard, ShowsPort};
-ghost use Rattle.cal_lower.specs.Statements.{CanLower, CanLowerAll, statements_from};
+ghost use Rattle.cal_lower.specs.inside.Shown.{ShowsGuard, ShowsPort};
+ghost use Rattle.cal_lower.specs.inside.Statements.{CanLower, CanLowerAll, statements_from};
 
 use crate::ends::{
     part_ends, push_all_end, push_choice, push_enable, push_ended, push_loop, push_turn_end, tested,

@@ -6,7 +6,7 @@ ghost use Rattle.cal_ast.specs.Tree.{control_tree, statement_tree};
 ghost use Rattle.cal_token.specs.Tokens.{size, sizes};
 ghost use Rattle.cal_walk.specs.Left.{are_over, is_over};
 ghost use Rattle.cal_lower.specs.Parts.{last_part};
-ghost use Rattle.cal_lower.specs.Statements.{statements_from};
+ghost use Rattle.cal_lower.specs.inside.Statements.{statements_from};
 
 use cal_ast::{Control, ControlPart};
 use hw_bits::Memory;

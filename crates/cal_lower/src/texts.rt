@@ -1,7 +1,7 @@
 //! Names of wires and registers of control, as texts and as numbers.
 ghost use Rattle.std.specs.Prelude.{◌≡◌, ◌++◌, Some, decimal, slice_get, IfOk};
 ghost use Rattle.hw_names.specs.Name.{KeepsTexts};
-ghost use Rattle.cal_lower.specs.Labels.{LabelHasNumber, label_text};
+ghost use Rattle.cal_lower.specs.inside.Labels.{LabelHasNumber, label_text};
 
 use cal_copy::add_name;
 use hw_bits::Memory;

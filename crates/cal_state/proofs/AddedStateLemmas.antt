@@ -22,7 +22,7 @@ use Rattle.cal_ast.specs.Ports.{is_bare, inputs_in, outputs_in, primitive_of}
 use Rattle.cal_ast.specs.Tree.{PortName, port_of, CellDef, Assignment, DoneLine, GroupDef, Absent, Component, Design}
 use Rattle.cal_walk.specs.Left.{is_over}
 use Rattle.cal_token.specs.Tokens.{size}
-use Rattle.cal_lower.specs.Added.{Additions, with_added, extended}
+use Rattle.cal_lower.specs.inside.Added.{Additions, with_added, extended}
 use Rattle.cal_lower.specs.Lowered.{control_pieces, done_set, done_wire, group_pieces, instance_pieces, plan_pieces}
 use Rattle.cal_lower.specs.Parts.{part_pieces}
 use Rattle.cal_lower.specs.Pieces.{Kind, Wire, Register, Piece, piece_cell, piece_set, enables_piece, piece_sets, is_set, start_name}

@@ -24,9 +24,9 @@ use Rattle.cal_lower.proofs.ComponentLemmas.{component_numbers, lowered_bare, lo
 use Rattle.cal_lower.proofs.StableLemmas.{KeepsTexts-refl, cells_kept, groups_kept, guard_kept, guard_numbers, id_number, map_kept, pins_kept, sets_kept}
 use Rattle.cal_lower.proofs.GrownLemmas.{show_all_kept}
 use Rattle.cal_lower.proofs.NextLemmas.{drop_next, map_next}
-use Rattle.cal_lower.specs.Shown.{Shows}
+use Rattle.cal_lower.specs.inside.Shown.{Shows}
 use Rattle.cal_state.specs.Encoded.{encoded}
-use Rattle.cal_state.specs.Making.{ShowComponents}
+use Rattle.cal_state.specs.inside.Making.{ShowComponents}
 use Rattle.cal_state.proofs.EncodingLemmas.{show_first, show_rest}
 
 module _ (old new : List Text) (kept : KeepsTexts old new) where

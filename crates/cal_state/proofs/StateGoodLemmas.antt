@@ -21,7 +21,7 @@ use Rattle.cal_ast.specs.Sides.{IsSource}
 use Rattle.cal_ast.specs.Tree.{PortName, port_of, Assignment, Component, Design}
 use Rattle.cal_ast.specs.Typing.{LiteralFits, GuardsAgree, OptionAgrees}
 use Rattle.cal_token.specs.Tokens.{size}
-use Rattle.cal_lower.specs.Added.{extended}
+use Rattle.cal_lower.specs.inside.Added.{extended}
 use Rattle.cal_lower.specs.Lowered.{control_pieces, group_pieces, instance_pieces, plan_pieces}
 use Rattle.cal_lower.specs.Pieces.{Piece, Wire, piece, piece_cell, piece_sets, never, both, any_of, is_set, shown, over_name}
 use Rattle.cal_lower.proofs.ControlGoodLemmas.{acts_bit, over_bit, pieces_good}

@@ -28,7 +28,7 @@ use Rattle.cal_ast.specs.Tree.{PortName, own, port_of, CellDef, Assignment, Grou
 use Rattle.cal_ast.specs.Wires.{IsAssignedIn, ReadsByAssignment, ReadsByDone, ReadsByGo, ReadsByPrimitive, CrossesCell, DependsWithinRow, ReadsPort, ByAssignment, ByDone, ByGo, ByPrimitive, ByComponent}
 use Rattle.cal_ast.specs.Wires.{Reaches, AtOnce, Over, ReadsAlong, HasNoLoop, set_ports}
 use Rattle.cal_token.specs.Tokens.{Token, size}
-use Rattle.cal_lower.specs.Added.{Additions, extended}
+use Rattle.cal_lower.specs.inside.Added.{Additions, extended}
 use Rattle.cal_lower.specs.Lowered.{HasFewParts, control_ends, control_pieces, done_set, group_pieces, instance_pieces, plan_pieces, rules_from, start_guard}
 use Rattle.cal_lower.specs.Pieces.{Piece, Wire, Register, piece, piece_cell, piece_set, piece_sets, token_name, start_name, busy_name, over_name, shown, is_set, both, either, any_of}
 use Rattle.cal_lower.proofs.AnswerReadLemmas.{Enters, ToActs, ToDone, ToStart, ToRegister, Onward, set_on, piece_set_case, wire_depends}

@@ -13,7 +13,7 @@ use Rattle.cal_ast.specs.declared.tree.Control.TheVariants as controls
 use Rattle.cal_token.specs.Tokens.{Again, size}
 use Rattle.cal_walk.specs.Left.{is_over}
 use Rattle.cal_lower.proofs.SizeLemmas.{plan}
-use Rattle.cal_state.specs.Making.{Walk, one_place, part_walk, turn_walk, with_walk}
+use Rattle.cal_state.specs.inside.Making.{Walk, one_place, part_walk, turn_walk, with_walk}
 use Rattle.cal_state.specs.Threads.{NoState, Thread, lasting_states, place_in}
 use Rattle.cal_state.specs.declared.places.Entry.{Entry}
 use Rattle.cal_state.specs.declared.threads.Thread as code

@@ -1,6 +1,6 @@
+pub mod inside
 pub mod Threads
 pub mod States
 pub mod Encoded
 pub mod Registers
 pub mod Laws
-pub mod Making

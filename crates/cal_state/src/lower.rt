@@ -9,7 +9,7 @@ ghost use Rattle.cal_ast.specs.Tree.{Component, component_tree, design_of};
 ghost use Rattle.cal_group.specs.Ruling.{RuleHasNumbers};
 ghost use Rattle.cal_lower.specs.Lowered.{lowered};
 ghost use Rattle.cal_state.specs.Encoded.{IsStatesOf, encoded};
-ghost use Rattle.cal_state.specs.Making.{ShowComponents};
+ghost use Rattle.cal_state.specs.inside.Making.{ShowComponents};
 
 use crate::component::encode;
 use cal_ast::{CalComp, CalDesign, HoleDesign, PlainDesign};

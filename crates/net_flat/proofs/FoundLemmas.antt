@@ -9,9 +9,9 @@ use Rattle.cal_ast.specs.Ports.{part_of}
 use Rattle.cal_ast.specs.Tree.{Component, cell_tree, component_tree, design_of}
 use Rattle.cal_ast.specs.declared.tree.CalCell.{CalCell}
 use Rattle.cal_ast.specs.declared.tree.CalDesign.{CalDesign}
-use Rattle.net_flat.specs.Levels.{Part, below, parts_in}
+use Rattle.net_flat.specs.inside.Levels.{Part, below, parts_in}
 use Rattle.net_flat.specs.Listing as listing
-use Rattle.net_flat.specs.Placed.{AreInstances, InstanceHasNumbers, Scope, prefix_of, scope_in, scope_of}
+use Rattle.net_flat.specs.inside.Placed.{AreInstances, InstanceHasNumbers, Scope, prefix_of, scope_in, scope_of}
 use Rattle.net_flat.specs.declared.instances.Instance.{Instance}
 use Rattle.net_flat.proofs.TextLemmas.{prefix_of-last}
 

@@ -16,7 +16,7 @@ use Rattle.net_core.specs.declared.net.Src.{Src}
 use Rattle.net_core.specs.declared.net.Guard.{Guard, Row_of-Guard, end_of-Guard, more_of-Guard, items-the_row-Guard, items_hidden-the_row-Guard-0}
 use Rattle.net_core.specs.declared.net.Guard as code
 use Rattle.net_core.specs.declared.net.Guard.TheVariants as variants
-use Rattle.net_flat.specs.StandFor.{IsGuard, IsSource, AreGuards, negations, net_guard, net_source}
+use Rattle.net_flat.specs.inside.StandFor.{IsGuard, IsSource, AreGuards, negations, net_guard, net_source}
 use Rattle.net_flat.proofs.StandLemmas.{one_kept, stable_source}
 
 row_of : Guard CalPort → (n : Count) × Row_of-Guard CalPort n

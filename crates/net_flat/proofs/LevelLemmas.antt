@@ -14,7 +14,7 @@ use Rattle.cal_ast.specs.Naming.{Unreserved}
 use Rattle.cal_ast.specs.Ports.{part_in, part_of}
 use Rattle.cal_ast.specs.Rules.{KeepsRules}
 use Rattle.cal_ast.specs.Tree.{CellDef, Component, Design}
-use Rattle.net_flat.specs.Levels.{Part, below, children, level, levels, parts_in}
+use Rattle.net_flat.specs.inside.Levels.{Part, below, children, level, levels, parts_in}
 use Rattle.net_flat.specs.Listing.{Instance}
 use Rattle.net_flat.proofs.ListFacts.{AllPairs-append, AllPairs-flat_map, AllPairs-head, AllPairs-tail, AllPairs-map, AllPairs-none, All-from_Contains, length_last, same_before_last}
 

@@ -11,9 +11,9 @@ use Rattle.net_core.specs.Netlist.{netlist_of}
 use Rattle.net_core.specs.declared.net.Net.{Net}
 use Rattle.net_flat.specs.FlatTop.{IsFlatTop}
 use Rattle.net_flat.specs.Laws.{ListingsAreFlattened, ListingsAreValid, ListingsHaveNoLoop}
-use Rattle.net_flat.specs.Levels.{levels}
+use Rattle.net_flat.specs.inside.Levels.{levels}
 use Rattle.net_flat.specs.Listing.{Instance}
-use Rattle.net_flat.specs.ListingOf.{IsListingOf}
+use Rattle.net_flat.specs.inside.ListingOf.{IsListingOf}
 use Rattle.net_flat.proofs.LevelLemmas.{found_in_level, level_in_levels, levels_once, stands_in_levels}
 use Rattle.net_flat.proofs.ListFacts.{All-from_Contains}
 use Rattle.net_flat.proofs.ShortPaths.{short_path}

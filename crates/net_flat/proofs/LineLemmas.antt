@@ -22,8 +22,8 @@ use Rattle.net_core.specs.declared.net.Src.{Src}
 use Rattle.net_core.specs.declared.net.Src.TheVariants.{Port, Lit}
 use Rattle.cal_ast.specs.Keeping.{flat_cell, is_top}
 use Rattle.net_flat.specs.Listing.{flat_pin, flat_set, map_guard, map_guards}
-use Rattle.net_flat.specs.Placed.{port_text, prefix_of}
-use Rattle.net_flat.specs.StandFor.{StandsFor, IsSet, IsSource, IsWhen}
+use Rattle.net_flat.specs.inside.Placed.{port_text, prefix_of}
+use Rattle.net_flat.specs.inside.StandFor.{StandsFor, IsSet, IsSource, IsWhen}
 use Rattle.net_flat.proofs.TextLemmas.{full_name-prefix, number_stands, port_name-prefix}
 
 -- a port with a full name

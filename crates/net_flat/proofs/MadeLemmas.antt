@@ -14,12 +14,12 @@ use Rattle.cal_ast.specs.declared.tree.CalDesign.{CalDesign}
 use Rattle.net_core.specs.Netlist.{pin_of, cell_of}
 use Rattle.net_core.specs.Numbers.{PortHasNumbers, CellHasNumbers}
 use Rattle.net_core.specs.declared.net.Net.{Net}
-use Rattle.net_flat.specs.Levels.{levels}
+use Rattle.net_flat.specs.inside.Levels.{levels}
 use Rattle.net_flat.specs.Listing as listing
 use Rattle.net_flat.specs.Listing.{cells_at, flat_pin, sets_at, wires_at}
-use Rattle.net_flat.specs.ListingOf.{IsListingOf}
-use Rattle.net_flat.specs.Placed.{AreInstances}
-use Rattle.net_flat.specs.StandFor.{AreCells, ArePins, AreSets}
+use Rattle.net_flat.specs.inside.ListingOf.{IsListingOf}
+use Rattle.net_flat.specs.inside.Placed.{AreInstances}
+use Rattle.net_flat.specs.inside.StandFor.{AreCells, ArePins, AreSets}
 use Rattle.net_flat.specs.declared.instances.Instance.{Instance}
 use Rattle.net_flat.proofs.FoundLemmas.{instances_rest, same_length}
 use Rattle.net_flat.proofs.LevelLemmas.{levels_begin}

@@ -11,7 +11,7 @@ use Rattle.net_core.specs.Numbers.{IsNumberOf, SourceHasNumbers, GuardHasNumbers
 use Rattle.net_core.specs.declared.net.Guard.{Guard, Row_of-Guard, end_of-Guard, more_of-Guard}
 use Rattle.net_core.specs.declared.net.Guard as code
 use Rattle.net_core.specs.declared.net.Src.TheVariants.{Port, Lit}
-use Rattle.net_flat.specs.StandFor.{StandsFor, StandFor, net_guard, net_source, net_when}
+use Rattle.net_flat.specs.inside.StandFor.{StandsFor, StandFor, net_guard, net_source, net_when}
 
 pub Keeps-itself : (names : List Text) → KeepsTexts names names
 Keeps-itself names i text found = found

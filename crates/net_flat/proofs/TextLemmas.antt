@@ -8,8 +8,8 @@ use Rattle.net_core.specs.Numbers.{IsNumberOf}
 use Rattle.cal_ast.specs.Instances.{port_name}
 use Rattle.cal_ast.specs.Tree.{port_tree}
 use Rattle.cal_ast.specs.declared.tree.CalPort.{CalPort}
-use Rattle.net_flat.specs.Placed.{port_text, prefix_of}
-use Rattle.net_flat.specs.StandFor.{StandsFor}
+use Rattle.net_flat.specs.inside.Placed.{port_text, prefix_of}
+use Rattle.net_flat.specs.inside.StandFor.{StandsFor}
 
 pub prefix_of-last : (path : Path) (name : Text) → prefix_of (path ++ name ∷ []) ≡ prefix_of path ++ name ++ dot ∷ []
 prefix_of-last [] name = refl

@@ -1,9 +1,6 @@
+pub mod inside
 pub mod Flattened
 pub mod FlatTop
 pub mod KeepsRuns
-pub mod Levels
 pub mod Listing
-pub mod ListingOf
 pub mod Laws
-pub mod Placed
-pub mod StandFor

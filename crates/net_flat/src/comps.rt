@@ -4,7 +4,7 @@ ghost use Rattle.hw_prims.specs.Table.{is_primitive};
 ghost use Rattle.cal_ast.specs.Numbers.{HasNumbers, CellHasNumbers, ComponentHasNumbers};
 ghost use Rattle.cal_ast.specs.Ports.{part_of};
 ghost use Rattle.cal_ast.specs.Tree.{cell_tree, component_tree, design_of};
-ghost use Rattle.net_flat.specs.Placed.{HasComps};
+ghost use Rattle.net_flat.specs.inside.Placed.{HasComps};
 
 use cal_ast::{CalCell, CalComp, CalDesign};
 use hw_bits::Memory;

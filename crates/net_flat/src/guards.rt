@@ -3,8 +3,8 @@ ghost use Rattle.std.specs.Prelude.{◌≡◌, All, List, map, IfOk};
 ghost use Rattle.hw_names.specs.Name.{KeepsTexts, Text, text_of};
 ghost use Rattle.cal_ast.specs.Numbers as cal;
 ghost use Rattle.net_core.specs.Guard.{GuardTree, guard_tree, source_tree};
-ghost use Rattle.net_flat.specs.Placed.{port_text};
-ghost use Rattle.net_flat.specs.StandFor.{AreGuards, IsGuard, IsSource, negations};
+ghost use Rattle.net_flat.specs.inside.Placed.{port_text};
+ghost use Rattle.net_flat.specs.inside.StandFor.{AreGuards, IsGuard, IsSource, negations};
 
 use crate::texts::port_at;
 use cal_ast::CalPort;
@@ -100,7 +100,7 @@ fn guards_at(
     ensures guards { IfOk result (λ found. AreGuards names.new (map (guard_tree (port_text source.now prefix.now)) guards.now) found.items) }
     ensures kept { KeepsTexts names.old names.new }
 {
-    let mut found = Vec::new(alloc);
+    let mut found = Vec::with_capacity(alloc, guards.len())?;
     for guard in guards {
         found.push(guard_at(alloc, names, source, prefix, guard)?)?;
     }

@@ -3,9 +3,9 @@ ghost use Rattle.std.specs.Prelude.{◌≡◌, List, ◌∷◌, [], ◌++◌, le
 ghost use Rattle.cal_ast.specs.Numbers.{CellHasNumbers, ComponentHasNumbers, HasNumbers};
 ghost use Rattle.cal_ast.specs.Tree.{cell_tree, component_tree, design_of};
 ghost use Rattle.hw_names.specs.Name.{Path};
-ghost use Rattle.net_flat.specs.Levels.{below, children, levels, parts_in};
+ghost use Rattle.net_flat.specs.inside.Levels.{below, children, levels, parts_in};
 ghost use Rattle.net_flat.specs.Listing as listing;
-ghost use Rattle.net_flat.specs.Placed.{AreInstances, HasComps, InstanceHasNumbers, prefix_of};
+ghost use Rattle.net_flat.specs.inside.Placed.{AreInstances, HasComps, InstanceHasNumbers, prefix_of};
 
 use crate::comps::Comps;
 use crate::texts::prefix_below;

@@ -8,8 +8,8 @@ ghost use Rattle.net_core.specs.Guard.{guard_option};
 ghost use Rattle.net_core.specs.Netlist.{CellLine};
 ghost use Rattle.cal_ast.specs.Keeping.{flat_cell};
 ghost use Rattle.net_flat.specs.Listing.{flat_pin, flat_set};
-ghost use Rattle.net_flat.specs.Placed.{port_text, prefix_of};
-ghost use Rattle.net_flat.specs.StandFor.{AreCells, ArePins, AreSets, IsCell, IsPin, IsSet, IsWhen};
+ghost use Rattle.net_flat.specs.inside.Placed.{port_text, prefix_of};
+ghost use Rattle.net_flat.specs.inside.StandFor.{AreCells, ArePins, AreSets, IsCell, IsPin, IsSet, IsWhen};
 
 use crate::comps::is_primitive;
 use crate::guards::{guard_at, source_at};

@@ -6,9 +6,9 @@ ghost use Rattle.cal_ast.specs.Tree.{component_tree, design_of};
 ghost use Rattle.cal_ast.specs.Wired.{IsWired};
 ghost use Rattle.net_flat.specs.Listing as listing;
 ghost use Rattle.net_flat.specs.Listing.{wires_at, cells_at, sets_at};
-ghost use Rattle.net_flat.specs.ListingOf.{IsListingOf};
-ghost use Rattle.net_flat.specs.Placed.{AreInstances, InstanceHasNumbers, prefix_of};
-ghost use Rattle.net_flat.specs.StandFor.{AreCells, ArePins, AreSets};
+ghost use Rattle.net_flat.specs.inside.ListingOf.{IsListingOf};
+ghost use Rattle.net_flat.specs.inside.Placed.{AreInstances, InstanceHasNumbers, prefix_of};
+ghost use Rattle.net_flat.specs.inside.StandFor.{AreCells, ArePins, AreSets};
 
 use crate::instances::{Instance, instances};
 use crate::lines::{cells_at, pins_at, sets_at};

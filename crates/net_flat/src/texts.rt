@@ -2,7 +2,7 @@
 ghost use Rattle.std.specs.Prelude.{◌≡◌, [], ◌∷◌, ◌++◌, slice_get, Some, IfOk, OnOk, option_map};
 ghost use Rattle.hw_names.specs.Name.{KeepsTexts, dot, port_at, text_of};
 ghost use Rattle.cal_ast.specs.Numbers.{PortHasNumbers};
-ghost use Rattle.net_flat.specs.Placed.{port_text};
+ghost use Rattle.net_flat.specs.inside.Placed.{port_text};
 
 use cal_ast::CalPort;
 use hw_bits::Memory;

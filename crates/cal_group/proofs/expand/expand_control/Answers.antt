@@ -3,7 +3,7 @@ use Rattle.cal_ast.specs.Items.{control_statements}
 use Rattle.cal_ast.specs.Tree.{Body, Component, Design, control_tree}
 use Rattle.cal_ast.specs.declared.tree.ControlPart.{ControlPart}
 use Rattle.cal_group.specs.Expanded.{expanded_section}
-use Rattle.cal_group.specs.Expansion.{AddsGroups, AreNamed, CanStart, HasCells}
+use Rattle.cal_group.specs.inside.Expansion.{AddsGroups, AreNamed, CanStart, HasCells}
 use Rattle.cal_group.proofs.expand.expand_control.Goals as goal
 
 pub returns-in_ok-expand_statement-in-Body-clause-groups : goal.returns-in_ok-expand_statement-in-Body-clause-groups

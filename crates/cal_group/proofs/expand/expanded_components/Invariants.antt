@@ -1,7 +1,7 @@
 use Rattle.std.proofs.Common.{take}
 use Rattle.hw_names.specs.Name.{KeepsTexts}
 use Rattle.cal_ast.specs.Tree.{design_of}
-use Rattle.cal_group.specs.Expansion.{HoldsCells}
+use Rattle.cal_group.specs.inside.Expansion.{HoldsCells}
 use Rattle.cal_group.proofs.ComponentLemmas.{AreMade}
 use Rattle.cal_group.proofs.expand.expanded_components.Given as goal
 

@@ -1,5 +1,5 @@
 use Rattle.std.proofs.Common.{◌≡◌, ◌++◌, take}
-use Rattle.cal_group.specs.Expansion.{taking_sets}
+use Rattle.cal_group.specs.inside.Expansion.{taking_sets}
 use Rattle.cal_group.proofs.expand.put_outputs.Given as goal
 
 abbrev pub invariant-loop-bind : goal.invariant-loop-bind

@@ -4,7 +4,7 @@ use Rattle.std.proofs.lemmas.List.Elements.{All-nil, All-push}
 use Rattle.cal_ast.specs.Numbers.{GuardHasNumbers}
 use Rattle.net_core.specs.declared.net.Guard.{Guard}
 use Rattle.cal_ast.specs.declared.tree.CalPort.{CalPort}
-use Rattle.cal_lower.specs.Shown.{ShowsGuards, ShowsWanted, seen_guard}
+use Rattle.cal_lower.specs.inside.Shown.{ShowsGuards, ShowsWanted, seen_guard}
 use Rattle.cal_lower.specs.declared.acts.Wanted.{Wanted}
 use Rattle.cal_lower.proofs.GrownLemmas.{show_none}
 use Rattle.cal_lower.proofs.acts.never_wanted.Goals as goal

@@ -1,6 +1,6 @@
 use Rattle.std.proofs.Common.{◌≡◌, [], List, length, All}
 use Rattle.hw_names.specs.Name.{Text}
-use Rattle.cal_lower.specs.Shown.{ShowsWanted}
+use Rattle.cal_lower.specs.inside.Shown.{ShowsWanted}
 use Rattle.cal_lower.proofs.acts.never_wanted.Given as goal
 
 -- so many groups so far, and none of them is wanted

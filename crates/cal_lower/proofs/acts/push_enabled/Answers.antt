@@ -1,5 +1,5 @@
 use Rattle.std.proofs.Common.{◌<◌, ◌≤◌, length, refl, arith}
-use Rattle.cal_lower.specs.Shown.{enabled_in, tested_in}
+use Rattle.cal_lower.specs.inside.Shown.{enabled_in, tested_in}
 use Rattle.cal_lower.specs.declared.acts.Wanted.{Wanted}
 use Rattle.cal_lower.proofs.NextLemmas.{at_index}
 use Rattle.cal_lower.proofs.WantedLemmas.{puts_none, puts_set}

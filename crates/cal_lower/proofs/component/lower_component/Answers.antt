@@ -1,7 +1,7 @@
 use Rattle.std.proofs.Common.{IfOk, sym, subst, ◌∙◌}
 use Rattle.cal_ast.specs.Numbers.{ComponentHasNumbers}
 use Rattle.cal_ast.specs.Tree.{Component, component_tree}
-use Rattle.cal_lower.specs.Shown.{Shows}
+use Rattle.cal_lower.specs.inside.Shown.{Shows}
 use Rattle.cal_lower.proofs.ComponentLemmas.{bare_kept, component_numbers, lowered_bare, lowered_full}
 use Rattle.cal_lower.proofs.component.lower_component.Goals as goal
 

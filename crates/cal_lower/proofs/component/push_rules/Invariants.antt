@@ -2,10 +2,10 @@ use Rattle.std.proofs.Common.{◌++◌, List, map, take}
 use Rattle.hw_names.specs.Name.{Text}
 use Rattle.cal_ast.specs.Holes.{ActivityRule}
 use Rattle.cal_ast.specs.Tree.{component_tree, group_tree}
-use Rattle.cal_lower.specs.Labels.{AreTexts, KeepsLabels}
+use Rattle.cal_lower.specs.inside.Labels.{AreTexts, KeepsLabels}
 use Rattle.cal_lower.specs.Lowered.{rule_of}
-use Rattle.cal_lower.specs.Making.{ShowRules}
-use Rattle.cal_lower.specs.Statements.{CanLowerComponent}
+use Rattle.cal_lower.specs.inside.Making.{ShowRules}
+use Rattle.cal_lower.specs.inside.Statements.{CanLowerComponent}
 use Rattle.cal_lower.proofs.component.push_rules.Given as goal
 
 -- the rules of the groups so far

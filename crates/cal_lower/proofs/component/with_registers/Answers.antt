@@ -10,7 +10,7 @@ use Rattle.cal_ast.specs.declared.tree.Group.{Group}
 use Rattle.cal_copy.specs.Copies.{IsGroupCopy}
 use Rattle.cal_lower.specs.Lowered.{control_pieces, done_set}
 use Rattle.cal_lower.specs.Pieces.{piece_cell, piece_sets}
-use Rattle.cal_lower.specs.Shown.{ShowAll}
+use Rattle.cal_lower.specs.inside.Shown.{ShowAll}
 use Rattle.cal_lower.proofs.ComponentLemmas.{cells_whole, component_made, ins_with_go, labels_in_four, outs_with_done, pins_at, sets_whole}
 use Rattle.cal_lower.proofs.CopiedLemmas.{groups_copied}
 use Rattle.cal_lower.proofs.GrownLemmas.{labels_texts, labels_trans, show_all_kept}

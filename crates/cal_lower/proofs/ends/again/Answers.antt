@@ -3,7 +3,7 @@ use Rattle.net_core.specs.Guard.{GuardTree}
 use Rattle.cal_ast.specs.Tree.{PortName}
 use Rattle.cal_lower.specs.Parts.{tested_guard}
 use Rattle.cal_lower.specs.Pieces.{reads}
-use Rattle.cal_lower.specs.Shown.{ShowsGuard}
+use Rattle.cal_lower.specs.inside.Shown.{ShowsGuard}
 use Rattle.cal_lower.proofs.GatherLemmas.{again_over, port_later}
 use Rattle.cal_lower.proofs.SizeLemmas.{plan}
 use Rattle.cal_lower.proofs.ends.again.Goals as goal

@@ -1,4 +1,4 @@
-use Rattle.cal_lower.specs.Labels.{label_text}
+use Rattle.cal_lower.specs.inside.Labels.{label_text}
 use Rattle.cal_lower.specs.Pieces.{reads, shown}
 use Rattle.cal_ast.specs.Numbers.{PortHasNumbers}
 use Rattle.cal_ast.specs.Tree.{port_tree}

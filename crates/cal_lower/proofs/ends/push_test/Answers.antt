@@ -3,8 +3,8 @@ use Rattle.std.proofs.lemmas.Result.{on_ok_weaker}
 use Rattle.hw_names.proofs.NameLemmas.{text_of-slice_get}
 use Rattle.hw_names.specs.Name.{Text, text_of}
 use Rattle.hw_names.specs.declared.names.NameId.{NameId}
-use Rattle.cal_lower.specs.Making.{by_group, tests_group}
-use Rattle.cal_lower.specs.Shown.{ShowsActs, more_of}
+use Rattle.cal_lower.specs.inside.Making.{by_group, tests_group}
+use Rattle.cal_lower.specs.inside.Shown.{ShowsActs, more_of}
 use Rattle.cal_lower.proofs.GatherLemmas.{no_test, one_test}
 use Rattle.cal_lower.proofs.ends.push_test.Goals as goal
 

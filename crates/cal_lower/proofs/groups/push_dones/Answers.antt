@@ -5,7 +5,7 @@ use Rattle.cal_ast.specs.Tree.{done_tree}
 use Rattle.cal_ast.specs.declared.tree.DoneSet.{DoneSet}
 use Rattle.cal_lower.specs.Lowered.{done_wire}
 use Rattle.cal_lower.specs.Pieces.{Piece}
-use Rattle.cal_lower.specs.Shown.{ShowsPieces}
+use Rattle.cal_lower.specs.inside.Shown.{ShowsPieces}
 use Rattle.cal_lower.proofs.CopiedLemmas.{done_drive, done_driven}
 use Rattle.cal_lower.proofs.GroupPieceLemmas.{dones_next}
 use Rattle.cal_lower.proofs.GrownLemmas.{labels_refl, labels_texts, labels_trans}

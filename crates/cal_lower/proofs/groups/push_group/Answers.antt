@@ -7,7 +7,7 @@ use Rattle.cal_ast.specs.Tree.{done_tree, group_tree}
 use Rattle.cal_ast.specs.declared.tree.DoneSet.{DoneSet}
 use Rattle.cal_lower.specs.Lowered.{acts_guard, done_wire}
 use Rattle.cal_lower.specs.Pieces.{Piece, Wire, acts_name}
-use Rattle.cal_lower.specs.Shown.{ShowsPieces, driven, one_when}
+use Rattle.cal_lower.specs.inside.Shown.{ShowsPieces, driven, one_when}
 use Rattle.cal_lower.proofs.GroupPieceLemmas.{can_group_later, group_number, group_whole}
 use Rattle.cal_lower.proofs.GrownLemmas.{pieces_kept}
 use Rattle.cal_lower.proofs.StableLemmas.{KeepsTexts-trans}

@@ -4,7 +4,7 @@ use Rattle.cal_ast.specs.Plan.{section_plan}
 use Rattle.cal_ast.specs.Tree.{control_tree, port_tree}
 use Rattle.cal_lower.specs.Lowered.{control_ends}
 use Rattle.cal_lower.specs.Pieces.{busy_name, either, reads, shown, start_name}
-use Rattle.cal_lower.specs.Shown.{seen_guard}
+use Rattle.cal_lower.specs.inside.Shown.{seen_guard}
 use Rattle.cal_lower.proofs.GrownLemmas.{shows_kept}
 use Rattle.cal_lower.proofs.instance.busy_guard.Goals as goal
 

@@ -5,8 +5,8 @@ use Rattle.cal_ast.specs.Plan.{plan_of}
 use Rattle.cal_ast.specs.Tree.{component_tree, group_tree}
 use Rattle.cal_ast.specs.declared.tree.Group.{Group}
 use Rattle.cal_lower.specs.Lowered.{group_pieces, instance_pieces, plan_pieces}
-use Rattle.cal_lower.specs.Making.{ShowsParts}
-use Rattle.cal_lower.specs.Shown.{ShowsPieces}
+use Rattle.cal_lower.specs.inside.Making.{ShowsParts}
+use Rattle.cal_lower.specs.inside.Shown.{ShowsPieces}
 use Rattle.cal_lower.specs.declared.made.Parts.{Parts}
 use Rattle.cal_lower.proofs.GrownLemmas.{labels_texts, pieces_kept}
 use Rattle.cal_lower.proofs.InstanceLemmas.{can_section, groups_can, groups_number, labels_in_three, numbered_items}

@@ -6,7 +6,7 @@ use Rattle.cal_ast.specs.Tree.{component_tree, design_of}
 use Rattle.cal_ast.specs.declared.tree.CalComp.{CalComp}
 use Rattle.cal_group.specs.Ruling.{RuleHasNumbers}
 use Rattle.cal_lower.specs.Lowered.{rules_from}
-use Rattle.cal_lower.specs.Making.{ShowRules}
+use Rattle.cal_lower.specs.inside.Making.{ShowRules}
 use Rattle.cal_lower.proofs.DesignLemmas.{all_lowered, can_component, comps_next, few_next, rules_next}
 use Rattle.cal_lower.proofs.GrownLemmas.{labels_texts, show_all_kept}
 use Rattle.cal_lower.proofs.NextLemmas.{at_index}

@@ -2,10 +2,10 @@ use Rattle.std.proofs.Common.{All, map, take}
 use Rattle.hw_names.specs.Name.{KeepsTexts}
 use Rattle.cal_ast.specs.Numbers.{ComponentHasNumbers}
 use Rattle.cal_ast.specs.Tree.{component_tree, design_of}
-use Rattle.cal_lower.specs.Labels.{AreTexts}
+use Rattle.cal_lower.specs.inside.Labels.{AreTexts}
 use Rattle.cal_lower.specs.Lowered.{HasFewParts, lowered, rules_from}
-use Rattle.cal_lower.specs.Making.{ShowRules}
-use Rattle.cal_lower.specs.Shown.{ShowAll}
+use Rattle.cal_lower.specs.inside.Making.{ShowRules}
+use Rattle.cal_lower.specs.inside.Shown.{ShowAll}
 use Rattle.cal_lower.proofs.lower.lower_control.Given as goal
 
 -- the components so far, and the rules of their groups

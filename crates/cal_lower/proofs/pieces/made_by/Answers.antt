@@ -1,8 +1,8 @@
 use Rattle.std.proofs.Common.{◌≡◌, Bool, sym, ap, subst, ◌∙◌}
 use Rattle.std.specs.Prelude.{if◌then◌else◌}
-use Rattle.cal_lower.specs.Labels.{kind_of}
+use Rattle.cal_lower.specs.inside.Labels.{kind_of}
 use Rattle.cal_lower.specs.Pieces.{Kind, Wire, Register, made_by}
-use Rattle.cal_lower.specs.Shown.{ShowsName}
+use Rattle.cal_lower.specs.inside.Shown.{ShowsName}
 use Rattle.cal_lower.proofs.pieces.made_by.Goals as goal
 
 pub returns-then-is_register : goal.returns-then-is_register

@@ -1,4 +1,4 @@
-use Rattle.cal_lower.specs.Labels.{kind_of}
+use Rattle.cal_lower.specs.inside.Labels.{kind_of}
 use Rattle.cal_lower.proofs.PushLemmas.{cell_shown}
 use Rattle.cal_lower.proofs.pieces.piece_cell.Goals as goal
 

@@ -1,7 +1,7 @@
 use Rattle.std.proofs.Common.{◌++◌, codes, sym, ap, subst, ◌∙◌}
 use Rattle.std.proofs.lemmas.Result.{IfOk-weaker}
 use Rattle.hw_names.proofs.NameLemmas.{text_of-slice_get}
-use Rattle.cal_lower.specs.Labels.{LabelHasNumber, label_text}
+use Rattle.cal_lower.specs.inside.Labels.{LabelHasNumber, label_text}
 use Rattle.cal_lower.specs.declared.texts.Label.{Label}
 use Rattle.cal_lower.proofs.texts.label_text.Goals as goal
 

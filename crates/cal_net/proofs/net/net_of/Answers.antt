@@ -16,8 +16,8 @@ use Rattle.cal_net.proofs.TextLemmas.{flattened_have_text}
 use Rattle.cal_net.specs.Refining.{RefinesTop}
 use Rattle.cal_net.proofs.net.net_of.Goals as goal
 
-pub flatten-requires-clause-wired : goal.flatten-requires-clause-wired
-flatten-requires-clause-wired c = c.in_ok-wires.ensures.lowers.wired
+pub flatten_wires-requires-clause-wired : goal.flatten_wires-requires-clause-wired
+flatten_wires-requires-clause-wired c = c.in_ok-wires.ensures.lowers.wired
 
 pub simplify-requires : goal.simplify-requires
 simplify-requires c = c.in_ok-flat.ensures.numbers

@@ -2,7 +2,7 @@ use Rattle.std.proofs.Common.{◌≡◌, IfOk, length, sym, subst, ◌∙◌, ar
 use Rattle.std.proofs.lemmas.List.{length-map}
 use Rattle.cal_ast.specs.Numbers.{ComponentHasNumbers}
 use Rattle.cal_ast.specs.Tree.{Component, cell_tree, component_tree}
-use Rattle.cal_lower.specs.Shown.{Shows}
+use Rattle.cal_lower.specs.inside.Shown.{Shows}
 use Rattle.cal_state.proofs.EncodedLemmas.{encoded_full}
 use Rattle.cal_state.proofs.WholeLemmas.{full_shows, is_full, stays_bare}
 use Rattle.cal_state.proofs.component.encode.Goals as goal

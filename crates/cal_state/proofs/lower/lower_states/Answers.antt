@@ -9,7 +9,7 @@ use Rattle.cal_lower.specs.Lowered.{lowered}
 use Rattle.cal_lower.proofs.NextLemmas.{at_index}
 use Rattle.cal_lower.proofs.StableLemmas.{KeepsTexts-refl, KeepsTexts-trans}
 use Rattle.cal_state.specs.Encoded.{encoded}
-use Rattle.cal_state.specs.Making.{ShowComponents}
+use Rattle.cal_state.specs.inside.Making.{ShowComponents}
 use Rattle.cal_state.proofs.RulesLaterLemmas.{all_encoded, encoded_next, lowered_next, lowered_shown, rules_kept, rules_numbers}
 use Rattle.cal_state.proofs.lower.lower_states.Goals as goal
 

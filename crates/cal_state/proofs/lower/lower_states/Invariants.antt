@@ -3,7 +3,7 @@ use Rattle.hw_names.specs.Name.{KeepsTexts}
 use Rattle.cal_ast.specs.Tree.{design_of}
 use Rattle.cal_lower.specs.Lowered.{lowered}
 use Rattle.cal_state.specs.Encoded.{encoded}
-use Rattle.cal_state.specs.Making.{ShowComponents}
+use Rattle.cal_state.specs.inside.Making.{ShowComponents}
 use Rattle.cal_state.proofs.lower.lower_states.Given as goal
 
 -- the components that are still to come, and what was made of those before

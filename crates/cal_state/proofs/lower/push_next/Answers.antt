@@ -5,7 +5,7 @@ use Rattle.cal_ast.specs.declared.tree.CalComp.{CalComp}
 use Rattle.cal_lower.specs.Lowered.{lowered}
 use Rattle.cal_lower.proofs.GrownLemmas.{show_all_kept, show_push}
 use Rattle.cal_state.specs.Encoded.{encoded}
-use Rattle.cal_state.specs.Making.{ShowComponents}
+use Rattle.cal_state.specs.inside.Making.{ShowComponents}
 use Rattle.cal_state.proofs.EncodingLemmas.{show_some}
 use Rattle.cal_state.proofs.RulesLaterLemmas.{next_shown, rest_kept}
 use Rattle.cal_state.proofs.lower.push_next.Goals as goal

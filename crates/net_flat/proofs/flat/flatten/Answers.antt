@@ -1,7 +1,7 @@
 use Rattle.std.proofs.lemmas.Result.{IfOk-weaker}
 use Rattle.cal_ast.specs.Tree.{design_of}
 use Rattle.net_flat.specs.FlatTop.{IsFlatTop}
-use Rattle.net_flat.specs.ListingOf.{IsListingOf}
+use Rattle.net_flat.specs.inside.ListingOf.{IsListingOf}
 use Rattle.net_flat.proofs.FlatLemmas.{listings_are_flattened}
 use Rattle.net_flat.proofs.LevelListingLemmas.{flat_from_listing}
 use Rattle.net_flat.proofs.LoopLemmas.{no_loop_in_listings}

@@ -6,8 +6,8 @@ use Rattle.net_core.specs.Guard.{GuardTree, guard_tree}
 use Rattle.net_core.specs.Numbers.{GuardHasNumbers}
 use Rattle.net_core.specs.declared.net.Guard.{Guard, the_lemmas}
 use Rattle.net_core.specs.declared.net.Guard.TheVariants as variants
-use Rattle.net_flat.specs.Placed.{port_text}
-use Rattle.net_flat.specs.StandFor.{AreGuards, negations, net_guard}
+use Rattle.net_flat.specs.inside.Placed.{port_text}
+use Rattle.net_flat.specs.inside.StandFor.{AreGuards, negations, net_guard}
 use Rattle.net_flat.proofs.GuardLemmas.{is_all, is_any, is_test, list_numbers, negated_whole, negations-inside}
 use Rattle.net_flat.proofs.StandLemmas.{Keeps-then, stable_guard, stand_push}
 use Rattle.net_flat.proofs.TakeLemmas.{map_one}

@@ -3,8 +3,8 @@ use Rattle.hw_names.specs.Name.{KeepsTexts}
 use Rattle.cal_ast.specs.Numbers as cal
 use Rattle.net_core.specs.Guard.{guard_tree}
 use Rattle.net_core.specs.declared.net.Guard.{size-Guard}
-use Rattle.net_flat.specs.Placed.{port_text}
-use Rattle.net_flat.specs.StandFor.{AreGuards, negations}
+use Rattle.net_flat.specs.inside.Placed.{port_text}
+use Rattle.net_flat.specs.inside.StandFor.{AreGuards, negations}
 use Rattle.net_flat.proofs.guards.+guard_at.Given as goal
 
 -- the guard is what is left behind so many `!`, and that has numbers and is no deeper

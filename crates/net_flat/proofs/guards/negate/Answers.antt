@@ -1,5 +1,5 @@
 use Rattle.std.proofs.Common.{◌≡◌, ℕ, subst, add-one, arith}
-use Rattle.net_flat.specs.StandFor.{IsGuard, negations}
+use Rattle.net_flat.specs.inside.StandFor.{IsGuard, negations}
 use Rattle.net_flat.proofs.GuardLemmas.{is_not}
 use Rattle.net_flat.proofs.guards.negate.Goals as goal
 

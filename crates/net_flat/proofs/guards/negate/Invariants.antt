@@ -1,7 +1,7 @@
 use Rattle.std.proofs.Common.{List}
 use Rattle.hw_names.specs.Name.{Text}
 use Rattle.net_core.specs.Guard.{GuardTree}
-use Rattle.net_flat.specs.StandFor.{IsGuard, negations}
+use Rattle.net_flat.specs.inside.StandFor.{IsGuard, negations}
 use Rattle.net_flat.proofs.guards.negate.Given as goal
 
 abbrev pub invariant-loop : goal.invariant-loop

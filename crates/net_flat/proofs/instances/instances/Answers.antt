@@ -1,7 +1,7 @@
 use Rattle.std.proofs.Common.{◌≡◌, ℕ, List, length, add-one, sym, subst, arith}
 use Rattle.cal_ast.specs.Tree.{component_tree, design_of}
-use Rattle.net_flat.specs.Levels.{level, levels}
-use Rattle.net_flat.specs.Placed.{AreInstances}
+use Rattle.net_flat.specs.inside.Levels.{level, levels}
+use Rattle.net_flat.specs.inside.Placed.{AreInstances}
 use Rattle.net_flat.specs.declared.instances.Instance.{Instance}
 use Rattle.net_flat.proofs.FoundLemmas.{instances_append, instances_none, top_alone}
 use Rattle.net_flat.proofs.instances.instances.Goals as goal

@@ -1,6 +1,6 @@
 use Rattle.cal_ast.specs.Tree.{component_tree, design_of}
-use Rattle.net_flat.specs.Levels.{level, levels}
-use Rattle.net_flat.specs.Placed.{AreInstances}
+use Rattle.net_flat.specs.inside.Levels.{level, levels}
+use Rattle.net_flat.specs.inside.Placed.{AreInstances}
 use Rattle.net_flat.proofs.instances.instances.Given as goal
 
 -- the levels so far are found, and the next one is at hand

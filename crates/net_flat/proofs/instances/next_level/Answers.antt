@@ -1,9 +1,9 @@
 use Rattle.std.proofs.Common.{List, sym, subst}
 use Rattle.std.specs.List.{flat_map}
 use Rattle.cal_ast.specs.Tree.{component_tree, design_of}
-use Rattle.net_flat.specs.Levels.{children}
+use Rattle.net_flat.specs.inside.Levels.{children}
 use Rattle.net_flat.specs.Listing as listing
-use Rattle.net_flat.specs.Placed.{AreInstances}
+use Rattle.net_flat.specs.inside.Placed.{AreInstances}
 use Rattle.net_flat.proofs.FoundLemmas.{all_listed, instances_none, next_instance}
 use Rattle.net_flat.proofs.TakeLemmas.{flat_map_push}
 use Rattle.net_flat.proofs.instances.next_level.Goals as goal

@@ -1,9 +1,9 @@
 use Rattle.std.proofs.Common.{List, take}
 use Rattle.std.specs.List.{flat_map}
 use Rattle.cal_ast.specs.Tree.{design_of}
-use Rattle.net_flat.specs.Levels.{children}
+use Rattle.net_flat.specs.inside.Levels.{children}
 use Rattle.net_flat.specs.Listing as listing
-use Rattle.net_flat.specs.Placed.{AreInstances}
+use Rattle.net_flat.specs.inside.Placed.{AreInstances}
 use Rattle.net_flat.proofs.instances.next_level.Given as goal
 
 -- the instances below those so far are found

@@ -2,9 +2,9 @@ use Rattle.std.proofs.Common.{◌++◌, List, map, take, sym, subst, ◌∙◌}
 use Rattle.std.proofs.lemmas.List.{append-nil, take_all}
 use Rattle.cal_ast.specs.Tree.{cell_tree, design_of}
 use Rattle.cal_ast.specs.declared.tree.CalCell.{CalCell}
-use Rattle.net_flat.specs.Levels.{below, part_at, parts_in}
+use Rattle.net_flat.specs.inside.Levels.{below, part_at, parts_in}
 use Rattle.net_flat.specs.Listing as listing
-use Rattle.net_flat.specs.Placed.{AreInstances}
+use Rattle.net_flat.specs.inside.Placed.{AreInstances}
 use Rattle.net_flat.proofs.TakeLemmas.{filter_map_one}
 use Rattle.net_flat.proofs.instances.put_children.Goals as goal
 

@@ -1,9 +1,9 @@
 use Rattle.std.proofs.Common.{◌≡◌, List, ◌++◌, map, take}
 use Rattle.cal_ast.specs.Tree.{cell_tree, design_of}
 use Rattle.hw_names.specs.Name.{Path}
-use Rattle.net_flat.specs.Levels.{below, parts_in}
+use Rattle.net_flat.specs.inside.Levels.{below, parts_in}
 use Rattle.net_flat.specs.Listing as listing
-use Rattle.net_flat.specs.Placed.{AreInstances, prefix_of}
+use Rattle.net_flat.specs.inside.Placed.{AreInstances, prefix_of}
 use Rattle.net_flat.proofs.instances.put_children.Given as goal
 
 -- the parts among the cells so far are put last

@@ -3,7 +3,7 @@ use Rattle.hw_prims.specs.Table.{is_primitive}
 use Rattle.cal_ast.specs.Tree.{CellDef, cell_tree}
 use Rattle.net_core.specs.Netlist.{CellLine}
 use Rattle.cal_ast.specs.Keeping.{flat_cell}
-use Rattle.net_flat.specs.StandFor.{AreCells}
+use Rattle.net_flat.specs.inside.StandFor.{AreCells}
 use Rattle.net_flat.proofs.StandLemmas.{Keeps-then}
 use Rattle.net_flat.proofs.TakeLemmas.{filter_one}
 use Rattle.net_flat.proofs.lines.cells_at.Goals as goal

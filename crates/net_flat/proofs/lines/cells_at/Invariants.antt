@@ -3,8 +3,8 @@ use Rattle.hw_names.specs.Name.{Path, KeepsTexts}
 use Rattle.hw_prims.specs.Table.{is_primitive}
 use Rattle.cal_ast.specs.Tree.{CellDef, cell_tree}
 use Rattle.cal_ast.specs.Keeping.{flat_cell}
-use Rattle.net_flat.specs.Placed.{prefix_of}
-use Rattle.net_flat.specs.StandFor.{AreCells}
+use Rattle.net_flat.specs.inside.Placed.{prefix_of}
+use Rattle.net_flat.specs.inside.StandFor.{AreCells}
 use Rattle.net_flat.proofs.lines.cells_at.Given as goal
 
 -- the cells so far stand for those of primitives

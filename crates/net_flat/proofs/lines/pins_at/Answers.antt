@@ -5,7 +5,7 @@ use Rattle.cal_ast.specs.declared.tree.CalPin.{CalPin}
 use Rattle.net_core.specs.Netlist.{pin_of}
 use Rattle.net_core.specs.Numbers.{PortHasNumbers}
 use Rattle.net_flat.specs.Listing.{flat_pin}
-use Rattle.net_flat.specs.StandFor.{ArePins}
+use Rattle.net_flat.specs.inside.StandFor.{ArePins}
 use Rattle.net_flat.proofs.StandLemmas.{Keeps-then, stable_pin, stand_push}
 use Rattle.net_flat.proofs.TakeLemmas.{at_place, map_map_one}
 use Rattle.net_flat.proofs.lines.pins_at.Goals as goal

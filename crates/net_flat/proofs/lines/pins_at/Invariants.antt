@@ -2,8 +2,8 @@ use Rattle.std.proofs.Common.{◌≡◌, map, take}
 use Rattle.hw_names.specs.Name.{Path, KeepsTexts}
 use Rattle.cal_ast.specs.Tree.{pin_tree}
 use Rattle.net_flat.specs.Listing.{flat_pin}
-use Rattle.net_flat.specs.Placed.{prefix_of}
-use Rattle.net_flat.specs.StandFor.{ArePins}
+use Rattle.net_flat.specs.inside.Placed.{prefix_of}
+use Rattle.net_flat.specs.inside.StandFor.{ArePins}
 use Rattle.net_flat.proofs.lines.pins_at.Given as goal
 
 -- the pins so far stand for theirs

@@ -7,7 +7,7 @@ use Rattle.cal_ast.specs.Tree.{cell_tree}
 use Rattle.net_core.specs.Netlist.{CellLine, cell_of}
 use Rattle.net_core.specs.Numbers.{CellHasNumbers}
 use Rattle.cal_ast.specs.Keeping.{flat_cell}
-use Rattle.net_flat.specs.StandFor.{AreCells}
+use Rattle.net_flat.specs.inside.StandFor.{AreCells}
 use Rattle.net_flat.proofs.StandLemmas.{stable_cell, stand_push}
 use Rattle.net_flat.proofs.lines.put_cell.Goals as goal
 

@@ -1,7 +1,7 @@
 use Rattle.net_core.specs.Numbers.{WhenHasNumbers}
 use Rattle.net_core.specs.Guard.{guard_option}
-use Rattle.net_flat.specs.Placed.{port_text}
-use Rattle.net_flat.specs.StandFor.{net_when}
+use Rattle.net_flat.specs.inside.Placed.{port_text}
+use Rattle.net_flat.specs.inside.StandFor.{net_when}
 use Rattle.net_flat.proofs.LineLemmas.{set_stands}
 use Rattle.net_flat.proofs.StandLemmas.{one_kept, stable_when}
 use Rattle.net_flat.proofs.lines.set_at.Goals as goal

@@ -3,7 +3,7 @@ use Rattle.cal_ast.specs.Tree.{assignment_tree}
 use Rattle.net_core.specs.Netlist.{SetLine, set_of}
 use Rattle.net_core.specs.Numbers.{SetHasNumbers}
 use Rattle.net_flat.specs.Listing.{flat_set}
-use Rattle.net_flat.specs.StandFor.{AreSets}
+use Rattle.net_flat.specs.inside.StandFor.{AreSets}
 use Rattle.net_flat.proofs.StandLemmas.{Keeps-then, stable_set, stand_push}
 use Rattle.net_flat.proofs.TakeLemmas.{map_map_one}
 use Rattle.net_flat.proofs.lines.sets_at.Goals as goal

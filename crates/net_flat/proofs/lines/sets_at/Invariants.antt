@@ -2,8 +2,8 @@ use Rattle.std.proofs.Common.{◌≡◌, map, take}
 use Rattle.hw_names.specs.Name.{Path, KeepsTexts}
 use Rattle.cal_ast.specs.Tree.{assignment_tree}
 use Rattle.net_flat.specs.Listing.{flat_set}
-use Rattle.net_flat.specs.Placed.{prefix_of}
-use Rattle.net_flat.specs.StandFor.{AreSets}
+use Rattle.net_flat.specs.inside.Placed.{prefix_of}
+use Rattle.net_flat.specs.inside.StandFor.{AreSets}
 use Rattle.net_flat.proofs.lines.sets_at.Given as goal
 
 -- the assignments so far stand for theirs

@@ -3,7 +3,7 @@ use Rattle.hw_prims.specs.Table.{is_primitive}
 use Rattle.cal_ast.specs.Tree.{CellDef, cell_tree}
 use Rattle.cal_ast.specs.declared.tree.CalCell.{CalCell}
 use Rattle.cal_ast.specs.Keeping.{flat_cell}
-use Rattle.net_flat.specs.StandFor.{AreCells}
+use Rattle.net_flat.specs.inside.StandFor.{AreCells}
 use Rattle.net_flat.proofs.listing.cells_of.Goals as goal
 
 pub returns-clause-cells : goal.returns-clause-cells

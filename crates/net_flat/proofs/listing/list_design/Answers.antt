@@ -5,8 +5,8 @@ use Rattle.net_core.specs.declared.net.Net.{Net}
 use Rattle.cal_ast.specs.Tree.{pin_tree}
 use Rattle.cal_ast.specs.declared.tree.CalPin.{CalPin}
 use Rattle.net_flat.specs.Listing.{flat_pin}
-use Rattle.net_flat.specs.Placed.{AreInstances, InstanceHasNumbers}
-use Rattle.net_flat.specs.StandFor.{ArePins}
+use Rattle.net_flat.specs.inside.Placed.{AreInstances, InstanceHasNumbers}
+use Rattle.net_flat.specs.inside.StandFor.{ArePins}
 use Rattle.net_flat.specs.declared.instances.Instance.{Instance}
 use Rattle.net_flat.proofs.MadeLemmas.{All-rest, Made, lists, slice_rest, some_instances}
 use Rattle.net_flat.proofs.listing.list_design.Goals as goal

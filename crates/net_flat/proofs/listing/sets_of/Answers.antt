@@ -2,7 +2,7 @@ use Rattle.std.proofs.Common.{List, IfOk, map, subst, ◌∙◌}
 use Rattle.cal_ast.specs.Tree.{assignment_tree}
 use Rattle.cal_ast.specs.declared.tree.Assign.{Assign}
 use Rattle.net_flat.specs.Listing.{flat_set}
-use Rattle.net_flat.specs.StandFor.{AreSets}
+use Rattle.net_flat.specs.inside.StandFor.{AreSets}
 use Rattle.net_flat.proofs.listing.sets_of.Goals as goal
 
 pub returns-clause-sets : goal.returns-clause-sets

@@ -6,7 +6,7 @@ use Rattle.net_core.specs.Numbers.{PortHasNumbers}
 use Rattle.cal_ast.specs.Tree.{component_tree}
 use Rattle.net_flat.specs.Listing as listing
 use Rattle.net_flat.specs.Listing.{wires_at}
-use Rattle.net_flat.specs.StandFor.{ArePins}
+use Rattle.net_flat.specs.inside.StandFor.{ArePins}
 use Rattle.net_flat.proofs.FoundLemmas.{all_listed, next_instance}
 use Rattle.net_flat.proofs.StandLemmas.{Keeps-then, stand_append, stable_pin}
 use Rattle.net_flat.proofs.TakeLemmas.{flat_map_push}

@@ -3,8 +3,8 @@ use Rattle.std.specs.List.{flat_map}
 use Rattle.hw_names.specs.Name.{KeepsTexts}
 use Rattle.net_flat.specs.Listing as listing
 use Rattle.net_flat.specs.Listing.{wires_at}
-use Rattle.net_flat.specs.Placed.{AreInstances}
-use Rattle.net_flat.specs.StandFor.{ArePins}
+use Rattle.net_flat.specs.inside.Placed.{AreInstances}
+use Rattle.net_flat.specs.inside.StandFor.{ArePins}
 use Rattle.net_flat.proofs.listing.wires.Given as goal
 
 -- those of the instances so far are listed

@@ -6,7 +6,7 @@ use Rattle.cal_ast.specs.declared.tree.CalPin.{CalPin}
 use Rattle.net_core.specs.Netlist.{pin_of}
 use Rattle.net_core.specs.Numbers.{PortHasNumbers}
 use Rattle.net_flat.specs.Listing.{flat_pin}
-use Rattle.net_flat.specs.StandFor.{ArePins}
+use Rattle.net_flat.specs.inside.StandFor.{ArePins}
 use Rattle.net_flat.proofs.StandLemmas.{stable_pin, stand_append}
 use Rattle.net_flat.proofs.listing.wires_of.Goals as goal
 

@@ -1,7 +1,7 @@
 use Rattle.std.proofs.Common.{◌≡◌, List, length, take, All}
 use Rattle.hw_names.specs.Name.{Text}
 use Rattle.cal_ast.specs.Numbers.{CellHasNumbers}
-use Rattle.cal_group.specs.Expansion.{HoldsCells}
+use Rattle.cal_group.specs.inside.Expansion.{HoldsCells}
 use Rattle.cal_group.proofs.CellLemmas.{Tells}
 use Rattle.cal_group.proofs.expand.CellTable.note.Given as goal
 

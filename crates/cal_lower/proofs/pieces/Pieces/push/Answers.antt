@@ -1,6 +1,6 @@
 use Rattle.std.proofs.lemmas.Result.{IfOk-weaker}
-use Rattle.cal_lower.specs.Labels.{kind_of, label_text}
-use Rattle.cal_lower.specs.Shown.{DriveHasNumbers, drive_tree, driven}
+use Rattle.cal_lower.specs.inside.Labels.{kind_of, label_text}
+use Rattle.cal_lower.specs.inside.Shown.{DriveHasNumbers, drive_tree, driven}
 use Rattle.cal_lower.proofs.PushLemmas.{one_piece, set_shown}
 use Rattle.cal_lower.proofs.GrownLemmas.{labels_texts, pieces_kept, shows_kept}
 use Rattle.cal_lower.proofs.pieces.Pieces.push.Goals as goal

@@ -2,7 +2,7 @@ use Rattle.std.proofs.Common.{List, ◌++◌}
 use Rattle.hw_names.specs.Name.{Text}
 use Rattle.cal_ast.specs.Plan.{Plan}
 use Rattle.cal_ast.specs.Tree.{Assignment}
-use Rattle.cal_state.specs.Making.{ShowsEncoding}
+use Rattle.cal_state.specs.inside.Making.{ShowsEncoding}
 use Rattle.cal_state.proofs.EncodingLoopLemmas.{GroupsSoFar, groups_sets}
 use Rattle.cal_state.proofs.component.Sets.push_groups.Given as goal
 

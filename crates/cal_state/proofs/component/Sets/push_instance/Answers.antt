@@ -3,7 +3,7 @@ use Rattle.std.specs.Prelude.{flat_map}
 use Rattle.std.proofs.lemmas.Result.{on_ok_weaker}
 use Rattle.cal_ast.specs.Tree.{Assignment}
 use Rattle.cal_lower.specs.Lowered.{control_ends, instance_pieces, start_guard}
-use Rattle.cal_lower.specs.Making as making
+use Rattle.cal_lower.specs.inside.Making as making
 use Rattle.cal_lower.specs.Pieces.{Piece, Register, Wire, busy_name, over_name, piece, piece_set, piece_sets, start_name}
 use Rattle.cal_state.specs.Encoded.{busy_guard, instance_wires, over_set, over_state}
 use Rattle.cal_state.specs.States.{is_in}

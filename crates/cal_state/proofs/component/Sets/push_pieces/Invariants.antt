@@ -4,7 +4,7 @@ use Rattle.std.specs.List.{AllZip}
 use Rattle.hw_names.specs.Name.{Text}
 use Rattle.cal_ast.specs.Tree.{Assignment}
 use Rattle.cal_lower.specs.Pieces.{Piece, piece_sets}
-use Rattle.cal_state.specs.Making.{AreTexts, HasKind, ShowsEncoding, ShowsPlace}
+use Rattle.cal_state.specs.inside.Making.{AreTexts, HasKind, ShowsEncoding, ShowsPlace}
 use Rattle.cal_state.specs.States.{all_next_sets, as_wires}
 use Rattle.cal_state.specs.Threads.{Place}
 use Rattle.cal_state.proofs.EncodingLoopLemmas.{PiecesSoFar}

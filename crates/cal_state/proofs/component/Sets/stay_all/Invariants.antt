@@ -1,7 +1,7 @@
 use Rattle.std.proofs.Common.{◌≡◌, List, ◌++◌, length}
 use Rattle.hw_names.specs.Name.{Text}
 use Rattle.cal_ast.specs.Tree.{Assignment}
-use Rattle.cal_state.specs.Making.{ShowsEncoding}
+use Rattle.cal_state.specs.inside.Making.{ShowsEncoding}
 use Rattle.cal_state.proofs.EncodingLoopLemmas.{StaysSoFar}
 use Rattle.cal_state.proofs.component.Sets.stay_all.Given as goal
 

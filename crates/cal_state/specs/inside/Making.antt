@@ -16,7 +16,7 @@ use Rattle.cal_ast.specs.declared.tree.CalPort.{CalPort}
 use Rattle.cal_token.specs.Tokens.{Starting, Ended}
 use Rattle.cal_lower.specs.Parts.{none_if_over}
 use Rattle.cal_lower.specs.Pieces.{Piece, Wire, Register}
-use Rattle.cal_lower.specs.Shown.{Shows, ShowAll, ShowsGuards, ShowsName}
+use Rattle.cal_lower.specs.inside.Shown.{Shows, ShowAll, ShowsGuards, ShowsName}
 use Rattle.cal_state.specs.Encoded.{over_state}
 use Rattle.cal_state.specs.States.{is_on, thread_cell, thread_enable, thread_name, width_of}
 use Rattle.cal_state.specs.Threads.{Thread, State, Place, NoState, IsIn, place_in, ended_state, first_state, inner_threads, lasting_states, plan_places, places}

@@ -17,7 +17,7 @@ use Rattle.cal_lower.specs.Parts.{again_guard, pieces_in_turn, pieces_after, pie
 use Rattle.cal_lower.specs.Parts.{enabling, enabling_in_turn, enabling_after, enabling_at_once}
 use Rattle.cal_lower.specs.Parts.{testing, testing_in_turn, testing_after, testing_at_once}
 use Rattle.cal_lower.specs.Pieces.{Piece, Register, piece, token_name, acts_name, start_name, busy_name, has_token, is_set, never, either, both}
-use Rattle.cal_lower.specs.Shown.{Guards, ShowAll, ShowsActs, ShowsPieces, nothing}
+use Rattle.cal_lower.specs.inside.Shown.{Guards, ShowAll, ShowsActs, ShowsPieces, nothing}
 use Rattle.cal_ast.specs.declared.lowered.ActRule.{ActRule}
 use Rattle.cal_ast.specs.declared.tree.Group.{Group}
 use Rattle.cal_lower.specs.declared.acts.Acts.{Acts}

@@ -84,8 +84,8 @@ abbrev pub counted : Statement → List Statement
 counted s = unless_empty s (statements_in s)
 
 -- the statements of a block, with those inside them
-abbrev pub listed : List Text → List Control → List Statement
-listed source statements = flat_map (λ (s : Control). statements_in (statement_tree source s)) statements
+abbrev pub statements_listed : List Text → List Control → List Statement
+statements_listed source statements = flat_map (λ (s : Control). statements_in (statement_tree source s)) statements
 
 -- statements the first of which is at item k, each with an enable in place of each invoke
 abbrev pub AreExpansions : List Text → List Text → ℕ → List Statement → List Control → Type 0
