@@ -11,7 +11,7 @@ use Rattle.cal_ast.specs.Tree.{Component, Design}
 use Rattle.cal_sched.specs.Walking.{goes, sight_of}
 use Rattle.cal_walk.proofs.StageLemmas.{walking_is_the_schedule}
 use Rattle.cal_walk.specs.Stages.{Progress, acts_now, next_progress, progress_at}
-use Rattle.filc_calyx.specs.Scheduling.{acting, progress_before}
+use Rattle.filc_calyx.specs.inside.Scheduling.{acting, progress_before}
 
 -- tests that are true exactly where one thing holds are one
 same_truth : (x y : Bool) (P : Type 0) → (x ≡ true) ↔ P → (y ≡ true) ↔ P → x ≡ y

@@ -6,7 +6,7 @@ use Rattle.hw_names.specs.Name.{Text}
 use Rattle.hw_prims.specs.State.{State}
 use Rattle.hw_prims.specs.Table.{Pin, is_memory, pin_names, prim_of}
 use Rattle.hw_prims.specs.declared.prim.Primitive.{Primitive}
-use Rattle.fil_sig.specs.declared.time_sig.SigPort.{SigPort}
+use Rattle.stim_read.specs.declared.shape.InputShape.{InputShape}
 use Rattle.net_core.specs.Netlist.{CellLine, Netlist}
 use Rattle.net_core.specs.declared.stimulus.MemShape.{MemShape}
 use Rattle.net_sim.specs.Shown.{is_shown, shown_cells}
@@ -18,7 +18,7 @@ use Rattle.cal_net.specs.Refining.{RefinesFrom}
 use Rattle.stim_read.specs.CycleRun.{GiveRun, IsCause, Load, Run, Setting}
 use Rattle.filc_load.specs.Built.{IsNotGiven}
 use Rattle.filc_load.specs.Given.{after_load, after_loads, begun_with, given_inputs, is_made_by, with_settings}
-use Rattle.filc_load.specs.Settable.{input_port, memory_shape, settable_inputs, settable_memories}
+use Rattle.filc_load.specs.Settable.{input_shape, memory_shape, settable_inputs, settable_memories}
 use Rattle.filc_load.specs.StimulusFile.{FileGivesRun, run_causes}
 use Rattle.filc_report.specs.Rows.{cell_words, memories_text, memory_text, outputs_of_net, shown_text}
 use Rattle.filc_stop.specs.Outcome.{Contents}
@@ -75,7 +75,7 @@ module _ (n m : Netlist) (alike : LookAlike n m) where
   -- ---- what a stimulus gives
 
   same_settable : settable_inputs n ≡ settable_inputs m
-  same_settable = ap (map input_port) alike.ins
+  same_settable = ap (map input_shape) alike.ins
 
   same_shapes : settable_memories n ≡ settable_memories m
   same_shapes = ap (map memory_shape) alike.shown
@@ -86,13 +86,13 @@ module _ (n m : Netlist) (alike : LookAlike n m) where
     told = is.told;
     gives = record {
       within = is.gives.within;
-      gives = subst₂ (λ (ins : List SigPort) (mems : List MemShape). GiveRun is.bytes ins mems run) same_settable same_shapes is.gives.gives;
+      gives = subst₂ (λ (ins : List InputShape) (mems : List MemShape). GiveRun is.bytes ins mems run) same_settable same_shapes is.gives.gives;
     };
   }
 
   pub not_given_alike : (contents : Contents) (stimulus : Text) (why : Stop) → IsNotGiven contents stimulus (λ text. run_causes text n) why → IsNotGiven contents stimulus (λ text. run_causes text m) why
   not_given_alike contents stimulus why is =
-      subst₂ (λ (ins : List SigPort) (mems : List MemShape). IsNotGiven contents stimulus (λ text. IsCause text ins mems) why) same_settable same_shapes is
+      subst₂ (λ (ins : List InputShape) (mems : List MemShape). IsNotGiven contents stimulus (λ text. IsCause text ins mems) why) same_settable same_shapes is
 
   pub same_inputs : (settings : List Setting) → given_inputs n settings ≡ given_inputs m settings
   same_inputs settings = fun_ext (λ row. ap (λ (ins : List Pin). row_of (pin_names ins) (with_settings (filter (is_made_by row) settings) (replicate (length ins) 0))) alike.ins)

@@ -14,7 +14,7 @@ use Rattle.cal_sched.specs.declared.walker.Walker.{Walker}
 use Rattle.cal_walk.specs.Planning.{IsControlOf, invoke_tree}
 use Rattle.cal_walk.specs.declared.planning.Controlled.{Controlled}
 use Rattle.cal_walk.specs.declared.planning.Invoke.{Invoke}
-use Rattle.filc_calyx.specs.Scheduling.{AreLabelsOf, TellsActing, label, label_if, label_texts}
+use Rattle.filc_calyx.specs.inside.Scheduling.{AreLabelsOf, TellsActing, label, label_if, label_texts}
 
 -- where no actor acts
 pub none_act : (acts : Actor → Bool) (actors : List Actor) → ((actor : Actor) → acts actor ≡ false) → flat_map (label_if acts) actors ≡ []

@@ -15,7 +15,7 @@ use Rattle.filc_calyx.proofs.LineLemmas.{lines_alike}
 use Rattle.filc_calyx.proofs.MeansLemmas.{meant, memories_are, run_meant}
 use Rattle.filc_calyx.specs.Means.{IsRun, words_given}
 use Rattle.filc_calyx.specs.Scheduled.{Schedules, outcome_at, schedule_line}
-use Rattle.filc_calyx.specs.Scheduling.{IsScheduleOf, acting, subject_of}
+use Rattle.filc_calyx.specs.inside.Scheduling.{IsScheduleOf, acting, subject_of}
 use Rattle.filc_calyx.specs.declared.schedule.Clash.{Clash}
 
 module _ (design : Design) (top : Component) (names : List Text) (n : Netlist) (refines : RefinesFrom design top n) (run : Run) where

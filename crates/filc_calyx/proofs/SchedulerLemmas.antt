@@ -18,7 +18,7 @@ use Rattle.net_sim.specs.Layout.{name_of, port_names}
 use Rattle.net_sim.specs.Sim.{IsEdgeOfSim, IsRowOfSim, SimValue, input_row, port_row, states_of}
 use Rattle.cal_ast.specs.Actors.{Actor, actors_of}
 use Rattle.cal_net.specs.Face.{face}
-use Rattle.filc_load.specs.Inputs.{driven}
+use Rattle.filc_load.specs.Given.{driven}
 use Rattle.filc_report.proofs.MemoryLemmas.{memories_same}
 use Rattle.filc_report.proofs.StandLemmas.{before, longer, map_row_of, reported_at, runs_into, steps_on, this_row}
 use Rattle.filc_report.specs.Driving.{AreInputsAt}
@@ -30,7 +30,7 @@ use Rattle.filc_calyx.proofs.ActingLemmas.{acting_same}
 use Rattle.filc_calyx.proofs.LineLemmas.{lines_alike}
 use Rattle.filc_calyx.proofs.WalkLemmas.{walks_same}
 use Rattle.filc_calyx.specs.Scheduled.{schedule_line}
-use Rattle.filc_calyx.specs.Scheduling.{AreInputsIn, IsAfterRow, HasTextTo, IsBefore, IsScheduleOf, IsSchedulerOf, IsStoppedAt, Subject, Walks, acting, label_if, line_in}
+use Rattle.filc_calyx.specs.inside.Scheduling.{AreInputsIn, IsAfterRow, HasTextTo, IsBefore, IsScheduleOf, IsSchedulerOf, IsStoppedAt, Subject, Walks, acting, label_if, line_in}
 use Rattle.filc_calyx.specs.declared.schedule.Clash.{Clash}
 use Rattle.filc_calyx.specs.declared.scheduler.Scheduler.{Scheduler}
 

@@ -19,10 +19,10 @@ use Rattle.cal_walk.specs.Planning.{IsControlOf}
 use Rattle.cal_walk.specs.declared.planning.Controlled.{Controlled}
 use Rattle.stim_read.specs.CycleRun.{run_seen}
 use Rattle.filc_calyx.proofs.FaceLemmas.{look_alike, same_outputs}
-use Rattle.filc_calyx.proofs.TopLemmas.{one_number}
+use Rattle.filc_load.proofs.CostLemmas.{one_number}
 use Rattle.filc_calyx.specs.Means.{Driven}
 use Rattle.filc_calyx.specs.Scheduled.{IsDriven}
-use Rattle.filc_calyx.specs.Scheduling.{CanSchedule}
+use Rattle.filc_calyx.specs.inside.Scheduling.{CanSchedule}
 
 -- two components with the number of the top are one
 one_top : (design : Design) (m n : ℕ) (c e : Component) → IsTop design m → IsTop design n → slice_get design m ≡ Some c → slice_get design n ≡ Some e → c ≡ e

@@ -1,29 +1,12 @@
 -- The top component of a Calyx design: there is one, the first that is named main, or else the last.
-use Rattle.std.proofs.Common.{◌≡◌, ℕ, ◌<◌, List, length, get_or, Some, codes, refl, sym, ap, subst, ◌∙◌, arith, inl, inr, ⊎_elim}
+use Rattle.std.proofs.Common.{◌≡◌, ℕ, ◌<◌, List, length, get_or, Some, codes, refl, sym, ap, ◌∙◌}
 use Rattle.std.specs.Prelude.{Contains, slice_get, option_map}
-use Rattle.std.proofs.lemmas.Bool.{cases_lt}
 use Rattle.std.proofs.lemmas.Option.{slice_get-get_or, slice_get-map, slice_get_read}
-use Rattle.hw_names.proofs.NameLemmas.{Contains-slice_get}
 use Rattle.cal_ast.proofs.ListLemmas.{Contains-from_map}
 use Rattle.cal_ast.specs.Naming.{component_names}
-use Rattle.cal_ast.specs.Top.{IsTop}
 use Rattle.cal_ast.specs.Tree.{Component, Design, component_tree, design_of}
 use Rattle.cal_ast.specs.declared.tree.CalComp.{CalComp}
 use Rattle.cal_ast.specs.declared.tree.CalDesign.{CalDesign}
-
--- a component's name is among those of the design
-named_in : (design : Design) (n : ℕ) (c : Component) → slice_get design n ≡ Some c → Contains (component_names design) c.name
-named_in design n c at =
-    Contains-slice_get (component_names design) n c.name (slice_get-map (λ (d : Component). d.name) design n ∙ ap (option_map (λ (d : Component). d.name)) at)
-
--- two numbers of the top component are one
-pub one_number : (design : Design) (m n : ℕ) → IsTop design m → IsTop design n → m ≡ n
-one_number design m n (inl (c, at, main, first)) (inl (d, at', main', first')) =
-    ⊎_elim (λ early. absurd (first' m c early at main))
-    (λ late. ⊎_elim (λ before. absurd (first n d before at' main')) (λ same. omega (arith, late, same)) (cases_lt n m)) (cases_lt m n)
-one_number design m n (inl (c, at, main, first)) (inr (none, last)) = absurd (none (subst (Contains (component_names design)) main (named_in design m c at)))
-one_number design m n (inr (none, last)) (inl (c, at, main, first)) = absurd (none (subst (Contains (component_names design)) main (named_in design n c at)))
-one_number design m n (inr (none, last)) (inr (none', last')) = omega (arith, last, last')
 
 -- a component of the code as one of the design
 pub comp_at : (d : CalDesign) (items : List CalComp) (n : ℕ) (comp : CalComp) → items ≡ d.comps.items → n < length items → comp ≡ get_or items n comp → slice_get (design_of d) n ≡ Some (component_tree d.names comp)

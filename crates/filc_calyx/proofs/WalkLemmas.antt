@@ -12,7 +12,7 @@ use Rattle.cal_sched.specs.Walking.{GoesOver, goes}
 use Rattle.cal_sched.specs.declared.walker.Walker.{Walker}
 use Rattle.cal_walk.specs.Stages.{Progress, acts_now}
 use Rattle.filc_calyx.proofs.ActingLemmas.{progress_same, step}
-use Rattle.filc_calyx.specs.Scheduling.{Walks, WalksOver, WalksTo, progress_before}
+use Rattle.filc_calyx.specs.inside.Scheduling.{Walks, WalksOver, WalksTo, progress_before}
 
 module _ (design : Design) (top : Component) (names ports : List Text) where
   -- it goes by the rows before

@@ -1,4 +1,4 @@
+pub mod inside
 pub mod Made
 pub mod Means
 pub mod Scheduled
-pub mod Scheduling

@@ -7,7 +7,7 @@ ghost use Rattle.cal_ast.specs.Tree.{Component, component_tree};
 ghost use Rattle.cal_walk.specs.Planning.{IsControlOf};
 ghost use Rattle.cal_ast.specs.declared.tree.Group.{Group as GroupOf};
 ghost use Rattle.cal_walk.specs.declared.planning.Invoke.{Invoke as InvokeOf};
-ghost use Rattle.filc_calyx.specs.Scheduling.{label, label_texts};
+ghost use Rattle.filc_calyx.specs.inside.Scheduling.{label, label_texts};
 
 use cal_ast::Group;
 use cal_walk::{Controlled, Invoke};

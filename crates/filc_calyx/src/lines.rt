@@ -6,7 +6,7 @@ ghost use Rattle.net_core.specs.Numbers.{HasNumbers};
 ghost use Rattle.net_sim.specs.Layout.{port_names};
 ghost use Rattle.cal_ast.specs.Actors.{Actor};
 ghost use Rattle.filc_report.specs.Rows.{outputs_of_net, port_text};
-ghost use Rattle.filc_calyx.specs.Scheduling.{AreLabelsOf, Tells, TellsActing, label_if};
+ghost use Rattle.filc_calyx.specs.inside.Scheduling.{AreLabelsOf, Tells, TellsActing, label_if};
 
 use cal_sched::Walker;
 use hw_bits::Memory;

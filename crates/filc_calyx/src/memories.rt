@@ -1,7 +1,7 @@
 //! The shown memories of a netlist after its last edge, put last in a text.
 ghost use Rattle.std.specs.Prelude.{◌≡◌, ◌++◌, ◌<◌, OnOk, length};
 ghost use Rattle.hw_names.specs.Name.{Text};
-ghost use Rattle.hw_prims.specs.State.{words_of};
+ghost use Rattle.hw_prims.specs.State.{memory_words};
 ghost use Rattle.hw_prims.specs.declared.prim.Primitive.{Primitive};
 ghost use Rattle.net_core.specs.Netlist.{netlist_of};
 ghost use Rattle.net_core.specs.Numbers.{HasNumbers};
@@ -20,7 +20,7 @@ fn push_memory(text: &mut Vec<u8>, sim: &Sim, mem: usize, name: &[u8]) -> Result
     requires shown { mem < length (shown_cells (netlist_of sim.now.net)) }
     ensures { (cell : Text) (prim : Primitive) → IsShown (netlist_of sim.now.net) mem cell prim
         → OnOk result (text.new.items
-        ≡ text.old.items ++ memory_text name.now (words_of (states_of (netlist_of sim.now.net) sim.now.states cell prim))) }
+        ≡ text.old.items ++ memory_text name.now (memory_words (states_of (netlist_of sim.now.net) sim.now.states cell prim))) }
 {
     push_text(text, b"mem ")?;
     push_text(text, name)?;

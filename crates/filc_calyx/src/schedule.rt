@@ -10,7 +10,7 @@ ghost use Rattle.filc_stop.specs.Stops.{IsOfRun};
 ghost use Rattle.filc_calyx.specs.Made.{IsNetlistFor};
 ghost use Rattle.filc_calyx.specs.Means.{Driven};
 ghost use Rattle.filc_calyx.specs.Scheduled.{IsDriven, Schedules, outcome_of};
-ghost use Rattle.filc_calyx.specs.Scheduling.{CanSchedule, IsScheduleOf, subject_of};
+ghost use Rattle.filc_calyx.specs.inside.Scheduling.{CanSchedule, IsScheduleOf, subject_of};
 
 use crate::scheduler::Scheduler;
 use crate::top::top_of;

@@ -10,10 +10,10 @@ ghost use Rattle.cal_ast.specs.Tree.{Component, Design};
 ghost use Rattle.cal_sched.specs.Walking.{CanWalk};
 ghost use Rattle.stim_read.specs.CycleRun.{run_seen};
 ghost use Rattle.filc_load.specs.Built.{FitsNet, IsReady};
-ghost use Rattle.filc_load.specs.Inputs.{driven};
+ghost use Rattle.filc_load.specs.Given.{driven};
 ghost use Rattle.filc_calyx.specs.Scheduled.{schedule_line};
-ghost use Rattle.filc_calyx.specs.Scheduling.{AreInputsIn, CanSchedule, IsAfterRow, IsBefore, IsScheduleOf, IsSchedulerOf, Subject};
-ghost use Rattle.filc_calyx.specs.Scheduling.{Tells, Walks, WalksOver, subject_of};
+ghost use Rattle.filc_calyx.specs.inside.Scheduling.{AreInputsIn, CanSchedule, IsAfterRow, IsBefore, IsScheduleOf, IsSchedulerOf, Subject};
+ghost use Rattle.filc_calyx.specs.inside.Scheduling.{Tells, Walks, WalksOver, subject_of};
 
 use crate::labels::labels_of;
 use crate::lines::{push_acting, push_number, push_outputs, push_text};

@@ -13,7 +13,7 @@ use Rattle.cal_ast.specs.Tree.{Design}
 use Rattle.cal_net.specs.Face.{face}
 use Rattle.stim_read.specs.CycleRun.{Run, run_seen}
 use Rattle.filc_calyx.proofs.FaceLemmas.{LookAlike, file_gives_alike, not_given_alike}
-use Rattle.filc_calyx.proofs.TopLemmas.{one_number}
+use Rattle.filc_load.proofs.CostLemmas.{one_number}
 use Rattle.filc_calyx.specs.Made.{IsMadeOf}
 use Rattle.filc_calyx.specs.Means as calyx
 use Rattle.filc_calyx.specs.Scheduled.{Schedules}
@@ -30,7 +30,7 @@ use Rattle.filc_core.proofs.PerformLemmas.{ReadsDesign, DesignRead, IsNoReadFaul
 use Rattle.filc_core.proofs.SourceLemmas.{accepted_not_refused, one_cal, one_given_run, run_not_refused}
 use Rattle.filc_core.specs.Command.{Command}
 use Rattle.filc_core.specs.Files.{IsToldFor}
-use Rattle.filc_core.specs.Performing.{Performs}
+use Rattle.filc_core.specs.inside.Performing.{Performs}
 use Rattle.filc_core.specs.Request.{Request, command_of}
 use Rattle.filc_core.specs.commands.CalRun.{CalTop, GivesTop, GivesRunOf, IsRefusedWithTop, cal_run}
 use Rattle.filc_core.specs.commands.Driven.{Driven}

@@ -21,7 +21,7 @@ use Rattle.filc_core.proofs.FileLemmas.{keeps_but_more}
 use Rattle.filc_core.proofs.GrantLemmas.{granted_ends, granted_told}
 use Rattle.filc_core.specs.Ending.{IsVerdictEnd, IsCalledFor, IsAnswered, RestsOnStimulus, KnowsWhatIsAsked, HasReadFault, HasWriteFault, InReport, InLine, InReadFault, HasPartOfReport, IsAskedFor, MeetsNoFault, IsEndOf, IsComplete}
 use Rattle.filc_core.specs.Files.{IsDesignOf, IsStimulusOf, AreTold, HasReadCause, KeepsFilesBut, MayBeRead}
-use Rattle.filc_core.specs.Performing.{Performs, HasReadStimulus}
+use Rattle.filc_core.specs.inside.Performing.{Performs, HasReadStimulus}
 use Rattle.filc_core.specs.Request.{Request, command_of, Asks, AskNothing, design_name, stimulus_name}
 use Rattle.filc_core.specs.Verdict.{NotAsked, Asked}
 
@@ -48,7 +48,8 @@ is_verdict (refusal.NestsTooDeep language depth) = tt
 is_verdict (refusal.HasNoGrammar at) = tt
 is_verdict (refusal.LeavesOut word at) = tt
 is_verdict (refusal.HasLargeOffset offset) = tt
-is_verdict (refusal.BreaksRule language rule name item evidence) = tt
+is_verdict (refusal.BreaksRule language rule name item ports) = tt
+is_verdict (refusal.BreaksFilamentRule rule name item evidence) = tt
 is_verdict (refusal.IsTooHeavy weight) = tt
 is_verdict (refusal.HasTooManyWords words) = tt
 is_verdict (refusal.TooManyCycles cycles) = tt
@@ -64,7 +65,8 @@ has_line (refusal.NestsTooDeep language depth) e = cc e
 has_line (refusal.HasNoGrammar at) e = cc e
 has_line (refusal.LeavesOut word at) e = cc e
 has_line (refusal.HasLargeOffset offset) e = cc e
-has_line (refusal.BreaksRule language rule name item evidence) e = cc e
+has_line (refusal.BreaksRule language rule name item ports) e = cc e
+has_line (refusal.BreaksFilamentRule rule name item evidence) e = cc e
 has_line (refusal.IsTooHeavy weight) e = cc e
 has_line (refusal.HasTooManyWords words) e = cc e
 has_line (refusal.TooManyCycles cycles) e = cc e
@@ -81,7 +83,8 @@ rests contents r (refusal.NestsTooDeep language depth) accepted = inl accepted
 rests contents r (refusal.HasNoGrammar at) accepted = inl accepted
 rests contents r (refusal.LeavesOut word at) accepted = inl accepted
 rests contents r (refusal.HasLargeOffset offset) accepted = inl accepted
-rests contents r (refusal.BreaksRule language rule name item evidence) accepted = inl accepted
+rests contents r (refusal.BreaksRule language rule name item ports) accepted = inl accepted
+rests contents r (refusal.BreaksFilamentRule rule name item evidence) accepted = inl accepted
 rests contents r (refusal.IsTooHeavy weight) accepted = inl accepted
 rests contents r (refusal.HasTooManyWords words) accepted = inl accepted
 rests contents r (refusal.TooManyCycles cycles) accepted = inl accepted
@@ -98,7 +101,8 @@ called_for words r (refusal.NestsTooDeep language depth) asks stops = (r, asks, 
 called_for words r (refusal.HasNoGrammar at) asks stops = (r, asks, inr (stop.Refused (refusal.HasNoGrammar at), stops, refl))
 called_for words r (refusal.LeavesOut word at) asks stops = (r, asks, inr (stop.Refused (refusal.LeavesOut word at), stops, refl))
 called_for words r (refusal.HasLargeOffset offset) asks stops = (r, asks, inr (stop.Refused (refusal.HasLargeOffset offset), stops, refl))
-called_for words r (refusal.BreaksRule language rule name item evidence) asks stops = (r, asks, inr (stop.Refused (refusal.BreaksRule language rule name item evidence), stops, refl))
+called_for words r (refusal.BreaksRule language rule name item ports) asks stops = (r, asks, inr (stop.Refused (refusal.BreaksRule language rule name item ports), stops, refl))
+called_for words r (refusal.BreaksFilamentRule rule name item evidence) asks stops = (r, asks, inr (stop.Refused (refusal.BreaksFilamentRule rule name item evidence), stops, refl))
 called_for words r (refusal.IsTooHeavy weight) asks stops = (r, asks, inr (stop.Refused (refusal.IsTooHeavy weight), stops, refl))
 called_for words r (refusal.HasTooManyWords count) asks stops = (r, asks, inr (stop.Refused (refusal.HasTooManyWords count), stops, refl))
 called_for words r (refusal.TooManyCycles cycles) asks stops = (r, asks, inr (stop.Refused (refusal.TooManyCycles cycles), stops, refl))

@@ -23,7 +23,7 @@ use Rattle.filc_core.proofs.PerformLemmas.{ReadsDesign, DesignRead, IsNoReadFaul
 use Rattle.filc_core.proofs.SourceLemmas.{accepted_not_refused, one_net, one_given_run, run_not_refused}
 use Rattle.filc_core.specs.Command.{Command}
 use Rattle.filc_core.specs.Files.{IsToldFor}
-use Rattle.filc_core.specs.Performing.{Performs}
+use Rattle.filc_core.specs.inside.Performing.{Performs}
 use Rattle.filc_core.specs.Request.{Request, command_of}
 use Rattle.filc_core.specs.commands.Driven.{Driven}
 use Rattle.filc_core.specs.commands.NetRun.{GivesRunOf, net_run}

@@ -27,7 +27,7 @@ use Rattle.filc_core.proofs.FileLemmas.{keeps_one, keeps_both, known_before, lat
 use Rattle.filc_core.proofs.SourceLemmas.{accepted_not_refused, accepted_is_told}
 use Rattle.filc_core.specs.Command.{Command, DesignFile}
 use Rattle.filc_core.specs.Files.{IsDesignOf, IsStimulusOf, IsDesignAccepted, IsToldFor, HasReadCause, KeepsFilesBut, MayBeRead}
-use Rattle.filc_core.specs.Performing.{Performs, HasReadStimulus}
+use Rattle.filc_core.specs.inside.Performing.{Performs, HasReadStimulus}
 use Rattle.filc_core.specs.Request.{Request, command_of, design_name, stimulus_name}
 
 -- an error that is passed on is the one that came

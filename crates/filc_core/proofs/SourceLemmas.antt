@@ -11,7 +11,7 @@ use Rattle.net_core.specs.Graph.{IsLoop}
 use Rattle.net_core.specs.Netlist.{Netlist}
 use Rattle.net_core.specs.Rules.{FirstBroken}
 use Rattle.net_core.specs.Weight.{weight_of}
-use Rattle.net_core.specs.Words.{words_of}
+use Rattle.net_core.specs.Words.{word_total}
 use Rattle.net_text.proofs.OneNetlist.{one_netlist}
 use Rattle.stim_read.specs.CycleRun.{Run}
 use Rattle.stim_read.specs.TxRun.{TxRun}
@@ -45,7 +45,7 @@ given_not_refused text n ended line gives (NetFile.IsTooHeavy m of heavy is tell
     let over : MOST_WEIGHT < weight_of n = subst (λ (k : Netlist). MOST_WEIGHT < weight_of k) same heavy in omega (arith, over, gives.light)
 given_not_refused text n ended line gives (NetFile.HasTooManyWords m of light many is tells) =
     let same = one_netlist text m n of.text_of.spells gives.accepted.text_of.spells in
-    let over : MOST_WORDS < words_of n = subst (λ (k : Netlist). MOST_WORDS < words_of k) same many in omega (arith, over, gives.few_words)
+    let over : MOST_WORDS < word_total n = subst (λ (k : Netlist). MOST_WORDS < word_total k) same many in omega (arith, over, gives.few_words)
 
 -- two told contents of a file are one
 pub told_once : (contents : Contents) (file bytes bytes' : Text) → contents file ≡ Some bytes → contents file ≡ Some bytes' → bytes ≡ bytes'

@@ -31,7 +31,7 @@ use Rattle.filc_core.proofs.PerformLemmas.{ReadsDesign, DesignRead, IsNoReadFaul
 use Rattle.filc_core.proofs.SourceLemmas.{accepted_not_refused, one_fil, one_given_list, list_not_refused}
 use Rattle.filc_core.specs.Command.{Command}
 use Rattle.filc_core.specs.Files.{IsToldFor}
-use Rattle.filc_core.specs.Performing.{Performs}
+use Rattle.filc_core.specs.inside.Performing.{Performs}
 use Rattle.filc_core.specs.Request.{Request, command_of}
 use Rattle.filc_core.specs.commands.Transactions.{Started, Top, GivesTop, GivesTransactionsOf, IsRefusedWithTop, transactions}
 
@@ -44,7 +44,7 @@ same_top contents file top other gives gives' =
     λ k. record { design = design k; number = number k; comp = comp k }
 
 -- the transactions that were loaded for a component are its own, a legal list
-pub loaded_transactions : (c : Component) (list : TxList) → All (FitsComponent c) list.txs.items → holds.IsLegal c (starts_of c list.txs.items) → AreTransactionsOf c list
+pub loaded_transactions : (c : Component) (list : TxList) → All (FitsComponent c) list.txs.items → holds.AreLegalStarts c (starts_of c list.txs.items) → AreTransactionsOf c list
 loaded_transactions c list fit legal = record {
   each = All-weaker (FitsComponent c) (IsTransactionOf c) (λ tx is. record { event = is.event; start = is.start; widths = is.widths }) list.txs.items fit;
   legal = legal;

@@ -1,3 +1,4 @@
+pub mod inside
 pub use Rattle.hw_io.specs.Faults
 pub use Rattle.hw_io.specs.Reading
 pub use Rattle.hw_io.specs.Writing
@@ -17,6 +18,4 @@ pub mod commands
 pub mod Request
 pub mod Verdict
 pub mod Files
-pub mod Performing
 pub mod Ending
-pub mod Told

@@ -1,6 +1,6 @@
 //! The commands, one file for each: how words ask for it, and how it is done. `specs/commands/` says what comes of each.
 ghost use Rattle.std.specs.Prelude.{◌≡◌};
-ghost use Rattle.filc_core.specs.Performing.{Performs};
+ghost use Rattle.filc_core.specs.inside.Performing.{Performs};
 ghost use Rattle.filc_core.specs.Request.{Request, design_name, stimulus_name};
 
 pub(crate) mod check;

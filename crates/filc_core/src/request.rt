@@ -1,7 +1,7 @@
 //! What the words of the command line ask for: the list of commands.
 ghost use Rattle.std.specs.Prelude.{map, MatchOption};
 ghost use Rattle.filc_core.specs.Request.{Asks, AskNothing};
-ghost use Rattle.filc_core.specs.Told.{request_told};
+ghost use Rattle.filc_core.specs.inside.Told.{request_told};
 
 use crate::commands::Command;
 use crate::commands::check::Check;
@@ -84,7 +84,7 @@ pub(crate) fn asked<'a>(words: &[&'a str]) -> Option<Request<'a>>
 }
 
 impl Command for Request<'_> {
-    ghost use Rattle.filc_core.specs.Told.{request_told};
+    ghost use Rattle.filc_core.specs.inside.Told.{request_told};
 
     ghost request = { request_told };
 

@@ -10,10 +10,8 @@ use Rattle.cal_ast.specs.Rules.{Rule, IsFirstBroken, HasFirstLoop, Keeps, KeepsI
 use Rattle.cal_ast.specs.Tree.{PortName, Component, Design}
 use Rattle.cal_ast.specs.Wires.{IsLoop}
 use Rattle.cal_ast.specs.Wires as wires
-use Rattle.fil_ast.specs.Evidence.{Evidence, ALoop}
 use Rattle.fil_share.proofs.ListLemmas.{Contains-at}
 use Rattle.filc_stop.specs.declared.language.Language.TheVariants.{Calyx}
-use Rattle.filc_load.specs.CalFile.{shown_ports}
 use Rattle.filc_laws.proofs.OrderLemmas.{neither_below, neither_greater}
 use Rattle.filc_laws.specs.OneRule.{AreOneRefusal, CalRefusalIsOne, RefusedCalBreaksRules}
 
@@ -82,36 +80,35 @@ module _ (design : Design) (n n' : ℕ) (port port' : PortName) (others others' 
 not_both : (design : Design) (n k r m : ℕ) (port : PortName) (others : List PortName) (f : IsFirstBroken design n k r) → HasFirstLoop design m port others → ⊥
 not_both design n k r m port others f loop = not_kept design n k r f (loop.others_keep n f.c f.at k)
 
-broken_once : (design : Design) (rule rule' : ℕ) (name name' : Text) (item item' : ℕ) (ports ports' : List Text) (e e' : Evidence) → IsRefusal design name item ports rule → e ≡ shown_ports ports → IsRefusal design name' item' ports' rule' → e' ≡ shown_ports ports'
-    → AreOneRefusal Calyx (record { rule = rule; name = name; item = item; evidence = e }) (record { rule = rule'; name = name'; item = item'; evidence = e' })
-broken_once design rule rule' name name' item item' ports ports' e e' (BreaksRule n place f named none) shows (BreaksRule n' place' g named' none') shows' =
+broken_once : (design : Design) (rule rule' : ℕ) (name name' : Text) (item item' : ℕ) (ports ports' : List Text) → IsRefusal design name item ports rule → IsRefusal design name' item' ports' rule'
+    → AreOneRefusal Calyx (λ loop. loop) (record { rule = rule; name = name; item = item; shows = ports }) (record { rule = rule'; name = name'; item = item'; shows = ports' })
+broken_once design rule rule' name name' item item' ports ports' (BreaksRule n place f named none) (BreaksRule n' place' g named' none') =
     let rules = ap (λ (p : ℕ). p + 1) (same_order design n n' item item' place place' f g) in
     let names = sym named ∙ ap (λ (c : Component). c.name) (same_component design n n' item item' place place' f g) ∙ named' in
     let items = same_place design n n' item item' place place' f g in
-    let evidence : e ≡ e' = shows ∙ ap shown_ports none ∙ sym (shows' ∙ ap shown_ports none') in
-    inl (λ k. record { rule = rules k; name = names k; item = items k; evidence = evidence k })
-broken_once design rule rule' name name' item item' ports ports' e e' (BreaksRule n place f named none) shows (HasLoop m port others loop named' first told) shows' = absurd (not_both design n item place m port others f loop)
-broken_once design rule rule' name name' item item' ports ports' e e' (HasLoop m port others loop named first told) shows (BreaksRule n place f named' none) shows' = absurd (not_both design n item' place m port others f loop)
-broken_once design rule rule' name name' item item' ports ports' e e' (HasLoop m port others f named first told) shows (HasLoop m' port' others' g named' first' told') shows' =
+    let shown : ports ≡ ports' = none ∙ sym none' in
+    inl (λ k. record { rule = rules k; name = names k; item = items k; shows = shown k })
+broken_once design rule rule' name name' item item' ports ports' (BreaksRule n place f named none) (HasLoop m port others loop named' first told) = absurd (not_both design n item place m port others f loop)
+broken_once design rule rule' name name' item item' ports ports' (HasLoop m port others loop named first told) (BreaksRule n place f named' none) = absurd (not_both design n item' place m port others f loop)
+broken_once design rule rule' name name' item item' ports ports' (HasLoop m port others f named first told) (HasLoop m' port' others' g named' first' told') =
     let names : name' ≡ name = sym named' ∙ ap (λ (c : Component). c.name) (sym (loop_component design m m' port port' others others' f g)) ∙ named in
-    let evidence : e ≡ ALoop (wires.shown port ∷ map wires.shown others) = shows ∙ ap shown_ports told in
     let same : wires.shown port' ≡ wires.shown port = sym (loop_port design m m' port port' others others' f g) in
-    let evidence' : e' ≡ ALoop (wires.shown port ∷ map wires.shown others') = shows' ∙ ap shown_ports told' ∙ ap (λ (p : Text). ALoop (p ∷ map wires.shown others')) same in
+    let shown' : ports' ≡ wires.shown port ∷ map wires.shown others' = told' ∙ ap (λ (p : Text). p ∷ map wires.shown others') same in
     inr (record {
       name = name;
       first = wires.shown port;
       ports = map wires.shown others;
       ports' = map wires.shown others';
-      shown = λ k. record { rule = 12; name = name; item = first k; evidence = evidence k };
-      shown' = λ k. record { rule = 12; name = names k; item = first' k; evidence = evidence' k };
+      shown = λ k. record { rule = 12; name = name; item = first k; shows = told k };
+      shown' = λ k. record { rule = 12; name = names k; item = first' k; shows = shown' k };
     })
 
 pub cal_refusal_is_one : CalRefusalIsOne
-cal_refusal_is_one = λ design b other p q. broken_once design b.rule other.rule b.name other.name b.item other.item p.0 q.0 b.evidence other.evidence p.1 p.2 q.1 q.2
+cal_refusal_is_one = λ design b other p q. broken_once design b.rule other.rule b.name other.name b.item other.item b.shows other.shows p q
 
 refused_breaks : (design : Design) (name : Text) (item : ℕ) (ports : List Text) (rule : ℕ) → IsRefusal design name item ports rule → CalRules design → ⊥
 refused_breaks design name item ports rule (BreaksRule n place f named none) rules = not_kept design n item place f (rules.keeps n f.c f.at item)
 refused_breaks design name item ports rule (HasLoop n port others loop named first told) rules = rules.no_loop n loop.c loop.at port others loop.loop.is_loop
 
 pub refused_cal_breaks_rules : RefusedCalBreaksRules
-refused_cal_breaks_rules = λ design b p rules. refused_breaks design b.name b.item p.0 b.rule p.1 rules
+refused_cal_breaks_rules = λ design b p rules. refused_breaks design b.name b.item b.shows b.rule p rules

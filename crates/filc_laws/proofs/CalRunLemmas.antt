@@ -20,7 +20,7 @@ use Rattle.stim_read.specs.CycleRun.{Run}
 use Rattle.filc_calyx.proofs.MeansLemmas.{run_meant}
 use Rattle.filc_calyx.proofs.PartLemmas.{memory_is_cell, output_is_port}
 use Rattle.filc_calyx.proofs.PlainLemmas.{written_plain}
-use Rattle.filc_calyx.proofs.TopLemmas.{one_number}
+use Rattle.filc_load.proofs.CostLemmas.{one_number}
 use Rattle.filc_calyx.specs.Means.{Driven, IsRun, Means, EndsInConflict, RunsWhole, Traces, output_rows, words_given}
 use Rattle.filc_load.specs.Given.{given_inputs}
 use Rattle.filc_report.proofs.MemoryLemmas.{memories_same}

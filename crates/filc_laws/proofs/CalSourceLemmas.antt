@@ -3,12 +3,10 @@
 use Rattle.std.proofs.Common.{◌≡◌, ℕ, zero, suc, ◌<◌, ◌⊎◌, inl, inr, true, false, List, ◌++◌, codes, drop, Some, refl, sym, ap, subst, ◌∙◌, arith}
 use Rattle.std.specs.Prelude.{slice_get}
 use Rattle.std.proofs.lemmas.Option.{same_Some, slice_get-get_or}
-use Rattle.hw_lex.proofs.Cuts.{tokens_unique, tokens-no_fault, fault_unique}
+use Rattle.hw_lex.proofs.Cuts.{tokens-no_fault, fault_unique}
 use Rattle.hw_lex.proofs.Fronts.{clash}
-use Rattle.hw_lex.specs.Cut.{FaultsAt, token_texts}
-use Rattle.hw_lex.specs.Nesting.{nesting_of}
+use Rattle.hw_lex.specs.Cut.{FaultsAt}
 use Rattle.hw_lex.specs.declared.token.Dialect.TheVariants.{Cal}
-use Rattle.hw_lex.specs.declared.token.Token.{Token}
 use Rattle.hw_names.specs.Name.{Text}
 use Rattle.cal_ast.specs.Rules.{CalRules}
 use Rattle.cal_ast.specs.Tree.{Design}
@@ -16,9 +14,10 @@ use Rattle.cal_check.specs.Weight.{IsWeight, AreWords}
 use Rattle.cal_parse.proofs.Designs.{one_tree}
 use Rattle.cal_parse.specs.Spelling.{SpellsDesign, IsNested, KeepsNesting, IsRefusedAt, is_left_out}
 use Rattle.cal_parse.specs.declared.parse.TheConstants.{MOST_NESTING}
+use Rattle.filc_load.proofs.CalLemmas.{same_nesting}
 use Rattle.filc_load.specs.CalFile as causes
-use Rattle.filc_load.specs.CalFile.{GivesCal, IsRefused, IsLight, LeavesOutAt, left_out_words, first_word, shown_ports}
-use Rattle.filc_stop.specs.Lines.{limit_line, token_line, grammar_line, left_out_line}
+use Rattle.filc_load.specs.CalFile.{GivesCal, IsRefused, IsLight, LeavesOutAt, left_out_words, first_word}
+use Rattle.filc_stop.specs.Lines.{limit_line, token_line, grammar_line, left_out_line, loop_text}
 use Rattle.filc_stop.specs.declared.ended.Ended.{Ended}
 use Rattle.filc_stop.specs.declared.ended.Ended.TheVariants.{Refused, Limit}
 use Rattle.filc_stop.specs.declared.language.Language.TheVariants.{Calyx}
@@ -31,12 +30,8 @@ use Rattle.filc_laws.specs.OneRule.{Broken, RefusesCal}
 
 -- ---- what a text has one of
 
-nested_once : (text : Text) (a b : ℕ) → IsNested text a → IsNested text b → a ≡ b
-nested_once text a b (tokens, are, is) (others, are', is') =
-    is ∙ ap (λ (ts : List Token). nesting_of (token_texts text ts)) (tokens_unique Cal text tokens others are are') ∙ sym is'
-
 too_deep : (text : Text) (depth : ℕ) → IsNested text depth → MOST_NESTING < depth → KeepsNesting text → ⊥
-too_deep text depth nested over (other, nested', within) = let same = nested_once text depth other nested nested' in omega (arith, over, within, same)
+too_deep text depth nested over (other, nested', within) = let same = same_nesting text depth other nested nested' in omega (arith, over, within, same)
 
 -- of the words that are left out none begins another
 word_first : (k : ℕ) (word after : Text) → slice_get left_out_words k ≡ Some word → first_word left_out_words (word ++ after) ≡ Some word
@@ -65,7 +60,7 @@ ByCost d ended line =
     ⊎ (IsLight d × ((words : ℕ) × AreWords d words × (ended ≡ Limit) × (line ≡ limit_line (codes "words") words MOST_WORDS)))
 
 abbrev ByRule : Design → Ended → Text → Type 0
-ByRule d ended line = ((b : Broken) × RefusesCal d b × (ended ≡ Refused) × (line ≡ line_of Calyx b)) ⊎ (CalRules d × ByCost d ended line)
+ByRule d ended line = ((b : Broken (List Text)) × RefusesCal d b × (ended ≡ Refused) × (line ≡ line_of Calyx loop_text b)) ⊎ (CalRules d × ByCost d ended line)
 
 -- at a byte that the grammar refuses: whether a word that is left out stands there
 abbrev AtByte : (text : Text) (at : ℕ) → IsRefusedAt text at → Text → Type 0
@@ -91,8 +86,8 @@ in_order text ended line (causes.ByNesting c) = inr (inl (c.depth, c.nested, c.d
 in_order text ended line (causes.ByGrammar c) = inr (inr (c.shallow, inl (c.at, c.refusal, c.is, inl (c.of_profile, c.tells))))
 in_order text ended line (causes.ByWord c) = inr (inr (c.shallow, inl (c.at, c.refusal, c.is, inr (c.left_out, (c.word, c.stands, c.tells)))))
 in_order text ended line (causes.ByRule c) =
-    let b : Broken = record { rule = c.rule; name = c.name; item = c.item; evidence = shown_ports c.ports } in
-    inr (inr (c.text_of.shallow, inr (c.design, c.text_of.spells, inl (b, (c.ports, c.first, refl), c.is, c.tells))))
+    let b : Broken (List Text) = record { rule = c.rule; name = c.name; item = c.item; shows = c.ports } in
+    inr (inr (c.text_of.shallow, inr (c.design, c.text_of.spells, inl (b, c.first, c.is, c.tells))))
 in_order text ended line (causes.ByWeight c) =
     inr (inr (c.accepted.text_of.shallow, inr (c.design, c.accepted.text_of.spells, inr (c.accepted.rules, inl (c.weight, c.weighs, c.heavy, c.is, c.tells)))))
 in_order text ended line (causes.ByWords c) =
@@ -114,7 +109,7 @@ by_cost d ended ended' line line' (inr (light, (words, has, e, l))) (inr (light'
 
 by_rule : (d : Design) (ended ended' : Ended) (line line' : Text) → ByRule d ended line → ByRule d ended' line' → IsOne ended ended' line line'
 by_rule d ended ended' line line' (inl (b, refuses, e, l)) (inl (b', refuses', e', l')) =
-    one_broken Calyx ended ended' line line' b b' e e' l l' (cal_refusal_is_one d b b' refuses refuses')
+    one_broken Calyx loop_text (λ ports. ports) (λ ports. refl) ended ended' line line' b b' e e' l l' (cal_refusal_is_one d b b' refuses refuses')
 by_rule d ended ended' line line' (inl (b, refuses, e, l)) (inr (rules, more)) = absurd (refused_cal_breaks_rules d b refuses rules)
 by_rule d ended ended' line line' (inr (rules, more)) (inl (b, refuses, e, l)) = absurd (refused_cal_breaks_rules d b refuses rules)
 by_rule d ended ended' line line' (inr (rules, more)) (inr (rules', more')) = by_cost d ended ended' line line' more more'
@@ -146,7 +141,7 @@ by_grammar text ended ended' line line' (inr (d, spells, more)) (inr (d', spells
 
 by_nesting : (text : Text) (ended ended' : Ended) (line line' : Text) → ByNesting text ended line → ByNesting text ended' line' → IsOne ended ended' line line'
 by_nesting text ended ended' line line' (inl (depth, nested, over, e, l)) (inl (depth', nested', over', e', l')) =
-    one_of Limit ended ended' line line' _ _ e e' l l' (ap (λ (k : ℕ). limit_line (codes "nesting") k MOST_NESTING) (nested_once text depth depth' nested nested'))
+    one_of Limit ended ended' line line' _ _ e e' l l' (ap (λ (k : ℕ). limit_line (codes "nesting") k MOST_NESTING) (same_nesting text depth depth' nested nested'))
 by_nesting text ended ended' line line' (inl (depth, nested, over, e, l)) (inr (shallow, more)) = absurd (too_deep text depth nested over shallow)
 by_nesting text ended ended' line line' (inr (shallow, more)) (inl (depth, nested, over, e, l)) = absurd (too_deep text depth nested over shallow)
 by_nesting text ended ended' line line' (inr (shallow, more)) (inr (shallow', more')) = by_grammar text ended ended' line line' more more'

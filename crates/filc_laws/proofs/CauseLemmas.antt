@@ -2,7 +2,7 @@
 use Rattle.std.proofs.Common.{◌≡◌, ℕ, List, ◌⊎◌, inl, inr, Option, Some, None, refl, sym, ap, ◌∙◌}
 use Rattle.std.proofs.lemmas.Option.{same_Some}
 use Rattle.serde_json.specs.Data.{Data}
-use Rattle.fil_sig.specs.declared.time_sig.SigPort.{SigPort}
+use Rattle.stim_read.specs.declared.shape.InputShape.{InputShape}
 use Rattle.net_core.specs.declared.stimulus.MemShape.{MemShape}
 use Rattle.stim_read.specs.CycleRules.{refused, cycles_fault}
 use Rattle.stim_read.specs.CycleRun.{IsJson, IsNoJson, NoMemory, ByS1, IsUnsaid, NoValue, ByS2, IsTold, IsCause, NoStimulus, ByRule, run_of}
@@ -60,11 +60,11 @@ json_cause bytes end not (ByS1 none) = (none, refl)
 
 -- ---- stimuli of cycles
 
-unsaid_cause : (bytes : List ℕ) (ins : List SigPort) (mems : List MemShape) (end : StimEnd) → (end ≡ Memory → ⊥) → IsUnsaid bytes end → Cause bytes cycles_in (cycles_fault ins mems) end
+unsaid_cause : (bytes : List ℕ) (ins : List InputShape) (mems : List MemShape) (end : StimEnd) → (end ≡ Memory → ⊥) → IsUnsaid bytes end → Cause bytes cycles_in (cycles_fault ins mems) end
 unsaid_cause bytes ins mems end not (NoValue e none) = let r = json_cause bytes e not none in NoneIsRead r.0 r.1
 unsaid_cause bytes ins mems end not (ByS2 value json none) = NothingIsSaid value json none refl
 
-run_cause : (bytes : List ℕ) (ins : List SigPort) (mems : List MemShape) (end : StimEnd) → (end ≡ Memory → ⊥) → IsCause bytes ins mems end → Cause bytes cycles_in (cycles_fault ins mems) end
+run_cause : (bytes : List ℕ) (ins : List InputShape) (mems : List MemShape) (end : StimEnd) → (end ≡ Memory → ⊥) → IsCause bytes ins mems end → Cause bytes cycles_in (cycles_fault ins mems) end
 run_cause bytes ins mems end not (NoStimulus e unsaid) = unsaid_cause bytes ins mems e not unsaid
 run_cause bytes ins mems end not (ByRule c e said told) = HasFault said.value c said.json said.says (told_is e (cycles_fault ins mems c) not told)
 

@@ -39,7 +39,7 @@ use Rattle.filc_core.specs.commands.TraceFil.{PrintsTrace}
 use Rattle.filc_core.specs.commands.Transactions.{Started, Top, GivesTop, IsGranted, IsRefusedWithTop, Prints}
 use Rattle.filc_laws.proofs.CauseLemmas.{run_is_given_once, run_cause_is_one, given_run_has_no_cause, transactions_are_given_once, transaction_cause_is_one, given_transactions_have_no_cause}
 use Rattle.filc_laws.proofs.CalRunLemmas.{end_alike, means_once}
-use Rattle.filc_laws.proofs.FilSourceLemmas.{top_once}
+use Rattle.filc_load.proofs.TopLemmas.{one_number}
 use Rattle.filc_laws.proofs.LineLemmas.{along_lines}
 use Rattle.filc_laws.proofs.ReportLemmas.{comes_once}
 use Rattle.filc_laws.proofs.ScheduleLemmas.{schedules_once}
@@ -161,7 +161,7 @@ module _ (words : List Text) (contents : Contents) (made made' : Text) (o o' : O
   same_top : (file : Text) (t u : Top) → GivesTop contents file t → GivesTop contents file u → t ≡ u
   same_top file t u p q =
       let design = fil_is_given_once contents file t.design u.design p.gives q.gives in
-      let number = top_once u.design t.number u.number (subst (λ (d : Design). IsTop d t.number) design p.top) q.top in
+      let number = one_number u.design t.number u.number (subst (λ (d : Design). IsTop d t.number) design p.top) q.top in
       let comp = same_Some t.comp u.comp (sym p.at ∙ ap₂ (λ (d : Design) (n : ℕ). slice_get d n) design number ∙ q.at) in
       λ k. record { design = design k; number = number k; comp = comp k }
 

@@ -4,14 +4,14 @@ use Rattle.std.specs.Prelude.{slice_get, max, All, Contains, IfSome}
 use Rattle.std.proofs.lemmas.List.Elements.{All-contains}
 use Rattle.std.proofs.lemmas.Option.{same_Some}
 use Rattle.hw_names.specs.Name.{AreDistinct}
-use Rattle.fil_ast.specs.Evidence.{Evidence, AnOffset, ACycle, AGap, ReadsArgument, IsMissingOffset, IsApartFrom, IsMeetingCycle, UsesEvent, Own, Another, IsSpan, IsGap, MissesAt, MeetsAt, OverrunsAt}
+use Rattle.fil_ast.specs.Evidence.{Evidence, AnOffset, ACycle, AGap, IsMissingOffset, IsApartFrom, IsMeetingCycle, UsesEvent, Own, Another, IsSpan, IsGap, MissesAt, MeetsAt, OverrunsAt}
 use Rattle.fil_ast.specs.Naming.{event_names}
 use Rattle.fil_ast.specs.Refusal.{ShowsAtStatement}
 use Rattle.fil_ast.specs.Rules.{Rule, F1, F2, F3, F4, F5, F6, F7, F8, F9, F10, F11, F12, F13}
 use Rattle.fil_ast.specs.Scope.{Scope, Invocation, invocations_at}
-use Rattle.fil_ast.specs.Sharing.{IsUseOf, KeepsApart}
+use Rattle.fil_ast.specs.Sharing.{IsUseOf, KeepsUsesApart}
 use Rattle.fil_ast.specs.Signature.{Signature}
-use Rattle.fil_ast.specs.Timeline.{Interval, IsAvailable, Covers, IsUse, Use, interval_at}
+use Rattle.fil_ast.specs.Timeline.{Interval, IsAvailable, ReadsArgument, Covers, IsUse, Use, interval_at}
 use Rattle.fil_ast.specs.Tree.{Event, Giving, TimeAt, Statement, New, Call, Both, Connect, ValueTree}
 use Rattle.fil_check.proofs.NeededLemmas.{one_event}
 use Rattle.fil_check.proofs.RefusedLemmas.{only_one}
@@ -79,7 +79,7 @@ module _ (scope : Scope) (v : Invocation) where
 
 -- ---- F12
 
-module _ (scope : Scope) (v : Invocation) (distinct : AreDistinct (event_names scope.comp)) (apart : KeepsApart scope v) where
+module _ (scope : Scope) (v : Invocation) (distinct : AreDistinct (event_names scope.comp)) (apart : KeepsUsesApart scope v) where
   -- a use of an event is on the event of the component on which the invocation's own use is
   on_event : (event : ℕ) (u : Use) → UsesEvent scope v event u → (own : Use) × IsUseOf scope v own × (own.event ≡ event) × (u.at.event ≡ own.at.event)
   on_event event u (Own is here) = (u, is, here, refl)
@@ -124,13 +124,13 @@ its_one s v w p q = let same : v ∷ [] ≡ w ∷ [] = sym (only_one s v p) ∙ 
 meets_once : (with : Scope) (s : Statement) (a b : ℕ) → MeetsAt with s a → MeetsAt with s b → a ≡ b
 meets_once with s a b (v, there, p) (w, there', q) = meeting_once with v a b p (subst (λ (x : Invocation). IsMeetingCycle with x b) (its_one s w v there' there) q)
 
-overruns_once : (with : Scope) (s : Statement) → AreDistinct (event_names with.comp) → All (KeepsApart with) (invocations_at s) → (gap cycle gap' cycle' : ℕ) → OverrunsAt with s gap cycle → OverrunsAt with s gap' cycle' → (gap ≡ gap') × (cycle ≡ cycle')
+overruns_once : (with : Scope) (s : Statement) → AreDistinct (event_names with.comp) → All (KeepsUsesApart with) (invocations_at s) → (gap cycle gap' cycle' : ℕ) → OverrunsAt with s gap cycle → OverrunsAt with s gap' cycle' → (gap ≡ gap') × (cycle ≡ cycle')
 overruns_once with s distinct apart gap cycle gap' cycle' (v, there, p) (w, there', q) =
-    gap_once with v distinct (All-contains (KeepsApart with) (invocations_at s) v apart there) gap cycle gap' cycle' p
+    gap_once with v distinct (All-contains (KeepsUsesApart with) (invocations_at s) v apart there) gap cycle gap' cycle' p
     (subst (λ (x : Invocation). IsGap with x gap' cycle') (its_one s w v there' there) q)
 
 -- what a statement shows where it breaks a rule; where that is F12, it keeps F11
-pub shows_once : (rule : Rule) (scope with : Scope) (s : Statement) (e e' : Evidence) → (rule ≡ F12 → AreDistinct (event_names with.comp) × All (KeepsApart with) (invocations_at s)) → ShowsAtStatement rule scope with s e → ShowsAtStatement rule scope with s e' → e ≡ e'
+pub shows_once : (rule : Rule) (scope with : Scope) (s : Statement) (e e' : Evidence) → (rule ≡ F12 → AreDistinct (event_names with.comp) × All (KeepsUsesApart with) (invocations_at s)) → ShowsAtStatement rule scope with s e → ShowsAtStatement rule scope with s e' → e ≡ e'
 shows_once F8 scope with s e e' kept (a, is, p) (b, is', q) = is ∙ ap AnOffset (misses_once scope s a b p q) ∙ sym is'
 shows_once F11 scope with s e e' kept (a, is, p) (b, is', q) = is ∙ ap ACycle (meets_once with s a b p q) ∙ sym is'
 shows_once F12 scope with s e e' kept (gap, cycle, is, p) (gap', cycle', is', q) =

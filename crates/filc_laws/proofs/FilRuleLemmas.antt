@@ -7,10 +7,10 @@ use Rattle.hw_names.specs.Name.{Text, AreDistinct}
 use Rattle.fil_ast.specs.Evidence.{Evidence, Nothing, ALoop}
 use Rattle.fil_ast.specs.Items.{Item, TheSignature, TheStatement, TheEnd, IsItem, scope_after, scope_with}
 use Rattle.fil_ast.specs.Naming.{event_names}
-use Rattle.fil_ast.specs.Refusal.{IsRefusal, BreaksRule, HasLoop, Shows}
+use Rattle.fil_ast.specs.Refusal.{IsRefusal, BreaksRule, HasLoop, ShowsBroken}
 use Rattle.fil_ast.specs.Rules.{Rule, F1, F11, F12, IsFirstBroken, HasFirstLoop, Keeps, KeepsItem, FilRules, all_rules}
 use Rattle.fil_ast.specs.Scope.{invocations_at}
-use Rattle.fil_ast.specs.Sharing.{KeepsApart}
+use Rattle.fil_ast.specs.Sharing.{KeepsUsesApart}
 use Rattle.fil_ast.specs.Tree.{Component, Design, Statement}
 use Rattle.fil_ast.specs.Wires.{IsLoop}
 use Rattle.fil_share.proofs.ListLemmas.{Contains-at}
@@ -49,25 +49,25 @@ late (suc (suc (suc (suc (suc (suc (suc (suc (suc (suc zero)))))))))) e = absurd
 late (suc (suc (suc (suc (suc (suc (suc (suc (suc (suc (suc q))))))))))) e = omega arith
 
 -- what the first broken rule shows is one
-evidence_once : (comps : Design) (n k r : ℕ) (f : IsFirstBroken all_rules comps n k r) (e e' : Evidence) → Shows (take n comps) f.c f.item f.rule e → Shows (take n comps) f.c f.item f.rule e' → e ≡ e'
+evidence_once : (comps : Design) (n k r : ℕ) (f : IsFirstBroken all_rules comps n k r) (e e' : Evidence) → ShowsBroken (take n comps) f.c f.item f.rule e → ShowsBroken (take n comps) f.c f.item f.rule e' → e ≡ e'
 evidence_once comps n zero r f e e' p q =
-    let shown : e ≡ Nothing = subst (λ (i : Item). Shows (take n comps) f.c i f.rule e) f.here p in
-    let shown' : e' ≡ Nothing = subst (λ (i : Item). Shows (take n comps) f.c i f.rule e') f.here q in
+    let shown : e ≡ Nothing = subst (λ (i : Item). ShowsBroken (take n comps) f.c i f.rule e) f.here p in
+    let shown' : e' ≡ Nothing = subst (λ (i : Item). ShowsBroken (take n comps) f.c i f.rule e') f.here q in
     shown ∙ sym shown'
 evidence_once comps n (suc k) r f e e' p q = by f.here
   where
     by : ((s : Statement) × (slice_get f.c.body k ≡ Some s) × (f.item ≡ TheStatement (take k f.c.body) s)) ⊎ ((k ≡ length f.c.body) × (f.item ≡ TheEnd)) → e ≡ e'
     by (inr (end, is)) =
-        let shown : e ≡ Nothing = subst (λ (i : Item). Shows (take n comps) f.c i f.rule e) is p in
-        let shown' : e' ≡ Nothing = subst (λ (i : Item). Shows (take n comps) f.c i f.rule e') is q in
+        let shown : e ≡ Nothing = subst (λ (i : Item). ShowsBroken (take n comps) f.c i f.rule e) is p in
+        let shown' : e' ≡ Nothing = subst (λ (i : Item). ShowsBroken (take n comps) f.c i f.rule e') is q in
         shown ∙ sym shown'
     by (inl (s, at, is)) =
         let with = scope_with (take n comps) f.c (take k f.c.body) s in
         let distinct : AreDistinct (event_names f.c) = (f.items 0 (omega arith) TheSignature refl 0 F1 (omega arith)).events in
-        let kept : f.rule ≡ F12 → All (KeepsApart with) (invocations_at s) =
+        let kept : f.rule ≡ F12 → All (KeepsUsesApart with) (invocations_at s) =
         λ same. subst (λ (i : Item). Keeps (take n comps) f.c i F11) is (f.lesser 10 F11 (late r (f.numbered ∙ ap Some same)) refl) in
         shows_once f.rule (scope_after (take n comps) f.c (take k f.c.body)) with s e e' (λ same. (distinct, kept same))
-        (subst (λ (i : Item). Shows (take n comps) f.c i f.rule e) is p) (subst (λ (i : Item). Shows (take n comps) f.c i f.rule e') is q)
+        (subst (λ (i : Item). ShowsBroken (take n comps) f.c i f.rule e) is p) (subst (λ (i : Item). ShowsBroken (take n comps) f.c i f.rule e') is q)
 
 -- ---- two first broken rules
 
@@ -107,11 +107,11 @@ module _ (comps : Design) (n n' k k' r r' : ℕ) (f : IsFirstBroken all_rules co
   same_rule : f.rule ≡ g.rule
   same_rule = same_Some f.rule g.rule (sym f.numbered ∙ ap (slice_get all_rules) same_order ∙ g.numbered)
 
-  same_shown : (e e' : Evidence) → Shows (take n comps) f.c f.item f.rule e → Shows (take n' comps) g.c g.item g.rule e' → e ≡ e'
+  same_shown : (e e' : Evidence) → ShowsBroken (take n comps) f.c f.item f.rule e → ShowsBroken (take n' comps) g.c g.item g.rule e' → e ≡ e'
   same_shown e e' p q =
-      let of_rule : Shows (take n' comps) g.c g.item f.rule e' = subst (λ (x : Rule). Shows (take n' comps) g.c g.item x e') (sym same_rule) q in
-      let of_item : Shows (take n' comps) g.c f.item f.rule e' = subst (λ (i : Item). Shows (take n' comps) g.c i f.rule e') (sym same_item) of_rule in
-      evidence_once comps n k r f e e' p (subst₂ (λ (d : Design) (c : Component). Shows d c f.item f.rule e') (sym same_before) (sym same_component) of_item)
+      let of_rule : ShowsBroken (take n' comps) g.c g.item f.rule e' = subst (λ (x : Rule). ShowsBroken (take n' comps) g.c g.item x e') (sym same_rule) q in
+      let of_item : ShowsBroken (take n' comps) g.c f.item f.rule e' = subst (λ (i : Item). ShowsBroken (take n' comps) g.c i f.rule e') (sym same_item) of_rule in
+      evidence_once comps n k r f e e' p (subst₂ (λ (d : Design) (c : Component). ShowsBroken d c f.item f.rule e') (sym same_before) (sym same_component) of_item)
 
 -- ---- F14
 
@@ -137,13 +137,13 @@ not_both : (comps : Design) (n k r m : ℕ) (port : Text) (others : List Text) (
 not_both comps n k r m port others f loop = not_kept all_rules comps n k r f (loop.others_keep n f.c f.at k)
 
 broken_once : (comps : Design) (rule rule' : ℕ) (name name' : Text) (item item' : ℕ) (e e' : Evidence) → IsRefusal comps name item e rule → IsRefusal comps name' item' e' rule'
-    → AreOneRefusal Filament (record { rule = rule; name = name; item = item; evidence = e }) (record { rule = rule'; name = name'; item = item'; evidence = e' })
+    → AreOneRefusal Filament ALoop (record { rule = rule; name = name; item = item; shows = e }) (record { rule = rule'; name = name'; item = item'; shows = e' })
 broken_once comps rule rule' name name' item item' e e' (BreaksRule n place f named shows) (BreaksRule n' place' g named' shows') =
     let rules = ap (λ (p : ℕ). p + 1) (same_order comps n n' item item' place place' f g) in
     let names = sym named ∙ ap (λ (c : Component). c.name) (same_component comps n n' item item' place place' f g) ∙ named' in
     let items = same_place comps n n' item item' place place' f g in
     let shown = same_shown comps n n' item item' place place' f g e e' shows shows' in
-    inl (λ k. record { rule = rules k; name = names k; item = items k; evidence = shown k })
+    inl (λ k. record { rule = rules k; name = names k; item = items k; shows = shown k })
 broken_once comps rule rule' name name' item item' e e' (BreaksRule n place f named shows) (HasLoop m port others loop named' first shown) = absurd (not_both comps n item place m port others f loop)
 broken_once comps rule rule' name name' item item' e e' (HasLoop m port others loop named first shown) (BreaksRule n place f named' shows) = absurd (not_both comps n item' place m port others f loop)
 broken_once comps rule rule' name name' item item' e e' (HasLoop m port others f named first shown) (HasLoop m' port' others' g named' first' shown') =
@@ -154,16 +154,16 @@ broken_once comps rule rule' name name' item item' e e' (HasLoop m port others f
       first = port;
       ports = others;
       ports' = others';
-      shown = λ k. record { rule = 14; name = name; item = first k; evidence = shown k };
-      shown' = λ k. record { rule = 14; name = names k; item = first' k; evidence = ports k };
+      shown = λ k. record { rule = 14; name = name; item = first k; shows = shown k };
+      shown' = λ k. record { rule = 14; name = names k; item = first' k; shows = ports k };
     })
 
 pub fil_refusal_is_one : FilRefusalIsOne
-fil_refusal_is_one = λ design b other p q. broken_once design b.rule other.rule b.name other.name b.item other.item b.evidence other.evidence p q
+fil_refusal_is_one = λ design b other p q. broken_once design b.rule other.rule b.name other.name b.item other.item b.shows other.shows p q
 
 refused_breaks : (comps : Design) (name : Text) (item : ℕ) (e : Evidence) (rule : ℕ) → IsRefusal comps name item e rule → FilRules comps → ⊥
 refused_breaks comps name item e rule (BreaksRule n place f named shows) rules = not_kept all_rules comps n item place f (rules.keeps n f.c f.at item)
 refused_breaks comps name item e rule (HasLoop n port others loop named first shown) rules = rules.no_loop n loop.c loop.at port others loop.loop.is_loop
 
 pub refused_design_breaks_rules : RefusedDesignBreaksRules
-refused_design_breaks_rules = λ design b p rules. refused_breaks design b.name b.item b.evidence b.rule p rules
+refused_design_breaks_rules = λ design b p rules. refused_breaks design b.name b.item b.shows b.rule p rules

@@ -1,28 +1,25 @@
 -- The text of a Filament file gives one design, or is refused with one answer and one line, but for which loop that tells: each cause
 -- stands where those before it are not met.
-use Rattle.std.proofs.Common.{◌≡◌, ℕ, ◌<◌, ◌⊎◌, inl, inr, List, codes, Some, None, sym, ap, subst, ◌∙◌, arith}
-use Rattle.std.specs.Prelude.{slice_get, Contains}
+use Rattle.std.proofs.Common.{◌≡◌, ℕ, ◌<◌, ◌⊎◌, inl, inr, codes, Some, None, refl, sym, ap, subst, ◌∙◌, arith}
+use Rattle.std.specs.Prelude.{slice_get}
 use Rattle.std.proofs.lemmas.Option.{same_Some}
-use Rattle.hw_graph.proofs.MemberLemmas.{In, in_at, contains_of, in_map}
-use Rattle.hw_lex.proofs.Cuts.{tokens_unique, tokens-no_fault, fault_unique}
-use Rattle.hw_lex.specs.Cut.{FaultsAt, token_texts}
-use Rattle.hw_lex.specs.Nesting.{nesting_of}
+use Rattle.hw_lex.proofs.Cuts.{tokens-no_fault, fault_unique}
+use Rattle.hw_lex.specs.Cut.{FaultsAt}
 use Rattle.hw_lex.specs.declared.token.Dialect.TheVariants.{Fil}
-use Rattle.hw_lex.specs.declared.token.Token.{Token}
 use Rattle.hw_names.specs.Name.{Text}
-use Rattle.fil_ast.specs.Evidence.{Evidence}
-use Rattle.fil_ast.specs.Naming.{component_names}
+use Rattle.fil_ast.specs.Evidence.{Evidence, ALoop}
 use Rattle.fil_ast.specs.Refusal.{IsRefusal}
 use Rattle.fil_ast.specs.Rules.{FilRules}
-use Rattle.fil_ast.specs.Top.{IsTop}
 use Rattle.fil_ast.specs.Tree.{Component, Design}
 use Rattle.fil_ast.specs.Weight.{told_weight}
 use Rattle.fil_ast.specs.declared.tree.TheConstants.{MOST_OFFSET}
 use Rattle.fil_parse.proofs.Designs.{one_tree}
 use Rattle.fil_parse.specs.Spelling.{SpellsDesign, IsNested, KeepsNesting, IsRefusedAt, first_large}
 use Rattle.fil_parse.specs.declared.parse.TheConstants.{MOST_NESTING}
+use Rattle.filc_load.proofs.FilLemmas.{same_nesting}
+use Rattle.filc_load.proofs.TopLemmas.{one_number}
 use Rattle.filc_load.specs.FilFile.{HasTop, GivesFil, IsRefused, HasNoTokens, NestsTooDeep, HasNoGrammar, HasLargeOffset, BreaksRule, IsTooHeavy}
-use Rattle.filc_stop.specs.Lines.{limit_line, token_line, grammar_line, rule_name, rule_line}
+use Rattle.filc_stop.specs.Lines.{limit_line, token_line, grammar_line, evidence_text, rule_name, rule_line}
 use Rattle.filc_stop.specs.declared.ended.Ended.{Ended}
 use Rattle.filc_stop.specs.declared.ended.Ended.TheVariants.{Refused, Limit}
 use Rattle.filc_stop.specs.declared.language.Language.TheVariants.{Filament}
@@ -30,36 +27,18 @@ use Rattle.filc_stop.specs.declared.limits.TheConstants.{MOST_WEIGHT}
 use Rattle.filc_laws.proofs.FilPlaceLemmas.{fil_place_is_one, refused_fil_spells_none}
 use Rattle.filc_laws.proofs.FilRuleLemmas.{fil_refusal_is_one, refused_design_breaks_rules}
 use Rattle.filc_laws.proofs.LineLemmas.{IsOne, one_of, one_broken}
-use Rattle.filc_laws.proofs.OrderLemmas.{neither_below}
 use Rattle.filc_laws.specs.OneRule.{Broken}
 
 -- ---- what a text has one of
 
-nested_once : (text : Text) (a b : ℕ) → IsNested text a → IsNested text b → a ≡ b
-nested_once text a b (tokens, are, is) (others, are', is') =
-    is ∙ ap (λ (ts : List Token). nesting_of (token_texts text ts)) (tokens_unique Fil text tokens others are are') ∙ sym is'
-
 too_deep : (text : Text) (depth : ℕ) → IsNested text depth → MOST_NESTING < depth → KeepsNesting text → ⊥
-too_deep text depth nested over (other, nested', within) = let same = nested_once text depth other nested nested' in omega (arith, over, within, same)
-
-named_there : (comps : Design) (n : ℕ) (c : Component) → slice_get comps n ≡ Some c → c.name ≡ codes "main" → Contains (component_names comps) (codes "main")
-named_there comps n c at is =
-    contains_of (component_names comps) (codes "main")
-    (subst (λ (name : Text). In (component_names comps) name) is (in_map (λ (d : Component). d.name) comps c (in_at comps n c at)))
-
--- a design has one top
-pub top_once : (comps : Design) (m n : ℕ) → IsTop comps m → IsTop comps n → m ≡ n
-top_once comps m n (inl (c, at, main, first)) (inl (d, at', main', first')) =
-    neither_below m n (λ less. first' m c less at main) (λ more. first n d more at' main')
-top_once comps m n (inl (c, at, main, first)) (inr (none, last)) = absurd (none (named_there comps m c at main))
-top_once comps m n (inr (none, last)) (inl (c, at, main, first)) = absurd (none (named_there comps n c at main))
-top_once comps m n (inr (none, last)) (inr (none', last')) = omega (arith, last, last')
+too_deep text depth nested over (other, nested', within) = let same = same_nesting text depth other nested nested' in omega (arith, over, within, same)
 
 -- ---- the causes, each beside those before it
 
 abbrev ByRule : Design → Ended → Text → Type 0
 ByRule d ended line =
-    ((rule : ℕ) × (name : Text) × (item : ℕ) × (evidence : Evidence) × IsRefusal d name item evidence rule × (ended ≡ Refused) × (line ≡ rule_line (rule_name Filament rule) name item evidence))
+    ((rule : ℕ) × (name : Text) × (item : ℕ) × (evidence : Evidence) × IsRefusal d name item evidence rule × (ended ≡ Refused) × (line ≡ rule_line (rule_name Filament rule) name item (evidence_text evidence)))
     ⊎ (FilRules d × ((number : ℕ) × (top : Component) × HasTop d number top × (ended ≡ Limit) × (line ≡ limit_line (codes "weight") (told_weight d top) MOST_WEIGHT)))
 
 abbrev ByOffset : Design → Ended → Text → Type 0
@@ -90,18 +69,18 @@ in_order text ended line (IsTooHeavy d number top accepted has heavy e l) =
 
 -- ---- each is one
 
-abbrev broken_of : ℕ → Text → ℕ → Evidence → Broken
-broken_of rule name item evidence = record { rule = rule; name = name; item = item; evidence = evidence }
+abbrev broken_of : ℕ → Text → ℕ → Evidence → Broken Evidence
+broken_of rule name item evidence = record { rule = rule; name = name; item = item; shows = evidence }
 
 by_rule : (d : Design) (ended ended' : Ended) (line line' : Text) → ByRule d ended line → ByRule d ended' line' → IsOne ended ended' line line'
 by_rule d ended ended' line line' (inl (rule, name, item, evidence, broken, e, l)) (inl (rule', name', item', evidence', broken', e', l')) =
     let b = broken_of rule name item evidence in
     let b' = broken_of rule' name' item' evidence' in
-    one_broken Filament ended ended' line line' b b' e e' l l' (fil_refusal_is_one d b b' broken broken')
+    one_broken Filament evidence_text ALoop (λ ports. refl) ended ended' line line' b b' e e' l l' (fil_refusal_is_one d b b' broken broken')
 by_rule d ended ended' line line' (inl (rule, name, item, evidence, broken, e, l)) (inr (rules, more)) = absurd (refused_design_breaks_rules d (broken_of rule name item evidence) broken rules)
 by_rule d ended ended' line line' (inr (rules, more)) (inl (rule, name, item, evidence, broken, e, l)) = absurd (refused_design_breaks_rules d (broken_of rule name item evidence) broken rules)
 by_rule d ended ended' line line' (inr (rules, (number, top, has, e, l))) (inr (rules', (number', top', has', e', l'))) =
-    let number_is = top_once d number number' has.is_top has'.is_top in
+    let number_is = one_number d number number' has.is_top has'.is_top in
     let top_is : top ≡ top' = same_Some top top' (sym has.at ∙ ap (slice_get d) number_is ∙ has'.at) in
     one_of Limit ended ended' line line' _ _ e e' l l' (ap (λ (c : Component). limit_line (codes "weight") (told_weight d c) MOST_WEIGHT) top_is)
 
@@ -125,7 +104,7 @@ by_grammar text ended ended' line line' (inr (d, spells, more)) (inr (d', spells
 
 by_nesting : (text : Text) (ended ended' : Ended) (line line' : Text) → ByNesting text ended line → ByNesting text ended' line' → IsOne ended ended' line line'
 by_nesting text ended ended' line line' (inl (depth, nested, over, e, l)) (inl (depth', nested', over', e', l')) =
-    one_of Limit ended ended' line line' _ _ e e' l l' (ap (λ (k : ℕ). limit_line (codes "nesting") k MOST_NESTING) (nested_once text depth depth' nested nested'))
+    one_of Limit ended ended' line line' _ _ e e' l l' (ap (λ (k : ℕ). limit_line (codes "nesting") k MOST_NESTING) (same_nesting text depth depth' nested nested'))
 by_nesting text ended ended' line line' (inl (depth, nested, over, e, l)) (inr (shallow, more)) = absurd (too_deep text depth nested over shallow)
 by_nesting text ended ended' line line' (inr (shallow, more)) (inl (depth, nested, over, e, l)) = absurd (too_deep text depth nested over shallow)
 by_nesting text ended ended' line line' (inr (shallow, more)) (inr (shallow', more')) = by_grammar text ended ended' line line' more more'
@@ -166,7 +145,7 @@ module _ (text : Text) (d : Design) (g : GivesFil text d) where
       let same = same_as b accepted.text_of.spells in
       let there : HasTop d number top = subst (λ (x : Design). HasTop x number top) same has in
       let over : MOST_WEIGHT < told_weight d top = subst (λ (x : Design). MOST_WEIGHT < told_weight x top) same heavy in
-      let number_is = top_once d number g.light.number there.is_top g.light.has_top.is_top in
+      let number_is = one_number d number g.light.number there.is_top g.light.has_top.is_top in
       let top_is : top ≡ g.light.top = same_Some top g.light.top (sym there.at ∙ ap (slice_get d) number_is ∙ g.light.has_top.at) in
       let weight = ap (told_weight d) top_is in
       let light = g.light.light in

@@ -3,13 +3,13 @@ use Rattle.std.proofs.Common.{◌≡◌, ℕ, ◌+◌, ◌<◌, Bool, true, fals
 use Rattle.std.specs.Prelude.{slice_get, List}
 use Rattle.std.proofs.lemmas.Option.{same_Some}
 use Rattle.net_core.specs.Netlist.{Netlist, Line, lines_of}
-use Rattle.net_core.specs.Rules.{FirstBroken, KeepsRules, ports_of, rules_at}
+use Rattle.net_core.specs.Rules.{FirstBroken, LineKeepsRules, ports_of, rules_at}
 use Rattle.filc_laws.proofs.ListLemmas.{none_broken}
 use Rattle.filc_laws.proofs.OrderLemmas.{neither_below, neither_greater}
 use Rattle.filc_laws.specs.OneRule.{NetRuleIsOne, BrokenNetIsNotValid, LeastPortIsOne}
 
 -- the line of the first broken rule doesn't keep the rules
-not_kept : (n : Netlist) (rule item : ℕ) (p : FirstBroken n rule item) → KeepsRules n p.place p.line → ⊥
+not_kept : (n : Netlist) (rule item : ℕ) (p : FirstBroken n rule item) → LineKeepsRules n p.place p.line → ⊥
 not_kept n rule item p kept = none_broken (rules_at (ports_of n) (take p.place (lines_of n)) p.line) kept p.number p.broken
 
 -- which of the rules are kept at a line

@@ -1,17 +1,16 @@
 -- The text of a netlist gives one netlist, or is refused with one answer and one line, but for which loop that tells: each cause stands
 -- where those before it are not met.
-use Rattle.std.proofs.Common.{◌≡◌, ℕ, ◌<◌, ◌≤◌, ◌⊎◌, inl, inr, List, ◌∷◌, codes, refl, ap, ap₂, subst, arith}
+use Rattle.std.proofs.Common.{◌≡◌, ℕ, ◌<◌, ◌≤◌, ◌⊎◌, inl, inr, List, [], ◌∷◌, codes, refl, ap, ap₂, subst, arith}
 use Rattle.hw_names.specs.Name.{Text}
-use Rattle.fil_ast.specs.Evidence.{Nothing, ALoop}
 use Rattle.net_core.specs.Graph.{HasNoLoop, IsLeastLoop}
 use Rattle.net_core.specs.Netlist.{Netlist}
 use Rattle.net_core.specs.Rules.{IsValid, FirstBroken}
 use Rattle.net_core.specs.Weight.{weight_of, saturated}
-use Rattle.net_core.specs.Words.{words_of}
+use Rattle.net_core.specs.Words.{word_total}
 use Rattle.net_text.proofs.OneNetlist.{one_netlist}
 use Rattle.net_text.specs.Reading.{Spells, IsRefusedAt}
 use Rattle.filc_load.specs.NetFile.{GivesNet, IsRefused, NestsTooDeep, HasNoGrammar, BreaksRule, HasLoop, IsTooHeavy, HasTooManyWords, net_nesting}
-use Rattle.filc_stop.specs.Lines.{limit_line, grammar_line, rule_name, rule_line}
+use Rattle.filc_stop.specs.Lines.{limit_line, grammar_line, loop_text, rule_name, rule_line}
 use Rattle.filc_stop.specs.declared.ended.Ended.{Ended}
 use Rattle.filc_stop.specs.declared.ended.Ended.TheVariants.{Refused, Limit}
 use Rattle.filc_stop.specs.declared.language.Language.TheVariants.{Netlists}
@@ -25,16 +24,16 @@ use Rattle.filc_laws.proofs.NetRuleLemmas.{net_rule_is_one, broken_net_is_not_va
 abbrev ByWeight : Netlist → Ended → Text → Type 0
 ByWeight n ended line =
     ((MOST_WEIGHT < weight_of n) × (ended ≡ Limit) × (line ≡ limit_line (codes "weight") (saturated (weight_of n)) MOST_WEIGHT))
-    ⊎ ((weight_of n ≤ MOST_WEIGHT) × (ended ≡ Limit) × (line ≡ limit_line (codes "words") (saturated (words_of n)) MOST_WORDS))
+    ⊎ ((weight_of n ≤ MOST_WEIGHT) × (ended ≡ Limit) × (line ≡ limit_line (codes "words") (saturated (word_total n)) MOST_WORDS))
 
 abbrev ByLoop : Netlist → Ended → Text → Type 0
 ByLoop n ended line =
-    ((first : Text) × (others : List Text) × IsLeastLoop n first others × (ended ≡ Refused) × (line ≡ rule_line (rule_name Netlists 6) n.name 0 (ALoop (first ∷ others))))
+    ((first : Text) × (others : List Text) × IsLeastLoop n first others × (ended ≡ Refused) × (line ≡ rule_line (rule_name Netlists 6) n.name 0 (loop_text (first ∷ others))))
     ⊎ (HasNoLoop n × ByWeight n ended line)
 
 abbrev ByRule : Netlist → Ended → Text → Type 0
 ByRule n ended line =
-    ((rule : ℕ) × (item : ℕ) × FirstBroken n rule item × (ended ≡ Refused) × (line ≡ rule_line (rule_name Netlists rule) n.name item Nothing))
+    ((rule : ℕ) × (item : ℕ) × FirstBroken n rule item × (ended ≡ Refused) × (line ≡ rule_line (rule_name Netlists rule) n.name item []))
     ⊎ (IsValid n × ByLoop n ended line)
 
 abbrev ByGrammar : Text → Ended → Text → Type 0
@@ -74,7 +73,7 @@ by_loop n ended ended' line line' (inr (none, more)) (inr (none', more')) = by_w
 by_rule : (n : Netlist) (ended ended' : Ended) (line line' : Text) → ByRule n ended line → ByRule n ended' line' → IsOne ended ended' line line'
 by_rule n ended ended' line line' (inl (rule, item, broken, e, l)) (inl (rule', item', broken', e', l')) =
     let same = net_rule_is_one n rule rule' item item' broken broken' in
-    one_of Refused ended ended' line line' _ _ e e' l l' (ap₂ (λ (r i : ℕ). rule_line (rule_name Netlists r) n.name i Nothing) same.0 same.1)
+    one_of Refused ended ended' line line' _ _ e e' l l' (ap₂ (λ (r i : ℕ). rule_line (rule_name Netlists r) n.name i []) same.0 same.1)
 by_rule n ended ended' line line' (inl (rule, item, broken, e, l)) (inr (valid, more)) = absurd (broken_net_is_not_valid n rule item broken valid)
 by_rule n ended ended' line line' (inr (valid, more)) (inl (rule, item, broken, e, l)) = absurd (broken_net_is_not_valid n rule item broken valid)
 by_rule n ended ended' line line' (inr (valid, more)) (inr (valid', more')) = by_loop n ended ended' line line' more more'
@@ -115,4 +114,4 @@ module _ (text : Text) (m : Netlist) (g : GivesNet text m) where
   net_not_both ended line (IsTooHeavy n accepted heavy e l) =
       let same = ap weight_of (same_as n accepted.text_of.spells) in let light = g.light in omega (arith, heavy, same, light)
   net_not_both ended line (HasTooManyWords n accepted light many e l) =
-      let same = ap words_of (same_as n accepted.text_of.spells) in let few = g.few_words in omega (arith, many, same, few)
+      let same = ap word_total (same_as n accepted.text_of.spells) in let few = g.few_words in omega (arith, many, same, few)

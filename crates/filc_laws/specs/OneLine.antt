@@ -1,8 +1,7 @@
 -- When two lines of refusals are one, but for which loop they tell. This project's.
 use Rattle.std.specs.Prelude.{◌≡◌, ◌⊎◌, ℕ, List, ◌∷◌}
 use Rattle.hw_names.specs.Name.{Text}
-use Rattle.fil_ast.specs.Evidence.{ALoop}
-use Rattle.filc_stop.specs.Lines.{rule_name, rule_line}
+use Rattle.filc_stop.specs.Lines.{loop_text, rule_name, rule_line}
 use Rattle.filc_stop.specs.declared.language.Language.{Language}
 use Rattle.filc_stop.specs.declared.language.Language.TheVariants.{Netlists, Filament, Calyx}
 
@@ -14,7 +13,7 @@ loop_rule Calyx = 12
 
 -- the line that tells a loop of these ports, in the netlist or component of this name
 abbrev pub loop_line : Language → Text → List Text → Text
-loop_line language name ports = rule_line (rule_name language (loop_rule language)) name 0 (ALoop ports)
+loop_line language name ports = rule_line (rule_name language (loop_rule language)) name 0 (loop_text ports)
 
 -- both tell a loop of one netlist or component, from the same port on
 pub record TellOneLoop (line other : Text) : Type 0 where

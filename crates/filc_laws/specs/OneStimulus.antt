@@ -2,7 +2,7 @@
 use Rattle.std.specs.Prelude.{◌≡◌, List}
 use Rattle.hw_names.specs.Name.{Text}
 use Rattle.fil_ast.specs.Tree.{Component}
-use Rattle.fil_sig.specs.declared.time_sig.SigPort.{SigPort}
+use Rattle.stim_read.specs.declared.shape.InputShape.{InputShape}
 use Rattle.net_core.specs.Netlist.{Netlist}
 use Rattle.net_core.specs.declared.stimulus.MemShape.{MemShape}
 use Rattle.stim_read.specs.CycleRun.{Run, GiveRun, IsCause}
@@ -24,13 +24,13 @@ HasNoCause causes = (end : StimEnd) → causes end → end ≡ Memory
 -- what a text gives to a run
 abbrev pub RunIsGivenOnce : Type 0
 RunIsGivenOnce =
-    (text : Text) (ins : List SigPort) (mems : List MemShape) (run other : Run) → GiveRun text ins mems run → GiveRun text ins mems other → run ≡ other
+    (text : Text) (ins : List InputShape) (mems : List MemShape) (run other : Run) → GiveRun text ins mems run → GiveRun text ins mems other → run ≡ other
 
 abbrev pub RunCauseIsOne : Type 0
-RunCauseIsOne = (text : Text) (ins : List SigPort) (mems : List MemShape) → CauseIsOne (IsCause text ins mems)
+RunCauseIsOne = (text : Text) (ins : List InputShape) (mems : List MemShape) → CauseIsOne (IsCause text ins mems)
 
 abbrev pub GivenRunHasNoCause : Type 0
-GivenRunHasNoCause = (text : Text) (ins : List SigPort) (mems : List MemShape) (run : Run) → GiveRun text ins mems run → HasNoCause (IsCause text ins mems)
+GivenRunHasNoCause = (text : Text) (ins : List InputShape) (mems : List MemShape) (run : Run) → GiveRun text ins mems run → HasNoCause (IsCause text ins mems)
 
 -- what a text gives to a component
 abbrev pub TransactionsAreGivenOnce : Type 0

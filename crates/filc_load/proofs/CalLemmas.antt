@@ -1,8 +1,6 @@
 -- A Calyx text gives a design or is refused, not both.
 use Rattle.std.proofs.Common.{◌≡◌, ◌≢◌, ℕ, zero, suc, get_or, ◌∷◌, ◌<◌, List, [], length, map, take, codes, Some, refl, sym, ap, subst, ◌∙◌, arith}
-use Rattle.std.specs.Prelude.{All, slice_get, Result, Ok, Err, IfErr}
-use Rattle.std.specs.List.{AllByRecursion}
-use Rattle.std.proofs.lemmas.Option.{get_or_from_slice_get, slice_get_within}
+use Rattle.std.specs.Prelude.{slice_get, Result, Ok, Err, IfErr}
 use Rattle.hw_names.specs.Name.{Text, text_of}
 use Rattle.hw_names.specs.declared.names.NameId.{NameId}
 use Rattle.hw_lex.specs.declared.token.Dialect.TheVariants.{Cal}
@@ -26,11 +24,11 @@ use Rattle.cal_parse.specs.Spelling.{SpellsDesign, IsNested, IsRefusedAt}
 use Rattle.cal_parse.specs.Written.{IsCalName, ComponentIsWritten, DesignIsWritten}
 use Rattle.cal_parse.proofs.Designs.{one_tree}
 use Rattle.cal_parse.proofs.Passages.{passes-file}
-use Rattle.fil_ast.specs.Evidence.{Evidence, Nothing, ALoop}
+use Rattle.filc_load.proofs.ListLemmas.{all_at, each_at}
 use Rattle.filc_load.proofs.CostLemmas.{told_once}
 use Rattle.filc_load.specs.Built.{IsUnfitCal, IsOverweightCal}
-use Rattle.filc_load.specs.CalFile.{GivesCal, IsCalTextOf, IsAcceptedCalTextOf, IsLight, IsRefused, ByTokens, ByNesting, ByGrammar, ByWord, ByRule, ByWeight, ByWords, shown_ports}
-use Rattle.filc_stop.specs.Lines.{limit_line, rule_name, rule_line}
+use Rattle.filc_load.specs.CalFile.{GivesCal, IsCalTextOf, IsAcceptedCalTextOf, IsLight, IsRefused, ByTokens, ByNesting, ByGrammar, ByWord, ByRule, ByWeight, ByWords}
+use Rattle.filc_stop.specs.Lines.{limit_line, loop_text, rule_name, rule_line}
 use Rattle.filc_stop.specs.declared.ended.Ended.{Ended}
 use Rattle.filc_stop.specs.declared.ended.Ended.TheVariants.{Refused, Limit}
 use Rattle.filc_stop.specs.declared.language.Language.TheVariants.{Calyx}
@@ -54,13 +52,9 @@ spelled_no_fault : (text : Text) (design : Design) (at : ℕ) → SpellsDesign t
 spelled_no_fault text design at (names, (tokens, ts, lexed, spells)) fault = tokens-no_fault Cal text tokens at lexed.tokens_are fault
 
 -- brackets are one deep
-same_nesting : (text : Text) (a b : ℕ) → IsNested text a → IsNested text b → a ≡ b
+pub same_nesting : (text : Text) (a b : ℕ) → IsNested text a → IsNested text b → a ≡ b
 same_nesting text a b (tokens, are, is) (others, are', is') =
     is ∙ ap (λ (ts : List Token). nesting_of (token_texts text ts)) (tokens_unique Cal text tokens others are are') ∙ sym is'
-
--- what holds of all holds of each
-all_at : {X : Type 0} (P : X → Type 0) (xs : List X) (k : ℕ) (x : X) → All P xs → slice_get xs k ≡ Some x → P x
-all_at P xs k x all found = subst P (get_or_from_slice_get xs k x x found) (all k x (slice_get_within xs k x found))
 
 -- a design that keeps the rules is not refused by one
 kept_not_refused : (design : Design) (rule : ℕ) (name : Text) (item : ℕ) (ports : List Text) → CalRules design → IsRefusal design name item ports rule → ⊥
@@ -94,11 +88,6 @@ given_cal_not_refused text design ended line gives (ByWords cause) =
 
 -- ---- the refusal of a design
 
-each_at : {X : Type 0} (P : X → Type 0) (xs : List X) (k : ℕ) (x : X) → AllByRecursion P xs → slice_get xs k ≡ Some x → P x
-each_at P [] k x all found = cc found
-each_at P (y ∷ xs) zero x all found = let same : y ≡ x = cc found in subst P same all.0
-each_at P (y ∷ xs) (suc k) x all found = each_at P xs k x all.1 found
-
 -- a name of the grammar has a number
 number_in : (names : List Text) (k : ℕ) → IsCalName (get_or names k []) → k < length names
 number_in [] k named = absurd named.0
@@ -115,10 +104,10 @@ pub refusal_number : (d : CalDesign) (rule : ℕ) (comp : NameId) (item : ℕ) (
 refusal_number d _ comp item ports written (rules.BreaksRule n place first named none) = component_number d comp n first.c written first.at named
 refusal_number d _ comp item ports written (rules.HasLoop n port others loop named here told) = component_number d comp n loop.c written loop.at named
 
--- the first broken rule is told, with what it shows
-pub design_refused : (d : CalDesign) (rule : ℕ) (comp : NameId) (item : ℕ) (ports : List Text) (name : Text) (evidence : Evidence) → IsRefusal (design_of d) (text_of d.names comp) item ports rule → text_of d.names comp ≡ name
-    → evidence ≡ shown_ports ports → (text : Text) → IsCalTextOf (design_of d) text → IsRefused text Refused (rule_line (rule_name Calyx rule) name item evidence)
-design_refused d rule comp item ports name evidence refused named shows text of = ByRule (record {
+-- the first broken rule is told, with the ports that it shows
+pub design_refused : (d : CalDesign) (rule : ℕ) (comp : NameId) (item : ℕ) (ports : List Text) (name : Text) → IsRefusal (design_of d) (text_of d.names comp) item ports rule → text_of d.names comp ≡ name
+    → (text : Text) → IsCalTextOf (design_of d) text → IsRefused text Refused (rule_line (rule_name Calyx rule) name item (loop_text ports))
+design_refused d rule comp item ports name refused named text of = ByRule (record {
   design = design_of d;
   rule = rule;
   name = name;
@@ -127,17 +116,8 @@ design_refused d rule comp item ports name evidence refused named shows text of 
   text_of = of;
   first = subst (λ (t : Text). IsRefusal (design_of d) t item ports rule) named refused;
   is = refl;
-  tells = ap (rule_line (rule_name Calyx rule) name item) shows;
+  tells = refl;
 })
-
--- what is shown of ports
-pub shows_nothing : (ports : List Text) → length ports ≡ 0 → Nothing ≡ shown_ports ports
-shows_nothing [] none = refl
-shows_nothing (port ∷ ports) none = absurd (omega (arith, none))
-
-pub shows_loop : (ports : List Text) → (length ports ≡ 0 → ⊥) → ALoop ports ≡ shown_ports ports
-shows_loop [] some = absurd (some refl)
-shows_loop (port ∷ ports) some = refl
 
 -- a text spells a design with a component
 no_comps : (names : List Text) (comps : List CalComp) → map (component_tree names) comps ≢ [] → 0 < length comps

@@ -18,13 +18,14 @@ named_in : (design : Design) (n : ℕ) (c : Component) → slice_get design n �
 named_in design n c at =
     Contains-slice_get (component_names design) n c.name (slice_get-map (λ (d : Component). d.name) design n ∙ ap (option_map (λ (d : Component). d.name)) at)
 
-top_once : (design : Design) (m n : ℕ) → IsTop design m → IsTop design n → m ≡ n
-top_once design m n (inl (c, at, main, first)) (inl (d, at', main', first')) =
+-- two numbers of the top component are one
+pub one_number : (design : Design) (m n : ℕ) → IsTop design m → IsTop design n → m ≡ n
+one_number design m n (inl (c, at, main, first)) (inl (d, at', main', first')) =
     ⊎_elim (λ early. absurd (first' m c early at main))
     (λ late. ⊎_elim (λ before. absurd (first n d before at' main')) (λ same. omega (arith, late, same)) (cases_lt n m)) (cases_lt m n)
-top_once design m n (inl (c, at, main, first)) (inr (none, last)) = absurd (none (subst (Contains (component_names design)) main (named_in design m c at)))
-top_once design m n (inr (none, last)) (inl (c, at, main, first)) = absurd (none (subst (Contains (component_names design)) main (named_in design n c at)))
-top_once design m n (inr (none, last)) (inr (none', last')) = omega (arith, last, last')
+one_number design m n (inl (c, at, main, first)) (inr (none, last)) = absurd (none (subst (Contains (component_names design)) main (named_in design m c at)))
+one_number design m n (inr (none, last)) (inl (c, at, main, first)) = absurd (none (subst (Contains (component_names design)) main (named_in design n c at)))
+one_number design m n (inr (none, last)) (inr (none', last')) = omega (arith, last, last')
 
 -- ---- what a component comes to is one number
 
@@ -47,7 +48,7 @@ mutual
 -- and so is what the top component comes to
 pub told_once : (design : Design) (own : Component → ℕ) (told told' : ℕ) → IsTold design own told → IsTold design own told' → told ≡ told'
 told_once design own told told' p q =
-    let number : q.n ≡ p.n = top_once design q.n p.n q.top p.top in
+    let number : q.n ≡ p.n = one_number design q.n p.n q.top p.top in
     let same : q.c ≡ p.c = same_Some q.c p.c (sym q.at ∙ ap (slice_get design) number ∙ p.at) in
     let whole : p.whole ≡ q.whole = comes_once design own p.c p.whole q.whole p.comes (subst (λ (c : Component). ComesTo design own c q.whole) same q.comes) in
     p.is ∙ ap saturated whole ∙ sym q.is

@@ -1,8 +1,6 @@
 -- A Filament text gives a design or is refused, not both.
 use Rattle.std.proofs.Common.{◌≡◌, ℕ, zero, suc, get_or, codes, ◌∷◌, ◌<◌, ◌≤◌, List, [], length, take, None, Some, refl, sym, ap, subst, ◌∙◌, arith}
-use Rattle.std.specs.Prelude.{All, slice_get, Result, Ok, Err, IfErr}
-use Rattle.std.specs.List.{AllByRecursion}
-use Rattle.std.proofs.lemmas.Option.{get_or_from_slice_get, slice_get_within}
+use Rattle.std.specs.Prelude.{slice_get, Result, Ok, Err, IfErr}
 use Rattle.hw_names.specs.Name.{Text, text_of}
 use Rattle.hw_names.specs.declared.names.NameId.{NameId}
 use Rattle.hw_lex.specs.declared.token.Dialect.TheVariants.{Fil}
@@ -27,9 +25,10 @@ use Rattle.fil_parse.proofs.Designs.{one_tree}
 use Rattle.fil_parse.proofs.Passages.{passes-file}
 use Rattle.fil_parse.specs.Written.{IsFilName, ComponentIsWritten, DesignIsWritten}
 use Rattle.fil_ast.specs.Numbers.{IsNumberOf}
+use Rattle.filc_load.proofs.ListLemmas.{all_at, each_at}
 use Rattle.filc_load.proofs.TopLemmas.{has_top, one_top}
 use Rattle.filc_load.specs.Built.{IsUnfitDesign, IsOverweightDesign}
-use Rattle.filc_stop.specs.Lines.{limit_line, rule_name, rule_line}
+use Rattle.filc_stop.specs.Lines.{limit_line, evidence_text, rule_name, rule_line}
 use Rattle.filc_load.specs.FilFile.{GivesFil, HasTop, IsLight, IsFilTextOf, IsAcceptedFilTextOf, IsRefused, HasNoTokens, NestsTooDeep, HasNoGrammar, HasLargeOffset, BreaksRule, IsTooHeavy}
 use Rattle.filc_stop.specs.declared.ended.Ended.{Ended}
 use Rattle.filc_stop.specs.declared.ended.Ended.TheVariants.{Refused, Limit}
@@ -52,13 +51,9 @@ spelled_no_fault : (text : Text) (design : Design) (at : ℕ) → SpellsDesign t
 spelled_no_fault text design at (names, (tokens, ts, lexed, spells)) fault = tokens-no_fault Fil text tokens at lexed.tokens_are fault
 
 -- brackets are one deep
-same_nesting : (text : Text) (a b : ℕ) → IsNested text a → IsNested text b → a ≡ b
+pub same_nesting : (text : Text) (a b : ℕ) → IsNested text a → IsNested text b → a ≡ b
 same_nesting text a b (tokens, are, is) (others, are', is') =
     is ∙ ap (λ (ts : List Token). nesting_of (token_texts text ts)) (tokens_unique Fil text tokens others are are') ∙ sym is'
-
--- what holds of all holds of each
-all_at : {X : Type 0} (P : X → Type 0) (xs : List X) (k : ℕ) (x : X) → All P xs → slice_get xs k ≡ Some x → P x
-all_at P xs k x all found = subst P (get_or_from_slice_get xs k x x found) (all k x (slice_get_within xs k x found))
 
 -- a design that keeps the rules is not refused by one
 kept_not_refused : (design : Design) (rule : ℕ) (name : Text) (item : ℕ) (evidence : Evidence) → FilRules design → IsRefusal design name item evidence rule → ⊥
@@ -86,11 +81,6 @@ given_fil_not_refused text design ended line gives (IsTooHeavy other number top 
 
 -- ---- the refusal of a design
 
-each_at : {X : Type 0} (P : X → Type 0) (xs : List X) (k : ℕ) (x : X) → AllByRecursion P xs → slice_get xs k ≡ Some x → P x
-each_at P [] k x all found = cc found
-each_at P (y ∷ xs) zero x all found = let same : y ≡ x = cc found in subst P same all.0
-each_at P (y ∷ xs) (suc k) x all found = each_at P xs k x all.1 found
-
 -- a name of the grammar has a number
 number_in : (names : List Text) (k : ℕ) → IsFilName (get_or names k []) → k < length names
 number_in [] k named = absurd named.0
@@ -108,7 +98,7 @@ refusal_number d _ comp item evidence written (refusal.BreaksRule n place first 
 refusal_number d _ comp item evidence written (refusal.HasLoop n port others loop named here told) = component_number d comp n loop.c written loop.at named
 
 -- the first broken rule is told
-pub design_refused : (d : FilDesign) (rule : ℕ) (comp : NameId) (item : ℕ) (evidence : Evidence) (name : Text) → IsRefusal (design_of d) (text_of d.names comp) item evidence rule → text_of d.names comp ≡ name → (text : Text) → IsFilTextOf (design_of d) text → IsRefused text Refused (rule_line (rule_name Filament rule) name item evidence)
+pub design_refused : (d : FilDesign) (rule : ℕ) (comp : NameId) (item : ℕ) (evidence : Evidence) (name : Text) → IsRefusal (design_of d) (text_of d.names comp) item evidence rule → text_of d.names comp ≡ name → (text : Text) → IsFilTextOf (design_of d) text → IsRefused text Refused (rule_line (rule_name Filament rule) name item (evidence_text evidence))
 design_refused d rule comp item evidence name refused named text of =
     BreaksRule (design_of d) rule name item evidence of (subst (λ (t : Text). IsRefusal (design_of d) t item evidence rule) named refused) refl refl
 

@@ -9,7 +9,7 @@ use Rattle.hw_names.specs.Name.{Text}
 use Rattle.hw_prims.specs.Memory.{word_count, word_width}
 use Rattle.hw_prims.specs.Table.{Pin, pin_widths}
 use Rattle.hw_prims.specs.declared.prim.Primitive.{Primitive}
-use Rattle.fil_sig.specs.declared.time_sig.SigPort.{SigPort}
+use Rattle.stim_read.specs.declared.shape.InputShape.{InputShape}
 use Rattle.net_core.specs.Netlist.{Netlist}
 use Rattle.net_core.specs.declared.stimulus.CycleList.{CycleList}
 use Rattle.net_core.specs.declared.stimulus.MemLoad.{MemLoad}
@@ -17,13 +17,12 @@ use Rattle.net_core.specs.declared.stimulus.MemShape.{MemShape}
 use Rattle.net_sim.specs.Shown.{shown_cells, IsShown}
 use Rattle.stim_read.specs.Fits.{FitsRun, LoadsMemory}
 use Rattle.filc_load.specs.Built.{FitsNet}
-use Rattle.filc_load.specs.Given.{FitsMemory}
-use Rattle.filc_load.specs.Inputs.{FitInputs}
-use Rattle.filc_load.specs.Settable.{input_port, settable_inputs, shape_with, memory_shape, settable_memories}
+use Rattle.filc_load.specs.Given.{FitsMemory, FitInputs}
+use Rattle.filc_load.specs.Settable.{input_shape, settable_inputs, shape_with, memory_shape, settable_memories}
 
-input_port_widths : (pins : List Pin) → map (λ (p : SigPort). p.width) (map input_port pins) ≡ pin_widths pins
-input_port_widths [] = refl
-input_port_widths (p ∷ pins) = ap (λ widths. p.width ∷ widths) (input_port_widths pins)
+input_shape_widths : (pins : List Pin) → map (λ (i : InputShape). i.width) (map input_shape pins) ≡ pin_widths pins
+input_shape_widths [] = refl
+input_shape_widths (p ∷ pins) = ap (λ widths. p.width ∷ widths) (input_shape_widths pins)
 
 -- the memory of a load is that of a shown cell
 module _ (n : Netlist) (load : MemLoad) (loads : LoadsMemory (settable_memories n) load) where
@@ -44,7 +43,7 @@ module _ (n : Netlist) (load : MemLoad) (loads : LoadsMemory (settable_memories 
 pub fits_net : (n : Netlist) (list : CycleList) → FitsRun (settable_inputs n) (settable_memories n) list → FitsNet n list
 fits_net n list fits = record {
   sets = record {
-    fit = subst (λ widths. FitInputs widths list.sets.items) (input_port_widths n.ins) fits.sets;
+    fit = subst (λ widths. FitInputs widths list.sets.items) (input_shape_widths n.ins) fits.sets;
     in_order = fits.in_order;
   };
   loads = λ k d within. fits_memory n (get_or list.loads.items k d) (fits.loads k d within);

@@ -20,7 +20,7 @@ use Rattle.hw_grammar.specs.declared.sort.Sort.{Sort}
 use Rattle.hw_grammar.specs.declared.sort.Sort.TheVariants as sorts
 use Rattle.hw_grammar.specs.declared.terminal.Terminal.{Terminal}
 use Rattle.hw_grammar.specs.Sort.{has_sort, has}
-use Rattle.hw_grammar.specs.Terminals.{keywords, marks, row_of, sort_of, IsTerminal, AreTerminals}
+use Rattle.hw_grammar.specs.Terminals.{keywords, marks, entry_of, sort_of, IsTerminal, AreTerminals}
 use Rattle.cal_parse.specs.Spelling.{EndsBy, IsRefusedAt, left_out, is_left_out}
 use Rattle.cal_parse.specs.declared.parse.CalTextEnd.TheVariants as ends
 use Rattle.filc_load.specs.CalFile.{LeavesOutAt, first_word, left_out_words}
@@ -35,11 +35,11 @@ abbrev tells_word : Text → Sort → Bool
 tells_word word sort = not (has_sort sort left_out) || is_known word
 
 row_tells : (table : List (Text × Sort)) (word : Text) (default : Sort) → list_all (λ (row : Text × Sort). tells_word row.0 row.1) table ≡ true → tells_word word default ≡ true
-    → tells_word word (unwrap_or (row_of table word) default) ≡ true
+    → tells_word word (unwrap_or (entry_of table word) default) ≡ true
 row_tells [] word default all by_default = by_default
 row_tells (row ∷ table) word default all by_default =
     let both = and_true (tells_word row.0 row.1) (list_all (λ (other : Text × Sort). tells_word other.0 other.1) table) all in
-    by_test (λ v. tells_word word (unwrap_or (cond v (Some row.1) (row_of table word)) default) ≡ true) (bytes_eq row.0 word)
+    by_test (λ v. tells_word word (unwrap_or (cond v (Some row.1) (entry_of table word)) default) ≡ true) (bytes_eq row.0 word)
     (λ same. subst (λ (text : Text). tells_word text row.1 ≡ true) ((bytes_eq-Decides row.0 word).0 same) both.0)
     (λ other. row_tells table word default both.1 by_default)
 

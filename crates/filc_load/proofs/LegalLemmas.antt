@@ -6,7 +6,7 @@ use Rattle.std.proofs.lemmas.Bool.{cases_lt}
 use Rattle.std.proofs.lemmas.List.{get_or-map, length-map}
 use Rattle.std.proofs.lemmas.Option.{slice_get-get_or, slice_get-map, same_Some}
 use Rattle.hw_names.specs.Name.{AreDistinct}
-use Rattle.fil_ast.specs.Holds.{Start, IsLegal}
+use Rattle.fil_ast.specs.Holds.{Start, AreLegalStarts}
 use Rattle.fil_ast.specs.Holds as held
 use Rattle.fil_ast.specs.Signature.{component_signature, sig_event}
 use Rattle.fil_ast.specs.Tree.{Event, Component}
@@ -73,7 +73,7 @@ module _ (c : Component) (named : AreDistinct (names_of c.events)) (delays : All
             subst (λ (d : Event). first.start + d.delay ≤ second.start) same_event apart,
       )
 
-  pub legal_starts : (txs : List Tx) → All (FitsComponent c) txs → AreLegal (component_signature c) (map transaction_seen txs) → IsLegal c (starts_of c txs)
+  pub legal_starts : (txs : List Tx) → All (FitsComponent c) txs → AreLegal (component_signature c) (map transaction_seen txs) → AreLegalStarts c (starts_of c txs)
   legal_starts txs fit legal =
       let pairs : AllPairs (held.Follows c) (map (start_seen c) txs) = λ i j d before within.
       let last : j < length txs = omega (arith, within, length-map txs (start_seen c)) in
@@ -83,4 +83,4 @@ module _ (c : Component) (named : AreDistinct (names_of c.events)) (delays : All
       (legal i j (transaction_seen x) before (omega (arith, last, length-map txs transaction_seen))) in
       of_mapped (held.Follows c) (start_seen c) txs i j x d first last
       (start_follows (get_or txs i x) (get_or txs j x) (fit i x first).event (fit j x last).event seen) in
-      subst (IsLegal c) (sym (starts_are c txs fit)) pairs
+      subst (AreLegalStarts c) (sym (starts_are c txs fit)) pairs

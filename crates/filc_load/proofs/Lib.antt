@@ -1,3 +1,4 @@
+pub mod ListLemmas
 pub mod TopLemmas
 pub mod FilLemmas
 pub mod CostLemmas

@@ -6,7 +6,6 @@ use Rattle.std.specs.Prelude.{Result, Ok, Err, IsSome, IfSome, IfOk, IfErr, All,
 use Rattle.std.specs.Result.{IsErrAnd}
 use Rattle.hw_names.specs.Name.{Text}
 use Rattle.cal_ast.specs.Tree as calyx
-use Rattle.fil_ast.specs.Evidence.{ALoop}
 use Rattle.fil_ast.specs.Tree.{Component, design_of}
 use Rattle.fil_ast.specs.declared.tx.TxList.{TxList}
 use Rattle.net_core.specs.Netlist.{Netlist, netlist_of}
@@ -19,7 +18,7 @@ use Rattle.stim_read.specs.TxRun.{tx_run_seen}
 use Rattle.stim_read.specs.declared.limits.TheConstants.{MOST_CYCLES}
 use Rattle.stim_read.specs.declared.stim_end.StimEnd.{StimEnd}
 use Rattle.filc_stop.specs.Language.{most_bytes}
-use Rattle.filc_stop.specs.Lines.{limit_line, rule_name, rule_line, stimulus_line, conflict_line}
+use Rattle.filc_stop.specs.Lines.{limit_line, loop_text, rule_name, rule_line, stimulus_line, conflict_line}
 use Rattle.filc_stop.specs.Outcome.{Contents}
 use Rattle.filc_stop.specs.Stops.{IsOfSource}
 use Rattle.filc_stop.specs.declared.ended.Ended.{Ended}
@@ -154,7 +153,8 @@ of_source language text (stop.Refused (refusal.NestsTooDeep l depth)) unbuilt = 
 of_source language text (stop.Refused (refusal.HasNoGrammar at)) unbuilt = tt
 of_source language text (stop.Refused (refusal.LeavesOut word at)) unbuilt = tt
 of_source language text (stop.Refused (refusal.HasLargeOffset offset)) unbuilt = tt
-of_source language text (stop.Refused (refusal.BreaksRule l rule name item evidence)) unbuilt = tt
+of_source language text (stop.Refused (refusal.BreaksRule l rule name item ports)) unbuilt = tt
+of_source language text (stop.Refused (refusal.BreaksFilamentRule rule name item evidence)) unbuilt = tt
 of_source language text (stop.Refused (refusal.IsTooHeavy weight)) unbuilt = tt
 of_source language text (stop.Refused (refusal.HasTooManyWords words)) unbuilt = tt
 of_source language text (stop.Refused (refusal.TooManyCycles cycles)) unbuilt =
@@ -261,8 +261,8 @@ loop_within n names (port ∷ ports) all least = λ k d inside.
     let within = least.0 k d inside in omega (arith, within, ap length all, length-map (ports_of n) (λ (p : PortLine). p.name))
 
 -- a netlist with a loop is refused by its least
-pub loop_refused : (n : Netlist) (names : List Text) (ports : List ℕ) (name : Text) (texts : List Text) → IsValid n → names ≡ port_names (ports_of n) → IsLeastLoopOf n ports → name ≡ n.name → AreNamesOf names ports texts → (text : Text) → IsTextOf n text → IsRefused text Refused (rule_line (rule_name Netlists 6) name 0 (ALoop texts))
+pub loop_refused : (n : Netlist) (names : List Text) (ports : List ℕ) (name : Text) (texts : List Text) → IsValid n → names ≡ port_names (ports_of n) → IsLeastLoopOf n ports → name ≡ n.name → AreNamesOf names ports texts → (text : Text) → IsTextOf n text → IsRefused text Refused (rule_line (rule_name Netlists 6) name 0 (loop_text texts))
 loop_refused n names [] name texts valid all least named are text of = absurd least
 loop_refused n names (port ∷ ports) name texts valid all least named are text of =
     HasLoop n (name_of n port) (map (name_of n) ports) of valid least.1 refl
-    (ap₂ (λ (t : Text) (ts : List Text). rule_line (rule_name Netlists 6) t 0 (ALoop ts)) named (are ∙ ap (λ (ns : List Text). map (λ (p : ℕ). get_or ns p []) (port ∷ ports)) all))
+    (ap₂ (λ (t : Text) (ts : List Text). rule_line (rule_name Netlists 6) t 0 (loop_text ts)) named (are ∙ ap (λ (ns : List Text). map (λ (p : ℕ). get_or ns p []) (port ∷ ports)) all))

@@ -3,10 +3,9 @@ use Rattle.std.proofs.Common.{◌≡◌, ◌≢◌, ℕ, ◌+◌, ◌<◌, ◌�
 use Rattle.std.specs.Prelude.{slice_get, All, AllPairs, not, ◌||◌, is_some}
 use Rattle.std.specs.List.{filter}
 use Rattle.std.specs.Option.{option_map}
-use Rattle.std.proofs.Math.ListN.{get_or-append}
 use Rattle.std.proofs.lemmas.Bool.{and_parts}
 use Rattle.std.proofs.lemmas.Bool.Decides.{nat_tests}
-use Rattle.std.proofs.lemmas.List.{get_or-map, length-map, length-append, map-append, append-nil, take_more, take_all}
+use Rattle.std.proofs.lemmas.List.{get_or-map, length-map, map-append, append-nil, take_more, take_all}
 use Rattle.std.proofs.lemmas.List.Elements.{All-map, filter_passes}
 use Rattle.std.proofs.lemmas.List.Kept.{AllPairs-filter}
 use Rattle.std.proofs.lemmas.Option.{slice_get-get_or, slice_get-map, slice_get_within, get_or_from_slice_get, same_Some}
@@ -17,7 +16,7 @@ use Rattle.hw_prims.specs.Memory.{word_width, keeps_words}
 use Rattle.hw_prims.specs.Table.{Pin, is_made, IsMade, is_memory, prim_of}
 use Rattle.hw_prims.specs.declared.prim.Primitive.{Primitive}
 use Rattle.hw_prims.specs.declared.prim.Primitive.TheVariants.{StdMemD1, StdMemD2}
-use Rattle.fil_sig.specs.declared.time_sig.SigPort.{SigPort}
+use Rattle.stim_read.specs.declared.shape.InputShape.{InputShape}
 use Rattle.net_core.proofs.ValidLemmas.{port_names_are_distinct, cell_names_are_distinct}
 use Rattle.net_core.specs.Netlist.{Netlist, CellLine}
 use Rattle.net_core.specs.Rules.{PortLine, ports_of, own_port, IsValid}
@@ -32,7 +31,8 @@ use Rattle.net_sim.proofs.ValidLemmas.{cell_keeps, cell_has_prim}
 use Rattle.net_sim.specs.Shown.{is_shown, shown_cells}
 use Rattle.stim_read.specs.CycleRules.{input_targets, memory_targets}
 use Rattle.filc_load.proofs.InputPortLemmas.{inputs_first, later_ports, input_wide, wide_parts}
-use Rattle.filc_load.specs.Settable.{no_time, input_port, settable_inputs, shape_with, memory_shape, settable_memories}
+use Rattle.filc_load.proofs.ListLemmas.{distinct_front}
+use Rattle.filc_load.specs.Settable.{input_shape, settable_inputs, shape_with, memory_shape, settable_memories}
 
 -- ---- names
 
@@ -49,19 +49,14 @@ module _ {X : Type 0} (name : X → Text) (xs : List X) where
       let x = (at_some xs i first).0 in
       apart i j x before last (sym (get_or-map name xs i x d first) ∙ same ∙ get_or-map name xs j x d last)
 
-distinct_front : (names more : List Text) → AreDistinct (names ++ more) → AreDistinct names
-distinct_front names more distinct i j d before within same =
-    distinct i j d before (omega (arith, within, length-append names more))
-    (get_or-append names more d i (omega arith) ∙ same ∙ sym (get_or-append names more d j within))
-
-input_names : (pins : List Pin) (more : List PortLine) → map (λ (p : PortLine). p.name) (map (own_port true false) pins ++ more) ≡ map (λ (p : SigPort). p.name) (map input_port pins) ++ map (λ (p : PortLine). p.name) more
+input_names : (pins : List Pin) (more : List PortLine) → map (λ (p : PortLine). p.name) (map (own_port true false) pins ++ more) ≡ map (λ (i : InputShape). i.name) (map input_shape pins) ++ map (λ (p : PortLine). p.name) more
 input_names [] more = refl
 input_names (p ∷ pins) more = ap (λ names. p.name ∷ names) (input_names pins more)
 
 -- inputs have names of their own
 pub inputs_differ : (n : Netlist) → IsValid n → AreDistinct (input_targets (settable_inputs n)).names
 inputs_differ n valid =
-    distinct_front (map (λ (p : SigPort). p.name) (settable_inputs n)) (map (λ (p : PortLine). p.name) (later_ports n))
+    distinct_front (map (λ (i : InputShape). i.name) (settable_inputs n)) (map (λ (p : PortLine). p.name) (later_ports n))
     (let D : List Text → Type 0 = AreDistinct in subst D (ap (map (λ (p : PortLine). p.name)) (inputs_first n) ∙ input_names n.ins (later_ports n)) (port_names_are_distinct n valid))
 
 shape_named : (name : Text) (made : Option Primitive) → (shape_with name made).name ≡ name
@@ -87,9 +82,9 @@ abbrev IsWide : ℕ → Type 0
 IsWide width = (1 ≤ width) × (width ≤ MAX_WIDTH)
 
 -- inputs are 1 to 128 bits wide
-pub inputs_have_widths : (n : Netlist) → IsValid n → All (λ (p : SigPort). (1 ≤ p.width) × (p.width ≤ MAX_WIDTH)) (settable_inputs n)
+pub inputs_have_widths : (n : Netlist) → IsValid n → All (λ (i : InputShape). (1 ≤ i.width) × (i.width ≤ MAX_WIDTH)) (settable_inputs n)
 inputs_have_widths n valid =
-    All-map (λ (p : SigPort). IsWide p.width) input_port n.ins
+    All-map (λ (i : InputShape). IsWide i.width) input_shape n.ins
     (λ k d within. wide_parts (get_or n.ins k d).width (input_wide n valid k (get_or n.ins k d) (slice_get-get_or n.ins k d within)))
 
 words_wide : (prim : Primitive) → IsMade prim → keeps_words prim ≡ true → IsWide (word_width prim)
@@ -149,17 +144,17 @@ module _ (n : Netlist) (table : Table) (is : IsTableOf n table) where
       ∙ ap (λ (p : Pin). Some p.width) (get_or_from_slice_get n.ins k pin pin at))
 
   -- one input more, as the table has it
-  pub inputs_more : (k : ℕ) (name : Text) (info : PortInfo) (inputs : List SigPort) → k < length n.ins → slice_get table.names k ≡ Some name → slice_get table.ports.items k ≡ Some info
-      → inputs ≡ map input_port (take k n.ins) → inputs ++ record { name = name; from = no_time; to = no_time; width = info.width } ∷ [] ≡ map input_port (take (k + 1) n.ins)
+  pub inputs_more : (k : ℕ) (name : Text) (info : PortInfo) (inputs : List InputShape) → k < length n.ins → slice_get table.names k ≡ Some name → slice_get table.ports.items k ≡ Some info
+      → inputs ≡ map input_shape (take k n.ins) → inputs ++ record { name = name; width = info.width } ∷ [] ≡ map input_shape (take (k + 1) n.ins)
   inputs_more k name info inputs within named there are =
       let pin = at_some n.ins k within in
       let named_so : name ≡ pin.0.name = same_Some name pin.0.name (sym named ∙ input_named k pin.0 pin.1) in
       let wide_so : info.width ≡ pin.0.width = input_width k pin.0 info pin.1 there in
       let this : get_or n.ins k pin.0 ≡ pin.0 = get_or_from_slice_get n.ins k pin.0 pin.0 pin.1 in
-      ap₂ (λ (before : List SigPort) (last : SigPort). before ++ last ∷ []) are (λ i. record { name = named_so i; from = no_time; to = no_time; width = wide_so i })
-      ∙ ap (λ (p : Pin). map input_port (take k n.ins) ++ input_port p ∷ []) (sym this)
-      ∙ sym (map-append input_port (take k n.ins) (get_or n.ins k pin.0 ∷ []))
-      ∙ ap (map input_port) (sym (take_more n.ins k pin.0 within))
+      ap₂ (λ (before : List InputShape) (last : InputShape). before ++ last ∷ []) are (λ i. record { name = named_so i; width = wide_so i })
+      ∙ ap (λ (p : Pin). map input_shape (take k n.ins) ++ input_shape p ∷ []) (sym this)
+      ∙ sym (map-append input_shape (take k n.ins) (get_or n.ins k pin.0 ∷ []))
+      ∙ ap (map input_shape) (sym (take_more n.ins k pin.0 within))
 
 module _ (cells : List CellLine) (i : ℕ) (line : CellLine) (at : slice_get cells i ≡ Some line) (memories : List MemShape) (are : memories ≡ map memory_shape (filter is_shown (take i cells))) where
   next_if : (b : Bool) → is_shown line ≡ b → map memory_shape (filter is_shown (take (i + 1) cells)) ≡ memories ++ map memory_shape (cond b (line ∷ []) [])

@@ -2,7 +2,7 @@
 use Rattle.std.proofs.Common.{◌≡◌, ℕ, ◌≤◌, List, Option, Some, None, length, refl, sym, ap, ◌∙◌, arith}
 use Rattle.std.proofs.lemmas.Option.{same_Some}
 use Rattle.hw_names.specs.Name.{Text}
-use Rattle.fil_sig.specs.declared.time_sig.SigPort.{SigPort}
+use Rattle.stim_read.specs.declared.shape.InputShape.{InputShape}
 use Rattle.net_core.specs.declared.stimulus.MemShape.{MemShape}
 use Rattle.stim_read.specs.CycleText.{Cycles, cycles_in}
 use Rattle.stim_read.specs.CycleRules.{cycles_fault}
@@ -27,7 +27,7 @@ one_list : (bytes : List ℕ) (t t' : Transactions) → SayTransactions bytes t 
 one_list bytes t t' said said' = same_Some t t' (said_once transactions_in said.value said'.value (Some t) (Some t') said.json.reads said'.json.reads said.says said'.says)
 
 -- a text gives one run
-pub one_stimulus_run : (bytes : List ℕ) (ins : List SigPort) (mems : List MemShape) (run run' : Run) → GiveRun bytes ins mems run → GiveRun bytes ins mems run' → run ≡ run'
+pub one_stimulus_run : (bytes : List ℕ) (ins : List InputShape) (mems : List MemShape) (run run' : Run) → GiveRun bytes ins mems run → GiveRun bytes ins mems run' → run ≡ run'
 one_stimulus_run bytes ins mems run run' gives gives' =
     gives.gives ∙ ap (run_of ins mems) (one_text bytes gives.stimulus gives'.stimulus gives.said gives'.said) ∙ sym gives'.gives
 
@@ -54,7 +54,7 @@ told_end (stim.Refused rule entry first second delay) fault none told = let e : 
 told_end (stim.Limit count limit cycles) fault none told = let e : None ≡ Some (stim.Limit count limit cycles) = sym none ∙ told in cc e
 told_end stim.Memory fault none told = refl
 
-pub given_end : (bytes : List ℕ) (ins : List SigPort) (mems : List MemShape) (run : Run) (end : StimEnd) → GiveRun bytes ins mems run → IsCause bytes ins mems end → end ≡ stim.Memory
+pub given_end : (bytes : List ℕ) (ins : List InputShape) (mems : List MemShape) (run : Run) (end : StimEnd) → GiveRun bytes ins mems run → IsCause bytes ins mems end → end ≡ stim.Memory
 given_end bytes ins mems run _ gives (NoStimulus end unsaid) = said_end bytes gives.stimulus end gives.said unsaid
 given_end bytes ins mems run _ gives (ByRule c end said told) =
     told_end end (cycles_fault ins mems c) (ap (cycles_fault ins mems) (one_text bytes c gives.stimulus said gives.said) ∙ gives.kept) told

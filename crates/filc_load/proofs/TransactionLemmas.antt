@@ -1,9 +1,9 @@
 -- The top component of a design that keeps the rules may be given transactions, and what a stimulus gives fits it.
-use Rattle.std.proofs.Common.{◌≡◌, ℕ, zero, suc, ◌<◌, ◌≤◌, ◌==◌, Bool, true, false, cond, if◌then◌else◌, List, [], ◌∷◌, ◌++◌, length, map, filter, take, get_or, slice_get, All, Some, refl, sym, ap, subst, ◌∙◌, arith, length-append}
+use Rattle.std.proofs.Common.{◌≡◌, ℕ, zero, suc, ◌<◌, ◌≤◌, ◌==◌, Bool, true, false, cond, if◌then◌else◌, List, [], ◌∷◌, ◌++◌, length, map, filter, take, get_or, slice_get, All, Some, refl, sym, ap, subst, ◌∙◌, arith}
 use Rattle.std.specs.Bool.{Decides}
 use Rattle.std.specs.Prelude.{bytes_eq, option_map}
 use Rattle.std.proofs.lemmas.Bool.Decides.{Decides-eqb, same_from_decides}
-use Rattle.std.proofs.lemmas.List.{get_or_append_left, length-map}
+use Rattle.std.proofs.lemmas.List.{length-map}
 use Rattle.std.proofs.lemmas.Option.{same_Some, slice_get-map, slice_get-get_or}
 use Rattle.std.proofs.lemmas.Slice.Eq.{bytes_eq-Decides}
 use Rattle.hw_names.specs.Name.{Text, AreDistinct}
@@ -21,6 +21,8 @@ use Rattle.fil_ast.specs.declared.tx.Tx.{Tx}
 use Rattle.fil_sig.proofs.ListLemmas.{All-mapped}
 use Rattle.stim_read.specs.Fits.{FitsSignature}
 use Rattle.stim_read.specs.TxEvents.{event_names, port_targets, ports_after, HasFixedDelay}
+use Rattle.fil_share.proofs.Lookup.{later_distinct}
+use Rattle.filc_load.proofs.ListLemmas.{distinct_front, distinct_back}
 use Rattle.filc_load.specs.Built.{FitsComponent, IsFilReady}
 use Rattle.filc_load.specs.StimulusFile.{event_name}
 use Rattle.filc_load.specs.declared.fil_file.FilBuilt.{FilBuilt}
@@ -65,21 +67,6 @@ module _ (design : Design) (rules : FilRules design) (n : ℕ) (c : Component) (
   pub has_shape : HasShape c
   has_shape = rules.keeps n c at 0 TheSignature refl 4 F1 (omega arith)
 
--- ---- names that differ
-
-distinct_front : (xs ys : List Text) → AreDistinct (xs ++ ys) → AreDistinct xs
-distinct_front xs ys distinct i j d before within same =
-    let early : i < length xs = omega arith in
-    let all : j < length (xs ++ ys) = omega (arith, length-append xs ys) in
-    distinct i j d before all (get_or_append_left xs ys d i early ∙ same ∙ sym (get_or_append_left xs ys d j within))
-
-distinct_tail : (x : Text) (xs : List Text) → AreDistinct (x ∷ xs) → AreDistinct xs
-distinct_tail x xs distinct i j d before within = distinct (suc i) (suc j) d (omega arith) (omega arith)
-
-distinct_back : (xs ys : List Text) → AreDistinct (xs ++ ys) → AreDistinct ys
-distinct_back [] ys distinct = distinct
-distinct_back (x ∷ xs) ys distinct = distinct_back xs ys (distinct_tail x (xs ++ ys) distinct)
-
 -- ---- events by their numbers
 
 abbrev pub names_of : List Event → List Text
@@ -104,7 +91,7 @@ names_number : (events : List Event) → AreDistinct (names_of events) → (k : 
 names_number [] distinct k name within is = absurd (omega (arith, within))
 names_number (e ∷ events) distinct zero name within is = ap (λ b. if b then 0 else suc (event_number events name)) ((bytes_eq-Decides e.name name).1 (sym is))
 names_number (e ∷ events) distinct (suc k) name within is =
-    by (bytes_eq e.name name) refl (names_number events (distinct_tail e.name (names_of events) distinct) k name (omega (arith, within)) is)
+    by (bytes_eq e.name name) refl (names_number events (later_distinct e.name (names_of events) distinct) k name (omega (arith, within)) is)
   where
     by : (b : Bool) → bytes_eq e.name name ≡ b → event_number events name ≡ k → (if b then 0 else suc (event_number events name)) ≡ suc k
     by true same later =

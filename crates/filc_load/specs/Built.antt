@@ -29,8 +29,7 @@ use Rattle.hw_prims.specs.Table.{pin_widths}
 use Rattle.stim_read.specs.CycleRun.{run_seen}
 use Rattle.stim_read.specs.TxRun.{tx_run_seen}
 use Rattle.stim_read.specs.declared.stim_end.StimEnd.{StimEnd}
-use Rattle.filc_load.specs.Given.{FitsMemory}
-use Rattle.filc_load.specs.Inputs.{AreSetsFor}
+use Rattle.filc_load.specs.Given.{FitsMemory, AreSetsFor}
 use Rattle.filc_load.specs.CalFile.{GivesCal, IsCalTextOf, IsAcceptedCalTextOf}
 use Rattle.filc_load.specs.FilFile.{GivesFil, IsFilTextOf, IsAcceptedFilTextOf}
 use Rattle.filc_load.specs.NetFile.{GivesNet, IsTextOf, IsAcceptedTextOf}

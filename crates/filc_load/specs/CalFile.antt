@@ -4,13 +4,12 @@ use Rattle.std.specs.Prelude.{List, [], ◌∷◌, ◌++◌, length, take, drop,
 use Rattle.hw_lex.specs.Cut.{FaultsAt}
 use Rattle.hw_lex.specs.declared.token.Dialect.TheVariants.{Cal}
 use Rattle.hw_names.specs.Name.{Text}
-use Rattle.fil_ast.specs.Evidence.{Evidence, Nothing, ALoop}
 use Rattle.cal_ast.specs.Rules.{CalRules, IsRefusal}
 use Rattle.cal_ast.specs.Tree.{Design}
 use Rattle.cal_check.specs.Weight.{IsWeight, AreWords}
 use Rattle.cal_parse.specs.Spelling.{SpellsDesign, IsNested, KeepsNesting, IsRefusedAt, is_left_out}
 use Rattle.cal_parse.specs.declared.parse.TheConstants.{MOST_NESTING}
-use Rattle.filc_stop.specs.Lines.{limit_line, token_line, grammar_line, left_out_line, rule_name, rule_line}
+use Rattle.filc_stop.specs.Lines.{limit_line, token_line, grammar_line, left_out_line, loop_text, rule_name, rule_line}
 use Rattle.filc_stop.specs.declared.ended.Ended.{Ended}
 use Rattle.filc_stop.specs.declared.ended.Ended.TheVariants.{Refused, Limit}
 use Rattle.filc_stop.specs.declared.language.Language.TheVariants.{Calyx}
@@ -63,11 +62,6 @@ abbrev pub first_word : List Text → Text → Option Text
 first_word [] text = None
 first_word (word ∷ words) text = if bytes_eq word (take (length word) text) then Some word else first_word words text
 
--- what a broken rule shows: C12 the ports of a loop, the others nothing
-abbrev pub shown_ports : List Text → Evidence
-shown_ports [] = Nothing
-shown_ports (port ∷ ports) = ALoop (port ∷ ports)
-
 -- the causes, in their order; each asks that those before it are not met
 pub record HasNoTokens (text : Text) (ended : Ended) (line : Text) : Type 0 where
   pub at : ℕ
@@ -100,6 +94,7 @@ pub record LeavesOut (text : Text) (ended : Ended) (line : Text) : Type 0 where
   pub is : ended ≡ Refused
   pub tells : line ≡ left_out_line word at
 
+-- C12 shows the ports of a loop, the other rules none
 pub record BreaksRule (text : Text) (ended : Ended) (line : Text) : Type 0 where
   pub design : Design
   pub rule : ℕ
@@ -109,7 +104,7 @@ pub record BreaksRule (text : Text) (ended : Ended) (line : Text) : Type 0 where
   pub text_of : IsCalTextOf design text
   pub first : IsRefusal design name item ports rule
   pub is : ended ≡ Refused
-  pub tells : line ≡ rule_line (rule_name Calyx rule) name item (shown_ports ports)
+  pub tells : line ≡ rule_line (rule_name Calyx rule) name item (loop_text ports)
 
 pub record IsTooHeavy (text : Text) (ended : Ended) (line : Text) : Type 0 where
   pub design : Design

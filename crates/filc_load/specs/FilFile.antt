@@ -12,7 +12,7 @@ use Rattle.fil_ast.specs.Weight.{told_weight}
 use Rattle.fil_ast.specs.declared.tree.TheConstants.{MOST_OFFSET}
 use Rattle.fil_parse.specs.Spelling.{SpellsDesign, IsNested, KeepsNesting, IsRefusedAt, first_large}
 use Rattle.fil_parse.specs.declared.parse.TheConstants.{MOST_NESTING}
-use Rattle.filc_stop.specs.Lines.{limit_line, token_line, grammar_line, rule_name, rule_line}
+use Rattle.filc_stop.specs.Lines.{limit_line, token_line, grammar_line, evidence_text, rule_name, rule_line}
 use Rattle.filc_stop.specs.declared.ended.Ended.{Ended}
 use Rattle.filc_stop.specs.declared.ended.Ended.TheVariants.{Refused, Limit}
 use Rattle.filc_stop.specs.declared.language.Language.TheVariants.{Filament}
@@ -55,7 +55,8 @@ pub data IsRefused (text : Text) (ended : Ended) (line : Text) : Type 0 where
   HasLargeOffset : (design : Design) (offset : ℕ) → KeepsNesting text → SpellsDesign text design → first_large design ≡ Some offset → ended ≡ Limit →
       line ≡ limit_line (codes "offset") offset MOST_OFFSET → IsRefused text ended line
   BreaksRule : (design : Design) (rule : ℕ) (name : Text) (item : ℕ) (evidence : Evidence) → IsFilTextOf design text →
-      IsRefusal design name item evidence rule → ended ≡ Refused → line ≡ rule_line (rule_name Filament rule) name item evidence → IsRefused text ended line
+      IsRefusal design name item evidence rule → ended ≡ Refused → line ≡ rule_line (rule_name Filament rule) name item (evidence_text evidence) →
+      IsRefused text ended line
   IsTooHeavy : (design : Design) (number : ℕ) (top : Component) → IsAcceptedFilTextOf design text → HasTop design number top →
       MOST_WEIGHT < told_weight design top → ended ≡ Limit → line ≡ limit_line (codes "weight") (told_weight design top) MOST_WEIGHT →
       IsRefused text ended line

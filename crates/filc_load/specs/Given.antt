@@ -1,18 +1,20 @@
 -- What a stimulus gives to the run of a netlist: the values of its inputs, row by row, and the words that are loaded into
 -- its shown memories. This project's.
-use Rattle.std.specs.Prelude.{◌≡◌, ◌<◌, ◌≤◌, All, ℕ, Bool, nat_le, List, [], ◌∷◌, ◌++◌, length, map, filter, drop, replicate, slice_set, slice_index_or}
-use Rattle.std.specs.Prelude.{bytes_eq, if◌then◌else◌}
+use Rattle.std.specs.Prelude.{◌≡◌, ◌<◌, ◌≤◌, All, ℕ, Bool, nat_le, List, [], ◌∷◌, ◌++◌, length, map, filter, drop, replicate, slice_get, slice_set}
+use Rattle.std.specs.Prelude.{slice_index_or, bytes_eq, if◌then◌else◌, Some}
+use Rattle.std.specs.List.Sorted.{IsNonDecreasingBy}
 use Rattle.hw_bits.specs.Values.{widths_of}
 use Rattle.hw_names.specs.Name.{Text}
 use Rattle.hw_prims.specs.Memory.{word_count, word_width}
 use Rattle.hw_prims.specs.declared.prim.Primitive.{Primitive}
+use Rattle.net_core.specs.declared.stimulus.InputSet.{InputSet}
 use Rattle.net_core.specs.declared.stimulus.MemLoad.{MemLoad}
 use Rattle.hw_prims.specs.Row.{Trace}
 use Rattle.hw_prims.specs.Table.{pin_names}
 use Rattle.net_core.specs.Netlist.{Netlist, CellLine}
 use Rattle.net_sim.specs.Shown.{shown_cells, IsShown}
 use Rattle.net_sim.specs.Slots.{row_of}
-use Rattle.stim_read.specs.CycleRun.{Setting, Load}
+use Rattle.stim_read.specs.CycleRun.{Setting, Load, setting_seen}
 
 -- the values of the inputs after these settings, in order
 abbrev pub with_settings : List Setting → List ℕ → List ℕ
@@ -27,6 +29,22 @@ is_made_by row s = nat_le s.from row
 abbrev pub given_inputs : Netlist → List Setting → Trace
 given_inputs n settings row =
     row_of (pin_names n.ins) (with_settings (filter (is_made_by row) settings) (replicate (length n.ins) 0))
+
+-- the same of settings as the program holds them
+abbrev pub with_sets : List InputSet → List ℕ → List ℕ
+with_sets sets values = with_settings (map setting_seen sets) values
+
+abbrev pub driven : Netlist → List InputSet → Trace
+driven n sets = given_inputs n (map setting_seen sets)
+
+-- each sets an input of these widths, to a value of its width
+abbrev pub FitInputs : List ℕ → List InputSet → Type 0
+FitInputs widths sets = All (λ (s : InputSet). slice_get widths s.input ≡ Some s.value.width) sets
+
+-- they fit the inputs, and stand in the order of their rows
+pub record AreSetsFor (widths : List ℕ) (sets : List InputSet) : Type 0 where
+  pub fit : FitInputs widths sets
+  pub in_order : IsNonDecreasingBy (λ (s : InputSet). s.from) sets
 
 -- the name of a shown memory; these are counted in the order of the cells
 abbrev pub memory_name : Netlist → ℕ → Text

@@ -14,7 +14,6 @@ pub mod CalFile
 pub mod Source
 pub mod Settable
 pub mod Given
-pub mod Inputs
 pub mod StimulusFile
 pub mod Slots
 pub mod Built

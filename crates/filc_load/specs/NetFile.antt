@@ -1,15 +1,14 @@
 -- What the text of a netlist file gives: a netlist to run, or the first cause that stands against it. This project's.
-use Rattle.std.specs.Prelude.{◌≡◌, ℕ, ◌<◌, ◌≤◌, List, ◌∷◌, codes}
+use Rattle.std.specs.Prelude.{◌≡◌, ℕ, ◌<◌, ◌≤◌, List, [], ◌∷◌, codes}
 use Rattle.hw_lex.specs.Nesting.{byte_tokens, nesting_of}
 use Rattle.hw_names.specs.Name.{Text}
-use Rattle.fil_ast.specs.Evidence.{Nothing, ALoop}
 use Rattle.net_core.specs.Graph.{HasNoLoop, IsLeastLoop}
 use Rattle.net_core.specs.Netlist.{Netlist}
 use Rattle.net_core.specs.Rules.{IsValid, FirstBroken}
 use Rattle.net_core.specs.Weight.{weight_of, saturated}
-use Rattle.net_core.specs.Words.{words_of}
+use Rattle.net_core.specs.Words.{word_total}
 use Rattle.net_text.specs.Reading.{Spells, IsRefusedAt}
-use Rattle.filc_stop.specs.Lines.{limit_line, grammar_line, rule_name, rule_line}
+use Rattle.filc_stop.specs.Lines.{limit_line, grammar_line, loop_text, rule_name, rule_line}
 use Rattle.filc_stop.specs.declared.ended.Ended.{Ended}
 use Rattle.filc_stop.specs.declared.ended.Ended.TheVariants.{Refused, Limit}
 use Rattle.filc_stop.specs.declared.language.Language.TheVariants.{Netlists}
@@ -34,7 +33,7 @@ pub record IsAcceptedTextOf (n : Netlist) (text : Text) : Type 0 where
 pub record GivesNet (text : Text) (n : Netlist) : Type 0 where
   pub accepted : IsAcceptedTextOf n text
   pub light : weight_of n ≤ MOST_WEIGHT
-  pub few_words : words_of n ≤ MOST_WORDS
+  pub few_words : word_total n ≤ MOST_WORDS
 
 -- why a text gives no netlist to run: the first of these causes, with its answer and its line
 pub data IsRefused (text : Text) (ended : Ended) (line : Text) : Type 0 where
@@ -43,10 +42,10 @@ pub data IsRefused (text : Text) (ended : Ended) (line : Text) : Type 0 where
   HasNoGrammar : (place : ℕ) → net_nesting text ≤ MOST_NET_NESTING → IsRefusedAt text place → ended ≡ Refused → line ≡ grammar_line place →
       IsRefused text ended line
   BreaksRule : (n : Netlist) (rule item : ℕ) → IsTextOf n text → FirstBroken n rule item → ended ≡ Refused →
-      line ≡ rule_line (rule_name Netlists rule) n.name item Nothing → IsRefused text ended line
+      line ≡ rule_line (rule_name Netlists rule) n.name item [] → IsRefused text ended line
   HasLoop : (n : Netlist) (first : Text) (others : List Text) → IsTextOf n text → IsValid n → IsLeastLoop n first others → ended ≡ Refused →
-      line ≡ rule_line (rule_name Netlists 6) n.name 0 (ALoop (first ∷ others)) → IsRefused text ended line
+      line ≡ rule_line (rule_name Netlists 6) n.name 0 (loop_text (first ∷ others)) → IsRefused text ended line
   IsTooHeavy : (n : Netlist) → IsAcceptedTextOf n text → MOST_WEIGHT < weight_of n → ended ≡ Limit →
       line ≡ limit_line (codes "weight") (saturated (weight_of n)) MOST_WEIGHT → IsRefused text ended line
-  HasTooManyWords : (n : Netlist) → IsAcceptedTextOf n text → weight_of n ≤ MOST_WEIGHT → MOST_WORDS < words_of n → ended ≡ Limit →
-      line ≡ limit_line (codes "words") (saturated (words_of n)) MOST_WORDS → IsRefused text ended line
+  HasTooManyWords : (n : Netlist) → IsAcceptedTextOf n text → weight_of n ≤ MOST_WEIGHT → MOST_WORDS < word_total n → ended ≡ Limit →
+      line ≡ limit_line (codes "words") (saturated (word_total n)) MOST_WORDS → IsRefused text ended line

@@ -1,7 +1,6 @@
 -- What a stimulus may set in a netlist: its inputs, and the words of its shown memories. This project's.
 use Rattle.std.specs.Prelude.{List, map, Option, Some, None}
-use Rattle.fil_sig.specs.declared.time_sig.Off.{Off}
-use Rattle.fil_sig.specs.declared.time_sig.SigPort.{SigPort}
+use Rattle.stim_read.specs.declared.shape.InputShape.{InputShape}
 use Rattle.hw_names.specs.Name.{Text}
 use Rattle.hw_prims.specs.Memory.{word_count, word_width}
 use Rattle.hw_prims.specs.Table.{Pin, prim_of}
@@ -10,16 +9,13 @@ use Rattle.net_core.specs.Netlist.{Netlist, CellLine}
 use Rattle.net_core.specs.declared.stimulus.MemShape.{MemShape}
 use Rattle.net_sim.specs.Shown.{shown_cells}
 
--- a netlist has no events
-abbrev pub no_time : Off
-no_time = record { event = 0; plus = 0 }
-
-abbrev pub input_port : Pin → SigPort
-input_port pin = record { name = pin.name; from = no_time; to = no_time; width = pin.width }
+-- an input, as a stimulus may set it
+abbrev pub input_shape : Pin → InputShape
+input_shape pin = record { name = pin.name; width = pin.width }
 
 -- the inputs of a netlist, in order
-abbrev pub settable_inputs : Netlist → List SigPort
-settable_inputs n = map input_port n.ins
+abbrev pub settable_inputs : Netlist → List InputShape
+settable_inputs n = map input_shape n.ins
 
 -- the shape of a cell's memory; what isn't made of a primitive has no words
 abbrev pub shape_with : Text → Option Primitive → MemShape

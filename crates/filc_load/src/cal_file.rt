@@ -5,20 +5,18 @@ ghost use Rattle.cal_ast.specs.Numbers.{HasNumbers};
 ghost use Rattle.cal_ast.specs.Rules.{CalRules};
 ghost use Rattle.cal_ast.specs.Tree.{design_of};
 ghost use Rattle.cal_check.specs.Told.{TellsRefusal};
-ghost use Rattle.fil_check.specs.Least.{evidence_of};
 ghost use Rattle.cal_parse.specs.Spelling.{EndsBy};
 ghost use Rattle.cal_parse.specs.declared.parse.CalTextEnd.{CalTextEnd};
 ghost use Rattle.cal_parse.specs.Written.{DesignIsWritten};
 ghost use Rattle.filc_stop.specs.Stops.{IsOfSource};
 ghost use Rattle.filc_load.specs.Built.{KnowsFile, IsCalDesignOf, IsCalBuiltFrom, IsCalReady, IsOverweightCal, IsUnbuilt, IsUnfitCal, IsUnread};
-ghost use Rattle.filc_load.specs.CalFile.{HasFewWords, IsLight, LeavesOutAt, first_word, shown_ports};
+ghost use Rattle.filc_load.specs.CalFile.{HasFewWords, IsLight, LeavesOutAt, first_word};
 ghost use Rattle.filc_load.specs.Source.{FileGivesCal};
 
 use crate::source::read_source;
 use cal_ast::{CalDesign, CalOk};
 use cal_check::{CalEnd, cal_weight, cal_words, check_calyx};
 use cal_parse::{CalTextEnd, parse_calyx};
-use fil_check::Evidence;
 use filc_stop::{Language, MOST_WEIGHT, MOST_WORDS, Refusal, Stop};
 use hw_bits::Memory;
 use hw_io::Files;
@@ -142,17 +140,6 @@ fn judge(alloc: Global, design: &CalDesign) -> Result<(), Stop>
     }
 }
 
-/// What a broken rule shows: the ports of a loop, if there are any.
-fn evidence_with(ports: Vec<Word>) -> Evidence
-    ensures { evidence_of result ≡ shown_ports ports.items }
-{
-    if ports.is_empty() {
-        Evidence::Nothing
-    } else {
-        Evidence::Loop(ports)
-    }
-}
-
 /// Why a design of which judging ends so isn't accepted.
 fn unfit(alloc: Global, design: &CalDesign, end: CalEnd) -> Stop
     requires written { DesignIsWritten (design_of design.now) }
@@ -171,7 +158,7 @@ fn unfit(alloc: Global, design: &CalDesign, end: CalEnd) -> Stop
                 rule,
                 name,
                 item,
-                evidence: evidence_with(ports),
+                ports,
             }),
             Err(Memory) => Stop::Memory,
         },

@@ -135,8 +135,7 @@ fn broken(
     ensures { IsUnfitDesign design.now result }
 {
     match Word::make(alloc, design.names.text(comp)) {
-        Ok(name) => Stop::Refused(Refusal::BreaksRule {
-            language: Language::Filament,
+        Ok(name) => Stop::Refused(Refusal::BreaksFilamentRule {
             rule,
             name,
             item,

@@ -7,7 +7,7 @@ ghost use Rattle.net_core.specs.Numbers.{HasNumbers};
 ghost use Rattle.net_core.specs.Rules.{IsValid, FirstBroken};
 ghost use Rattle.net_core.specs.Table.{IsTableOf};
 ghost use Rattle.net_core.specs.Weight.{weight_of};
-ghost use Rattle.net_core.specs.Words.{words_of};
+ghost use Rattle.net_core.specs.Words.{word_total};
 ghost use Rattle.net_sim.specs.Order.{IsLeastLoopOf};
 ghost use Rattle.net_sim.specs.PortOrder.{IsPortOrderOf};
 ghost use Rattle.filc_stop.specs.Stops.{IsOfSource};
@@ -17,7 +17,6 @@ ghost use Rattle.filc_stop.specs.declared.limits.TheConstants.{MOST_NET_BYTES, M
 
 use crate::ports::name_of;
 use crate::source::read_source;
-use fil_check::Evidence;
 use filc_stop::{
     Language, MOST_NET_BYTES, MOST_NET_NESTING, MOST_WEIGHT, MOST_WORDS, Refusal, Stop,
 };
@@ -114,7 +113,7 @@ fn broken(alloc: Global, net: &Net, rule: u8, item: u64) -> Stop
             rule,
             name,
             item,
-            evidence: Evidence::Nothing,
+            ports: Vec::new(alloc),
         }),
         Err(Memory) => Stop::Memory,
     }
@@ -150,7 +149,7 @@ fn looped(alloc: Global, net: &Net, table: &Table, ports: &[usize]) -> Stop
             rule: 6,
             name,
             item: 0,
-            evidence: Evidence::Loop(ports),
+            ports,
         }),
         Err(Memory) => Stop::Memory,
     }
@@ -181,7 +180,7 @@ fn loop_names(
 fn weigh(net: &Net) -> Result<(), Stop>
     requires { HasNumbers net.now }
     ensures light { IfOk result (λ _. weight_of (netlist_of net.now) ≤ MOST_WEIGHT) }
-    ensures few_words { IfOk result (λ _. words_of (netlist_of net.now) ≤ MOST_WORDS) }
+    ensures few_words { IfOk result (λ _. word_total (netlist_of net.now) ≤ MOST_WORDS) }
     ensures refused { IfErr result (IsOverweight (netlist_of net.now)) }
 {
     let weight = net_weight(net);

@@ -7,25 +7,22 @@ ghost use Rattle.filc_load.specs.Settable.{memory_shape, settable_inputs, settab
 
 use crate::net_file::Built;
 use crate::ports::name_of;
-use fil_sig::{Off, SigPort};
 use hw_bits::Memory;
 use hw_names::{Names, Word};
 use hw_prims::Primitive;
 use net_core::{MemShape, Net, NetCell};
 use std::alloc::Global;
+use stim_read::InputShape;
 
-/// The inputs of a netlist, in order. Their intervals tell nothing, as it has no events.
-pub(crate) fn settable_inputs(alloc: Global, built: &Built) -> Result<Vec<SigPort>, Memory>
+/// The inputs of a netlist, in order.
+pub(crate) fn settable_inputs(alloc: Global, built: &Built) -> Result<Vec<InputShape>, Memory>
     requires { IsReady built.now }
     ensures { IfOk result (λ inputs. inputs.items ≡ settable_inputs (netlist_of built.now.net)) }
 {
-    let no_time = Off { event: 0, plus: 0 };
     let mut inputs = Vec::new(alloc);
     for port in 0..built.net.ins.len() {
-        inputs.push(SigPort {
+        inputs.push(InputShape {
             name: Word::make(alloc, name_of(&built.table, port))?,
-            from: no_time,
-            to: no_time,
             width: built.table.ports[port].width,
         })?;
     }

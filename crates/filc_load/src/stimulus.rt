@@ -1,6 +1,6 @@
 //! The stimulus of a file, for a netlist or for the top component of a Filament design.
 ghost use Rattle.std.specs.Prelude.{◌≡◌, ◌≤◌, IfOk, IfErr, IfSome, IsErrOf, IsSome, List, ℕ, All, Some, length, slice_get};
-ghost use Rattle.fil_ast.specs.Holds.{IsLegal};
+ghost use Rattle.fil_ast.specs.Holds.{AreLegalStarts};
 ghost use Rattle.fil_ast.specs.Tree.{Component, design_of};
 ghost use Rattle.fil_share.specs.Uses.{starts_of};
 ghost use Rattle.hw_io.specs.Reading.{KeepsFiles, IsReadFault};
@@ -57,7 +57,7 @@ pub fn load_transactions<F: Files>(
     ensures given { (c : Component) → slice_get (design_of built.now.design) built.now.top ≡ Some c → IsSome (F.content files.old file.now)
         → IfOk result (AreGivenBy (F.content files.old) file.now c) }
     ensures fits { (c : Component) → slice_get (design_of built.now.design) built.now.top ≡ Some c → IfOk result (λ list. All (FitsComponent c) list.txs.items) }
-    ensures legal { (c : Component) → slice_get (design_of built.now.design) built.now.top ≡ Some c → IfOk result (λ list. IsLegal c (starts_of c list.txs.items)) }
+    ensures legal { (c : Component) → slice_get (design_of built.now.design) built.now.top ≡ Some c → IfOk result (λ list. AreLegalStarts c (starts_of c list.txs.items)) }
     ensures refused { (c : Component) → slice_get (design_of built.now.design) built.now.top ≡ Some c → IsSome (F.content files.old file.now)
         → IfErr result (IsNotGiven (F.content files.old) file.now (λ text. transaction_causes text c)) }
     ensures read_fault { IsErrOf result Stop.StimulusReadFault
@@ -111,7 +111,7 @@ fn judge_transactions(alloc: Global, text: &[u8], built: &FilBuilt) -> Result<Tx
     requires within { length text.now ≤ MOST_STIMULUS_BYTES }
     ensures given { (c : Component) → slice_get (design_of built.now.design) built.now.top ≡ Some c → IfOk result (λ list. GivesTransactions text.now c (tx_run_seen list)) }
     ensures fits { (c : Component) → slice_get (design_of built.now.design) built.now.top ≡ Some c → IfOk result (λ list. All (FitsComponent c) list.txs.items) }
-    ensures legal { (c : Component) → slice_get (design_of built.now.design) built.now.top ≡ Some c → IfOk result (λ list. IsLegal c (starts_of c list.txs.items)) }
+    ensures legal { (c : Component) → slice_get (design_of built.now.design) built.now.top ≡ Some c → IfOk result (λ list. AreLegalStarts c (starts_of c list.txs.items)) }
     ensures refused { (c : Component) → slice_get (design_of built.now.design) built.now.top ≡ Some c
         → IfErr result (GivesNothing (transaction_causes text.now c) text.now) }
     ensures stops { IfErr result IsOfStimulus }

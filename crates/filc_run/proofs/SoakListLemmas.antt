@@ -2,7 +2,7 @@
 use Rattle.std.proofs.lemmas.List.{map-append, append_assoc}
 use Rattle.std.proofs.Common.{◌≡◌, ℕ, zero, suc, ◌+◌, ◌-◌, ◌*◌, ◌/◌, ◌<◌, ◌≤◌, ◌^◌, List, [], ◌∷◌, ◌++◌, length, map, get_or, codes, refl, sym, ap, ap₂, subst, ◌∙◌, arith}
 use Rattle.std.specs.Prelude.{AllPairs, slice_get, option_map}
-use Rattle.fil_ast.specs.Holds.{Follows, IsLegal, Start, start_of}
+use Rattle.fil_ast.specs.Holds.{Follows, AreLegalStarts, Start, start_of}
 use Rattle.fil_ast.specs.Tree.{Event}
 use Rattle.fil_ast.specs.declared.tx.Tx.{Tx}
 use Rattle.fil_share.specs.Uses.{listed_start, starts_of}
@@ -81,8 +81,8 @@ legal_so (tx ∷ txs) from last are =
     subst (Follows soak (start_in tx.start)) (sym later.1) (follows tx.start later.0 (omega (arith, later.2))))
     (legal_so txs (tx.start + 1) last are.4)
 
-pub soaked_legal : (txs : List Tx) (from last : ℕ) → AreSoaked from last (map transaction_seen txs) → IsLegal soak (starts_of soak txs)
-soaked_legal txs from last are = subst (IsLegal soak) (sym (starts_here txs from last are)) (legal_so txs from last are)
+pub soaked_legal : (txs : List Tx) (from last : ℕ) → AreSoaked from last (map transaction_seen txs) → AreLegalStarts soak (starts_of soak txs)
+soaked_legal txs from last are = subst (AreLegalStarts soak) (sym (starts_here txs from last are)) (legal_so txs from last are)
 
 -- one more is made
 pub one_made : (txs : List Tx) (tx : Tx) (count made number start : ℕ) (all : List Transaction) → made < count → transaction_seen tx ≡ soak_transaction number start

@@ -5,7 +5,7 @@ use Rattle.std.specs.Fmt.{digits}
 use Rattle.std.proofs.lemmas.Option.{same_Some}
 use Rattle.hw_lex.specs.Byte.{is_blank}
 use Rattle.hw_lex.specs.Cut.{Cuts, place, token_texts}
-use Rattle.hw_lex.specs.Front.{front_word}
+use Rattle.hw_lex.specs.inside.Front.{front_word}
 use Rattle.hw_lex.specs.Gap.{Gap, blank, more, none}
 use Rattle.hw_lex.specs.Nesting.{nesting_of}
 use Rattle.hw_lex.specs.Number.{Fits, number_of, value_of, width_of}

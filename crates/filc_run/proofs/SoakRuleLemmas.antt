@@ -13,7 +13,7 @@ use Rattle.fil_ast.specs.Naming.{GivesKnown, IsKnownValue, IsMadeOf, NamesEvent,
 use Rattle.fil_ast.specs.Primitives.{is_filament_primitive}
 use Rattle.fil_ast.specs.Rules.{AtEnd, AtSignature, AtStatement, Keeps, KeepsComponent, Rule, F1, F2, F3, F4, F5, F6, F7, F8, F9, F10, F11, F12, F13, all_rules}
 use Rattle.fil_ast.specs.Scope.{Instance, Invocation, Scope, instance_named, instance_signature, output_of, signature_in}
-use Rattle.fil_ast.specs.Sharing.{HasInterface, IsEarlierUse, IsUseOf, KeepsApart, EndsInTime, TriggersWithInterface}
+use Rattle.fil_ast.specs.Sharing.{HasInterface, IsEarlierUse, IsUseOf, KeepsUsesApart, EndsInTime, TriggersWithInterface}
 use Rattle.fil_ast.specs.Signature.{Fixed, Gap, SigEvent, SigPort, Signature}
 use Rattle.fil_ast.specs.Timeline.{Covers, HoldsSome, IsUse, hold_of, KeepsDelays, ReadsAvailable, Use, interval_at}
 use Rattle.fil_ast.specs.Tree.{Call, Component, Connect, DataPort, Design, Both, Event, Giving, New, Statement, TimeAt, ValueTree}
@@ -180,7 +180,7 @@ module _ (comps : Design) (name : Text) (ins outs : List DataPort) (body : List 
     no_earlier u earlier is before =
         alone before.invocation before.is_earlier (sym before.uses.2.named ∙ before.same_instance ∙ is.2.named)
 
-    keeps_apart : KeepsApart scope here
+    keeps_apart : KeepsUsesApart scope here
     keeps_apart = λ u earlier is before. absurd (no_earlier u earlier is before)
 
     ends_in_time : EndsInTime scope here
@@ -230,7 +230,7 @@ module _ (comps : Design) (name : Text) (ins outs : List DataPort) (body : List 
       made_kept F8 = tt
       made_kept F9 = tt
       made_kept F10 = tt
-      made_kept F11 = All-nil (KeepsApart (scope_with comps comp before (New label made params)))
+      made_kept F11 = All-nil (KeepsUsesApart (scope_with comps comp before (New label made params)))
       made_kept F12 = All-nil (EndsInTime (scope_with comps comp before (New label made params)))
       made_kept F13 = All-nil (TriggersWithInterface (scope_with comps comp before (New label made params)))
 
@@ -242,10 +242,10 @@ module _ (comps : Design) (name : Text) (ins outs : List DataPort) (body : List 
       abbrev invocation : Invocation
       invocation = record { name = label; inst = inst; gives = given }
 
-      apart_in : (with : Scope) → with.comp ≡ comp → with.invocations ≡ scope.invocations → All (KeepsApart with) (invocation ∷ []) × All (EndsInTime with) (invocation ∷ []) × All (TriggersWithInterface with) (invocation ∷ [])
+      apart_in : (with : Scope) → with.comp ≡ comp → with.invocations ≡ scope.invocations → All (KeepsUsesApart with) (invocation ∷ []) × All (EndsInTime with) (invocation ∷ []) × All (TriggersWithInterface with) (invocation ∷ [])
       apart_in with same seen =
           let alone = subst (λ (vs : List Invocation). list_any (bytes_eq inst) (map (λ (w : Invocation). w.inst) vs) ≡ false) (sym seen) unused in (
-            All-cons (KeepsApart with) invocation [] (keeps_apart with same label inst row args alone) (All-nil (KeepsApart with)),
+            All-cons (KeepsUsesApart with) invocation [] (keeps_apart with same label inst row args alone) (All-nil (KeepsUsesApart with)),
             All-cons (EndsInTime with) invocation [] (ends_in_time with same label inst row args alone) (All-nil (EndsInTime with)),
             All-cons (TriggersWithInterface with) invocation [] (triggers with same label inst row args alone) (All-nil (TriggersWithInterface with)),
           )
@@ -293,7 +293,7 @@ module _ (comps : Design) (name : Text) (ins outs : List DataPort) (body : List 
       connected_kept once F8 = tt
       connected_kept once F9 = once
       connected_kept once F10 = tt
-      connected_kept once F11 = All-nil (KeepsApart (scope_with comps comp before (Connect output value)))
+      connected_kept once F11 = All-nil (KeepsUsesApart (scope_with comps comp before (Connect output value)))
       connected_kept once F12 = All-nil (EndsInTime (scope_with comps comp before (Connect output value)))
       connected_kept once F13 = All-nil (TriggersWithInterface (scope_with comps comp before (Connect output value)))
 

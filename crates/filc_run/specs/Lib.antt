@@ -1,7 +1,7 @@
+pub mod inside
 pub use Rattle.fil_fsm.specs.Refines
 pub use Rattle.filc_report.specs.Runs
 pub mod Meant
 pub mod Traced
 pub mod Verilog
 pub mod Soaked
-pub mod Soaking

@@ -8,7 +8,7 @@ ghost use Rattle.filc_load.specs.Built.{IsFilReady};
 ghost use Rattle.filc_stop.specs.Leaving.{Leaves};
 ghost use Rattle.filc_stop.specs.Stops.{IsWritingStop};
 ghost use Rattle.filc_run.specs.Soaked.{next_number, soak_design, soak_run, soak_transaction, Soaks};
-ghost use Rattle.filc_run.specs.Soaking.{AddsUpTo, IsSoak};
+ghost use Rattle.filc_run.specs.inside.Soaking.{AddsUpTo, IsSoak};
 ghost use Rattle.filc_run.specs.Traced.{IsMadeOf};
 
 use crate::lowered::Lowered;

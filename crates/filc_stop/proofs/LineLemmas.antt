@@ -1,9 +1,8 @@
 -- The texts of a line, one after another.
-use Rattle.std.proofs.Common.{◌≡◌, ℕ, [], ◌∷◌, ◌++◌, codes, decimal, refl, sym, ap, ◌∙◌, append_assoc}
+use Rattle.std.proofs.Common.{◌≡◌, ℕ, ◌==◌, false, List, [], ◌∷◌, ◌++◌, length, codes, decimal, refl, sym, ap, ◌∙◌, append_assoc}
 use Rattle.std.proofs.lemmas.List.{append-nil}
 use Rattle.hw_names.specs.Name.{Text}
-use Rattle.fil_ast.specs.Evidence.{Evidence}
-use Rattle.filc_stop.specs.Lines.{as_line, token_line, grammar_line, left_out_line, place_text, evidence_text, rule_line, entry_text, stimulus_text, shown_starts, stimulus_line, conflict_line}
+use Rattle.filc_stop.specs.Lines.{as_line, token_line, grammar_line, left_out_line, place_text, spaced, loop_text, rule_line, entry_text, stimulus_text, shown_starts, stimulus_line, conflict_line}
 
 pub conflict_texts : (cycle : ℕ) (port : Text) → codes "conflict cycle " ++ (decimal cycle ++ (codes " port " ++ (port ++ 10 ∷ []))) ≡ as_line (conflict_line cycle port)
 conflict_texts cycle port =
@@ -21,9 +20,14 @@ left_out_texts word place =
     ap (λ rest. codes "refused left out " ++ rest)
     (sym (append_assoc (word ++ codes " at byte ") (decimal place) (10 ∷ []) ∙ append_assoc word (codes " at byte ") (decimal place ++ 10 ∷ [])))
 
--- a rule's line is its place, its evidence and the line feed
-pub rule_texts : (rule name : Text) (item : ℕ) (evidence : Evidence) → place_text rule name item ++ (evidence_text evidence ++ 10 ∷ []) ≡ as_line (rule_line rule name item evidence)
-rule_texts rule name item evidence = sym (append_assoc (place_text rule name item) (evidence_text evidence) (10 ∷ []))
+-- a loop has ports
+pub loop_texts : (ports : List Text) → (length ports == 0) ≡ false → loop_text ports ≡ codes " loop" ++ spaced ports
+loop_texts [] some = cc some
+loop_texts (port ∷ ports) some = refl
+
+-- a rule's line is its place, what it shows and the line feed
+pub rule_texts : (rule name : Text) (item : ℕ) (shows : Text) → place_text rule name item ++ (shows ++ 10 ∷ []) ≡ as_line (rule_line rule name item shows)
+rule_texts rule name item shows = sym (append_assoc (place_text rule name item) shows (10 ∷ []))
 
 -- a rule of a stimulus and its entry
 pub stimulus_texts : (rule entry : ℕ) → (codes "stimulus S" ++ (decimal rule ++ [])) ++ entry_text rule entry ≡ stimulus_text rule entry

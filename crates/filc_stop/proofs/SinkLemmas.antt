@@ -34,6 +34,26 @@ pub gained_all : (old new : Option Text) (rest all : Text) → rest ≡ [] → G
 gained_all old new rest all none gained =
     subst (λ bytes. Appends old new bytes) (sym (append-nil gained.gained) ∙ ap (λ r. gained.gained ++ r) (sym none) ∙ gained.in_order) gained.appended
 
+-- a line in three parts: its front, what it shows, and the line feed
+module _ (first second third fourth : Option Text) (front shows all : Text) (parts : front ++ (shows ++ 10 ∷ []) ≡ all) where
+  after_front : Appends first second front → GainedUpTo first second (shows ++ 10 ∷ []) all
+  after_front whole = gained_more first first second front all (shows ++ 10 ∷ []) all (sym parts) (gained_none first all) whole
+
+  after_shows : Appends first second front → Appends second third shows → GainedUpTo first third (10 ∷ []) all
+  after_shows whole shown = gained_more first second third shows (shows ++ 10 ∷ []) (10 ∷ []) all refl (after_front whole) shown
+
+  pub front_cut : AppendsPrefix first second front → AppendsPrefix first second all
+  front_cut cut = gained_prefix first first second front all (shows ++ 10 ∷ []) all (sym parts) (gained_none first all) cut
+
+  pub shows_cut : Appends first second front → AppendsPrefix second third shows → AppendsPrefix first third all
+  shows_cut whole cut = gained_prefix first second third shows (shows ++ 10 ∷ []) (10 ∷ []) all refl (after_front whole) cut
+
+  pub feed_cut : Appends first second front → Appends second third shows → AppendsPrefix third fourth (10 ∷ []) → AppendsPrefix first fourth all
+  feed_cut whole shown cut = gained_prefix first third fourth (10 ∷ []) (10 ∷ []) [] all refl (after_shows whole shown) cut
+
+  pub line_whole : Appends first second front → Appends second third shows → Appends third fourth (10 ∷ []) → Appends first fourth all
+  line_whole whole shown fed = gained_all first fourth [] all refl (gained_more first third fourth (10 ∷ []) (10 ∷ []) [] all refl (after_shows whole shown) fed)
+
 nil-append_left : (xs ys : Text) → xs ++ ys ≡ [] → xs ≡ []
 nil-append_left [] ys none = refl
 nil-append_left (x ∷ xs) ys none = cc none

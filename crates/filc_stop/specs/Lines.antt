@@ -42,21 +42,26 @@ spaced ports = flat_map (λ port. codes " " ++ port) ports
 abbrev pub count_text : Text → ℕ → Text
 count_text name count = codes " " ++ name ++ codes " " ++ decimal count
 
--- what a broken rule shows besides itself
+-- a loop of ports, if there is one
+abbrev pub loop_text : List Text → Text
+loop_text [] = []
+loop_text (port ∷ ports) = codes " loop" ++ spaced (port ∷ ports)
+
+-- what a broken rule of Filament shows besides itself
 abbrev pub evidence_text : Evidence → Text
 evidence_text Nothing = []
 evidence_text (AnOffset offset) = count_text (codes "offset") offset
 evidence_text (ACycle cycle) = count_text (codes "cycle") cycle
 evidence_text (AGap gap cycle) = count_text (codes "gap") gap ++ count_text (codes "cycle") cycle
-evidence_text (ALoop ports) = codes " loop" ++ spaced ports
+evidence_text (ALoop ports) = loop_text ports
 
 -- a rule that is broken in the netlist or component of this name, at this item
 abbrev pub place_text : Text → Text → ℕ → Text
 place_text rule name item = codes "refused " ++ rule ++ codes " " ++ name ++ codes " item " ++ decimal item
 
 -- the first broken rule, with what it shows
-abbrev pub rule_line : Text → Text → ℕ → Evidence → Text
-rule_line rule name item evidence = place_text rule name item ++ evidence_text evidence
+abbrev pub rule_line : Text → Text → ℕ → Text → Text
+rule_line rule name item shows = place_text rule name item ++ shows
 
 -- what a stimulus has too much of
 abbrev pub counted_name : Bool → Text

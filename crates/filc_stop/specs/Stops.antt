@@ -7,10 +7,11 @@ use Rattle.hw_names.specs.Name.{Text}
 use Rattle.fil_ast.specs.declared.tree.TheConstants.{MOST_OFFSET}
 use Rattle.fil_check.specs.Least.{evidence_of}
 use Rattle.filc_stop.specs.Language.{most_bytes, most_nesting}
-use Rattle.filc_stop.specs.Lines.{as_line, read_fault_line, limit_line, token_line, grammar_line, left_out_line, rule_name, rule_line}
+use Rattle.filc_stop.specs.Lines.{as_line, read_fault_line, limit_line, token_line, grammar_line, left_out_line, loop_text, evidence_text, rule_name, rule_line}
 use Rattle.filc_stop.specs.Lines.{counted_name, stimulus_line, conflict_line, memory_line}
 use Rattle.filc_stop.specs.declared.ended.Ended.{Ended}
 use Rattle.filc_stop.specs.declared.ended.Ended.TheVariants.{Refused, ReadFault, WriteFault, Memory, Stimulus, Conflict, Limit}
+use Rattle.filc_stop.specs.declared.language.Language.TheVariants.{Filament}
 use Rattle.filc_stop.specs.declared.limits.TheConstants.{MOST_STIMULUS_BYTES, MOST_WEIGHT, MOST_WORDS}
 use Rattle.stim_read.specs.declared.limits.TheConstants.{MOST_CYCLES}
 use Rattle.filc_stop.specs.declared.refusal.Refusal.{Refusal}
@@ -29,7 +30,8 @@ answer_of (refusal.NestsTooDeep language depth) = Limit
 answer_of (refusal.HasNoGrammar at) = Refused
 answer_of (refusal.LeavesOut word at) = Refused
 answer_of (refusal.HasLargeOffset offset) = Limit
-answer_of (refusal.BreaksRule language rule name item evidence) = Refused
+answer_of (refusal.BreaksRule language rule name item ports) = Refused
+answer_of (refusal.BreaksFilamentRule rule name item evidence) = Refused
 answer_of (refusal.IsTooHeavy weight) = Limit
 answer_of (refusal.HasTooManyWords words) = Limit
 answer_of (refusal.TooManyCycles cycles) = Limit
@@ -45,7 +47,8 @@ refusal_line (refusal.NestsTooDeep language depth) = limit_line (codes "nesting"
 refusal_line (refusal.HasNoGrammar at) = grammar_line at
 refusal_line (refusal.LeavesOut word at) = left_out_line word at
 refusal_line (refusal.HasLargeOffset offset) = limit_line (codes "offset") offset MOST_OFFSET
-refusal_line (refusal.BreaksRule language rule name item evidence) = rule_line (rule_name language rule) name item (evidence_of evidence)
+refusal_line (refusal.BreaksRule language rule name item ports) = rule_line (rule_name language rule) name item (loop_text ports.items)
+refusal_line (refusal.BreaksFilamentRule rule name item evidence) = rule_line (rule_name Filament rule) name item (evidence_text (evidence_of evidence))
 refusal_line (refusal.IsTooHeavy weight) = limit_line (codes "weight") weight MOST_WEIGHT
 refusal_line (refusal.HasTooManyWords words) = limit_line (codes "words") words MOST_WORDS
 refusal_line (refusal.TooManyCycles cycles) = limit_line (codes "cycles") cycles MOST_CYCLES
@@ -70,7 +73,8 @@ IsOfSource (stop.Refused (refusal.NestsTooDeep language depth)) = Unit {0}
 IsOfSource (stop.Refused (refusal.HasNoGrammar at)) = Unit {0}
 IsOfSource (stop.Refused (refusal.LeavesOut word at)) = Unit {0}
 IsOfSource (stop.Refused (refusal.HasLargeOffset offset)) = Unit {0}
-IsOfSource (stop.Refused (refusal.BreaksRule language rule name item evidence)) = Unit {0}
+IsOfSource (stop.Refused (refusal.BreaksRule language rule name item ports)) = Unit {0}
+IsOfSource (stop.Refused (refusal.BreaksFilamentRule rule name item evidence)) = Unit {0}
 IsOfSource (stop.Refused (refusal.IsTooHeavy weight)) = Unit {0}
 IsOfSource (stop.Refused (refusal.HasTooManyWords words)) = Unit {0}
 IsOfSource stop.Memory = Unit {0}

@@ -3,9 +3,9 @@ ghost use Rattle.std.specs.Prelude.{◌≤◌, OnOk, OnErr, map};
 ghost use Rattle.std.specs.Io.KnownBytes.{Appends};
 ghost use Rattle.hw_io.specs.Faults.{Rose};
 ghost use Rattle.hw_io.specs.Writing.{AppendsPrefix};
-ghost use Rattle.fil_ast.specs.Evidence.{AGap, ALoop};
+ghost use Rattle.fil_ast.specs.Evidence.{AGap};
 ghost use Rattle.fil_check.specs.Least.{evidence_of};
-ghost use Rattle.filc_stop.specs.Lines.{as_line, read_fault_line, limit_line, token_line, grammar_line, left_out_line, rule_name, place_text, rule_line, spaced, count_text, evidence_text, entry_text, stimulus_text, starts_text, shown_starts, stimulus_line, conflict_line};
+ghost use Rattle.filc_stop.specs.Lines.{as_line, read_fault_line, limit_line, token_line, grammar_line, left_out_line, rule_name, place_text, rule_line, spaced, loop_text, count_text, evidence_text, entry_text, stimulus_text, starts_text, shown_starts, stimulus_line, conflict_line};
 ghost use Rattle.filc_stop.specs.Stops.{joined};
 
 use crate::language::Language;
@@ -155,13 +155,16 @@ fn write_ports<S: Sink>(sink: &mut S, ports: &[Word]) -> Result<(), Failed>
     Ok(())
 }
 
-/// Writes a loop of ports.
+/// Writes a loop of ports, if there is one.
 fn write_loop<S: Sink>(sink: &mut S, ports: &[Word]) -> Result<(), Failed>
-    ensures appended { OnOk result (Appends (S.written sink.old) (S.written sink.new) (evidence_text (ALoop ports.now))) }
-    ensures prefix { OnErr result (AppendsPrefix (S.written sink.old) (S.written sink.new) (evidence_text (ALoop ports.now))) }
+    ensures appended { OnOk result (Appends (S.written sink.old) (S.written sink.new) (loop_text ports.now)) }
+    ensures prefix { OnErr result (AppendsPrefix (S.written sink.old) (S.written sink.new) (loop_text ports.now)) }
     ensures failed { OnErr result (Rose (S.faults sink.old) (S.faults sink.new)) }
     ensures never_falls { S.faults sink.old ≤ S.faults sink.new }
 {
+    if ports.is_empty() {
+        return Ok(());
+    }
     write_whole(sink, " loop".as_bytes())?;
     write_ports(sink, ports)
 }
@@ -201,7 +204,7 @@ fn write_gap<S: Sink>(sink: &mut S, meet: &Meet) -> Result<(), Failed>
     write_texts(sink, &texts)
 }
 
-/// Writes what a broken rule shows besides itself.
+/// Writes what a broken rule of Filament shows besides itself.
 fn write_evidence<S: Sink>(sink: &mut S, evidence: &Evidence) -> Result<(), Failed>
     ensures appended { OnOk result (Appends (S.written sink.old) (S.written sink.new) (evidence_text (evidence_of evidence.now))) }
     ensures prefix { OnErr result (AppendsPrefix (S.written sink.old) (S.written sink.new) (evidence_text (evidence_of evidence.now))) }
@@ -217,21 +220,39 @@ fn write_evidence<S: Sink>(sink: &mut S, evidence: &Evidence) -> Result<(), Fail
     }
 }
 
-/// Writes the line of a broken rule, with what it shows.
+/// Writes the line of a broken rule of a netlist or a Calyx design, with the loop of ports that it shows, if it does.
 pub(crate) fn write_rule<S: Sink>(
     sink: &mut S,
     language: Language,
     rule: u8,
     name: &[u8],
     item: u64,
-    evidence: &Evidence,
+    ports: &[Word],
 ) -> Result<(), Failed>
-    ensures appended { OnOk result (Appends (S.written sink.old) (S.written sink.new) (as_line (rule_line (rule_name language rule) name.now item (evidence_of evidence.now)))) }
-    ensures prefix { OnErr result (AppendsPrefix (S.written sink.old) (S.written sink.new) (as_line (rule_line (rule_name language rule) name.now item (evidence_of evidence.now)))) }
+    ensures appended { OnOk result (Appends (S.written sink.old) (S.written sink.new) (as_line (rule_line (rule_name language rule) name.now item (loop_text ports.now)))) }
+    ensures prefix { OnErr result (AppendsPrefix (S.written sink.old) (S.written sink.new) (as_line (rule_line (rule_name language rule) name.now item (loop_text ports.now)))) }
     ensures failed { OnErr result (Rose (S.faults sink.old) (S.faults sink.new)) }
     ensures never_falls { S.faults sink.old ≤ S.faults sink.new }
 {
     write_place(sink, language, rule, name, item)?;
+    write_loop(sink, ports)?;
+    write_whole(sink, "\n".as_bytes())
+}
+
+/// Writes the line of a broken rule of Filament, with what it shows.
+pub(crate) fn write_filament_rule<S: Sink>(
+    sink: &mut S,
+    rule: u8,
+    name: &[u8],
+    item: u64,
+    evidence: &Evidence,
+) -> Result<(), Failed>
+    ensures appended { OnOk result (Appends (S.written sink.old) (S.written sink.new) (as_line (rule_line (rule_name Language.Filament rule) name.now item (evidence_text (evidence_of evidence.now))))) }
+    ensures prefix { OnErr result (AppendsPrefix (S.written sink.old) (S.written sink.new) (as_line (rule_line (rule_name Language.Filament rule) name.now item (evidence_text (evidence_of evidence.now))))) }
+    ensures failed { OnErr result (Rose (S.faults sink.old) (S.faults sink.new)) }
+    ensures never_falls { S.faults sink.old ≤ S.faults sink.new }
+{
+    write_place(sink, Language::Filament, rule, name, item)?;
     write_evidence(sink, evidence)?;
     write_whole(sink, "\n".as_bytes())
 }

@@ -10,8 +10,8 @@ use crate::ended::Ended;
 use crate::language::Language;
 use crate::limits::{MOST_STIMULUS_BYTES, MOST_WEIGHT, MOST_WORDS};
 use crate::line::{
-    write_conflict, write_grammar, write_left_out, write_limit, write_rule, write_stimulus,
-    write_token,
+    write_conflict, write_filament_rule, write_grammar, write_left_out, write_limit, write_rule,
+    write_stimulus, write_token,
 };
 use fil_ast::MOST_OFFSET;
 use fil_check::Evidence;
@@ -49,9 +49,17 @@ pub enum Refusal {
     HasLargeOffset {
         offset: u128,
     },
-    /// The netlist or component of this name breaks this rule of its language at this item, and none is broken before.
+    /// The netlist or the Calyx component of this name breaks this rule of its language at this item, and none is broken
+    /// before. The ports are those of a loop, from the least on, where the rule is that there is none.
     BreaksRule {
         language: Language,
+        rule: u8,
+        name: Word,
+        item: u64,
+        ports: Vec<Word>,
+    },
+    /// The Filament component of this name breaks this rule of Filament at this item, and none is broken before.
+    BreaksFilamentRule {
         rule: u8,
         name: Word,
         item: u64,
@@ -102,7 +110,8 @@ impl Refusal {
             Refusal::HasNoTokens { .. }
             | Refusal::HasNoGrammar { .. }
             | Refusal::LeavesOut { .. }
-            | Refusal::BreaksRule { .. } => Ended::Refused,
+            | Refusal::BreaksRule { .. }
+            | Refusal::BreaksFilamentRule { .. } => Ended::Refused,
             Refusal::BreaksStimulusRule { .. } => Ended::Stimulus,
             Refusal::Conflict { .. } => Ended::Conflict,
             _ => Ended::Limit,
@@ -136,8 +145,14 @@ impl Refusal {
                 rule,
                 name,
                 item,
+                ports,
+            } => write_rule(err, *language, *rule, name.bytes(), *item, ports),
+            Refusal::BreaksFilamentRule {
+                rule,
+                name,
+                item,
                 evidence,
-            } => write_rule(err, *language, *rule, name.bytes(), *item, evidence),
+            } => write_filament_rule(err, *rule, name.bytes(), *item, evidence),
             Refusal::IsTooHeavy { weight } => {
                 write_limit(err, "weight", *weight as u128, MOST_WEIGHT as u128)
             }

@@ -3,7 +3,7 @@ use Rattle.std.proofs.Common.{◌≡◌, ℕ, ◌+◌, ◌<◌, List, length, ge
 use Rattle.std.specs.List.{list_all}
 use Rattle.stim_read.specs.Parts.{is_one_of}
 use Rattle.stim_read.specs.CycleText.{Entry, entry_seen, Words, words_seen}
-use Rattle.stim_read.specs.CycleRules.{Targets, or_else, unless, refused, has_known_name, given_fits, order_fault, fits_width, place_in, width_of, input_fault, inputs_fault, memory_fault, memories_fault}
+use Rattle.stim_read.specs.CycleRules.{Targets, first_fault, unless, refused, has_known_name, given_fits, order_fault, fits_width, place_in, width_of, input_fault, inputs_fault, memory_fault, memories_fault}
 use Rattle.stim_read.specs.CycleRun.{IsTold, Tells}
 use Rattle.stim_read.specs.declared.cycle_text.InputEntry.{InputEntry}
 use Rattle.stim_read.specs.declared.cycle_text.MemoryWords.{MemoryWords}
@@ -12,26 +12,26 @@ use Rattle.stim_read.specs.declared.stim_end.StimEnd.TheVariants.{Refused, Limit
 use Rattle.stim_read.proofs.EachLemmas.{cut_at}
 
 -- a told fault is the first of two
-pub told_first : (e : StimEnd) (fault later : Option StimEnd) → IsTold e fault → IsTold e (or_else fault later)
+pub told_first : (e : StimEnd) (fault later : Option StimEnd) → IsTold e fault → IsTold e (first_fault fault later)
 told_first (Refused rule entry first second delay) fault later h = rw h refl
 told_first (Limit count limit cycles) fault later h = rw h refl
 told_first Memory fault later h = tt
 
-pub told_later : (e : StimEnd) (fault later : Option StimEnd) → fault ≡ None → IsTold e later → IsTold e (or_else fault later)
+pub told_later : (e : StimEnd) (fault later : Option StimEnd) → fault ≡ None → IsTold e later → IsTold e (first_fault fault later)
 told_later e fault later none h = rw none h
 
 pub told_by : (e : StimEnd) (fault other : Option StimEnd) → fault ≡ other → IsTold e fault → IsTold e other
 told_by e fault other same h = subst (IsTold e) same h
 
-pub neither : (fault later : Option StimEnd) → fault ≡ None → later ≡ None → or_else fault later ≡ None
+pub neither : (fault later : Option StimEnd) → fault ≡ None → later ≡ None → first_fault fault later ≡ None
 neither fault later none none_later = rw none none_later
 
 pub inputs_cut : (t : Targets) (before : Option ℕ) (n : ℕ) (xs : List InputEntry) (i : ℕ) (x : InputEntry) → i < length xs → x ≡ get_or xs i x
-    → inputs_fault t before n (map entry_seen (drop i xs)) ≡ or_else (input_fault t before n (entry_seen x)) (inputs_fault t (Some x.from) (n + 1) (map entry_seen (drop (i + 1) xs)))
+    → inputs_fault t before n (map entry_seen (drop i xs)) ≡ first_fault (input_fault t before n (entry_seen x)) (inputs_fault t (Some x.from) (n + 1) (map entry_seen (drop (i + 1) xs)))
 inputs_cut t before n xs i x within is = ap (λ ys. inputs_fault t before n (map entry_seen ys)) (cut_at xs i x within is)
 
 pub memories_cut : (t : Targets) (sizes : List ℕ) (n : ℕ) (xs : List MemoryWords) (i : ℕ) (x : MemoryWords) → i < length xs → x ≡ get_or xs i x
-    → memories_fault t sizes n (map words_seen (drop i xs)) ≡ or_else (memory_fault t sizes n (words_seen x)) (memories_fault t sizes (n + 1) (map words_seen (drop (i + 1) xs)))
+    → memories_fault t sizes n (map words_seen (drop i xs)) ≡ first_fault (memory_fault t sizes n (words_seen x)) (memories_fault t sizes (n + 1) (map words_seen (drop (i + 1) xs)))
 memories_cut t sizes n xs i x within is = ap (λ ys. memories_fault t sizes n (map words_seen ys)) (cut_at xs i x within is)
 
 -- an answer that passes an error on tells what the error does
@@ -44,10 +44,10 @@ pub passes_memory : {T : Type 0} (answer : Result T StimEnd) (fault : Option Sti
 passes_memory (Ok x) fault is = absurd is
 passes_memory (Err f) fault is = subst (λ x. IsTold x fault) (sym is) tt
 
-pub refused_then : (fault later : Option StimEnd) (e : StimEnd) → fault ≡ Some e → or_else fault later ≡ Some e
+pub refused_then : (fault later : Option StimEnd) (e : StimEnd) → fault ≡ Some e → first_fault fault later ≡ Some e
 refused_then fault later e is = rw is refl
 
-pub judged_later : (fault later : Option StimEnd) (e : StimEnd) → fault ≡ None → later ≡ Some e → or_else fault later ≡ Some e
+pub judged_later : (fault later : Option StimEnd) (e : StimEnd) → fault ≡ None → later ≡ Some e → first_fault fault later ≡ Some e
 judged_later fault later e none is = rw (none, is) refl
 
 pub broken : (kept : Bool) (e : StimEnd) → kept ≡ false → unless kept e ≡ Some e
@@ -57,7 +57,7 @@ pub kept_so : (kept : Bool) (e : StimEnd) → kept ≡ true → unless kept e �
 kept_so kept e is = rw is refl
 
 -- there is no first of two faults, so there is neither
-pub neither_there : (fault later : Option StimEnd) → or_else fault later ≡ None → (fault ≡ None) × (later ≡ None)
+pub neither_there : (fault later : Option StimEnd) → first_fault fault later ≡ None → (fault ≡ None) × (later ≡ None)
 neither_there None later none = (refl, none)
 neither_there (Some f) later none = let bad : ◌≡◌ {A = Option StimEnd} (Some f) None = none in absurd cc
 

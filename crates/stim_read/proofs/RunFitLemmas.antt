@@ -7,14 +7,14 @@ use Rattle.std.proofs.lemmas.List.{length-map, get_or-map}
 use Rattle.std.proofs.lemmas.List.Elements.{All-nil, All-cons, All-append, All-map, All-weaker}
 use Rattle.std.proofs.lemmas.List.Sums.{AllPass-from_list_all}
 use Rattle.std.proofs.lemmas.Option.{slice_get-get_or}
-use Rattle.fil_sig.specs.declared.time_sig.SigPort.{SigPort}
+use Rattle.stim_read.specs.declared.shape.InputShape.{InputShape}
 use Rattle.fil_sig.proofs.ListLemmas.{All-unmap}
 use Rattle.net_core.specs.declared.stimulus.CycleList.{CycleList}
 use Rattle.net_core.specs.declared.stimulus.MemLoad.{MemLoad}
 use Rattle.net_core.specs.declared.stimulus.MemShape.{MemShape}
 use Rattle.stim_read.specs.Parts.{is_one_of}
 use Rattle.stim_read.specs.CycleText.{Entry, Words}
-use Rattle.stim_read.specs.CycleRules.{Targets, input_targets, memory_targets, sizes_of, place_in, width_of, has_known_name, given_fits, fits_width, or_else, unless, refused, order_fault, input_fault, inputs_fault, memory_fault, memories_fault, limit_fault}
+use Rattle.stim_read.specs.CycleRules.{Targets, input_targets, memory_targets, sizes_of, place_in, width_of, has_known_name, given_fits, fits_width, first_fault, unless, refused, order_fault, input_fault, inputs_fault, memory_fault, memories_fault, limit_fault}
 use Rattle.stim_read.specs.CycleRun.{Setting, Load, setting_of, settings_of, load_of, setting_seen, load_seen, run_seen, GiveRun}
 use Rattle.stim_read.specs.Fits.{LoadsMemory, FitsRun}
 use Rattle.stim_read.specs.declared.given.Given.{Given}
@@ -50,7 +50,7 @@ kept_parts : (t : Targets) (before : Option ℕ) (n : ℕ) (e : Entry) (es : Lis
 kept_parts t before n e es none =
     let both = neither_there (input_fault t before n e) (inputs_fault t (Some e.from) (n + 1) es) none in
     let fit = unless (list_all (given_fits t) e.given) (refused 4 n) in
-    let names = neither_there (unless (list_all (has_known_name t.names) e.given) (refused 3 n)) (or_else fit (order_fault before n e.from)) both.0 in
+    let names = neither_there (unless (list_all (has_known_name t.names) e.given) (refused 3 n)) (first_fault fit (order_fault before n e.from)) both.0 in
     let values = neither_there fit (order_fault before n e.from) names.1 in
     record { known = kept_by (list_all (has_known_name t.names) e.given) (refused 3 n) names.0; later = values.1; others = both.1 }
 
@@ -133,7 +133,7 @@ memory_loads mems n m none =
     let place = place_in t.names m.name in
     let short = nat_le (length m.words) (slice_index (sizes_of mems) place) in
     let fit = unless (list_all (fits_width (width_of t m.name)) m.words) (refused 4 n) in
-    let names = neither_there (unless (is_one_of t.names m.name) (refused 3 n)) (or_else (unless short (refused 7 n)) fit) none in
+    let names = neither_there (unless (is_one_of t.names m.name) (refused 3 n)) (first_fault (unless short (refused 7 n)) fit) none in
     let sizes = neither_there (unless short (refused 7 n)) fit names.1 in
     let within : place < length mems = omega (arith, place_known t.names m.name (kept_by (is_one_of t.names m.name) (refused 3 n) names.0), length-map mems (λ (s : MemShape). s.name)) in
     let there = some_at mems place within in
@@ -156,17 +156,17 @@ all_load mems n (m ∷ ms) none =
 
 -- ---- what was read
 
-pub given_fits_run : (bytes : List ℕ) (ins : List SigPort) (mems : List MemShape) (list : CycleList) → GiveRun bytes ins mems (run_seen list) → FitsRun ins mems list
+pub given_fits_run : (bytes : List ℕ) (ins : List InputShape) (mems : List MemShape) (list : CycleList) → GiveRun bytes ins mems (run_seen list) → FitsRun ins mems list
 given_fits_run bytes ins mems list gives =
     let t = input_targets ins in
     let c = gives.stimulus in
     let inputs = inputs_fault t None 0 c.inputs in
     let memories = memories_fault (memory_targets mems) (sizes_of mems) (length c.inputs) c.memories in
-    let limits = neither_there (limit_fault c) (or_else inputs memories) gives.kept in
+    let limits = neither_there (limit_fault c) (first_fault inputs memories) gives.kept in
     let none = neither_there inputs memories limits.1 in
     let sets : map setting_seen list.sets.items ≡ flat_map (settings_of t) c.inputs = ap (λ r. r.settings) gives.gives in
     let loads : map load_seen list.loads.items ≡ map (load_of (memory_targets mems)) c.memories = ap (λ r. r.loads) gives.gives in
-    let paired : length t.names ≡ length t.widths = length-map ins (λ (p : SigPort). p.name) ∙ sym (length-map ins (λ (p : SigPort). p.width)) in
+    let paired : length t.names ≡ length t.widths = length-map ins (λ (i : InputShape). i.name) ∙ sym (length-map ins (λ (i : InputShape). i.width)) in
     record {
       sets = All-unmap (SetsTarget t) setting_seen list.sets.items (subst (λ (ss : List Setting). All (SetsTarget t) ss) (sym sets) (all_set t None 0 c.inputs paired none.0));
       in_order = order_seen from_of setting_seen list.sets.items (subst (λ (ss : List Setting). IsNonDecreasingBy from_of ss) (sym sets) (all_in_order t None 0 c.inputs none.0));
@@ -174,6 +174,6 @@ given_fits_run bytes ins mems list gives =
           (All-unmap (SeenLoads mems) load_seen list.loads.items (subst (λ (ls : List Load). All (SeenLoads mems) ls) (sym loads) (all_load mems (length c.inputs) c.memories none.1)));
     }
 
-pub result_fits_run : (bytes : List ℕ) (ins : List SigPort) (mems : List MemShape) (r : Result CycleList StimEnd) → IfOk r (λ list. GiveRun bytes ins mems (run_seen list)) → IfOk r (FitsRun ins mems)
+pub result_fits_run : (bytes : List ℕ) (ins : List InputShape) (mems : List MemShape) (r : Result CycleList StimEnd) → IfOk r (λ list. GiveRun bytes ins mems (run_seen list)) → IfOk r (FitsRun ins mems)
 result_fits_run bytes ins mems (Ok list) gives = given_fits_run bytes ins mems list gives
 result_fits_run bytes ins mems (Err end) gives = tt

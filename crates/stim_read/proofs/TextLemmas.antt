@@ -6,7 +6,7 @@ use Rattle.serde_json.specs.Data.{Data}
 use Rattle.serde_json.specs.Errors.{IsMemory}
 use Rattle.serde_json.specs.Read.{read}
 use Rattle.serde_json.specs.declared.error.Error.{Error}
-use Rattle.fil_sig.specs.declared.time_sig.SigPort.{SigPort}
+use Rattle.stim_read.specs.declared.shape.InputShape.{InputShape}
 use Rattle.net_core.specs.declared.stimulus.CycleList.{CycleList}
 use Rattle.net_core.specs.declared.stimulus.MemShape.{MemShape}
 use Rattle.stim_read.specs.CycleText.{Cycles}
@@ -22,11 +22,11 @@ no_json bytes e b off iff refuses value json =
 pub same_run : (cycles : ℕ) (a b : List Setting) (x y : List Load) → a ≡ b → x ≡ y → ◌≡◌ {A = Run} (record { cycles = cycles; settings = a; loads = x }) (record { cycles = cycles; settings = b; loads = y })
 same_run cycles a b x y p q = λ i. record { cycles = cycles; settings = p i; loads = q i }
 
-pub gives_run : (bytes : List ℕ) (ins : List SigPort) (mems : List MemShape) (c : Cycles) (r : Result CycleList StimEnd) → SayCycles bytes c → Tells r (cycles_fault ins mems c) → IfOk r (λ list. run_seen list ≡ run_of ins mems c)
+pub gives_run : (bytes : List ℕ) (ins : List InputShape) (mems : List MemShape) (c : Cycles) (r : Result CycleList StimEnd) → SayCycles bytes c → Tells r (cycles_fault ins mems c) → IfOk r (λ list. run_seen list ≡ run_of ins mems c)
     → IfOk r (λ list. GiveRun bytes ins mems (run_seen list))
 gives_run bytes ins mems c (Ok list) says told run = record { stimulus = c; said = says; kept = told; gives = run }
 gives_run bytes ins mems c (Err e) says told run = tt
 
-pub tells_cause : (bytes : List ℕ) (ins : List SigPort) (mems : List MemShape) (c : Cycles) (r : Result CycleList StimEnd) → SayCycles bytes c → Tells r (cycles_fault ins mems c) → IfErr r (IsCause bytes ins mems)
+pub tells_cause : (bytes : List ℕ) (ins : List InputShape) (mems : List MemShape) (c : Cycles) (r : Result CycleList StimEnd) → SayCycles bytes c → Tells r (cycles_fault ins mems c) → IfErr r (IsCause bytes ins mems)
 tells_cause bytes ins mems c (Ok list) says told = tt
 tells_cause bytes ins mems c (Err e) says told = ByRule c e says told

@@ -11,7 +11,7 @@ use Rattle.fil_sig.specs.Seen.{seen_event, seen_port}
 use Rattle.fil_sig.specs.declared.time_sig.SigEvent.{SigEvent}
 use Rattle.fil_sig.specs.declared.time_sig.SigPort.{SigPort}
 use Rattle.stim_read.specs.Parts.{is_one_of}
-use Rattle.stim_read.specs.CycleRules.{input_targets, place_in}
+use Rattle.stim_read.specs.CycleRules.{place_in}
 use Rattle.stim_read.specs.TxRules.{event_number, event_by}
 use Rattle.stim_read.specs.TxEvents.{Event, EventList, ports_after, port_targets, events_from, event_seen, events_seen}
 use Rattle.stim_read.specs.declared.events.EventInputs.{EventInputs}
@@ -20,13 +20,6 @@ use Rattle.stim_read.specs.declared.tx_text.EventName.{EventName}
 use Rattle.stim_read.specs.declared.tx_text.EventName.TheVariants.{Named}
 use Rattle.stim_read.proofs.EachLemmas.{cut_at}
 use Rattle.stim_read.proofs.PlaceLemmas.{place_past}
-
--- what may get values is the same at ports as they are seen
-pub targets_agree : (ins : List SigPort) → input_targets ins ≡ port_targets (map seen_port ins)
-targets_agree ins = λ i. record {
-  names = sym (map-map (λ (p : tree.SigPort). p.name) seen_port ins) i;
-  widths = sym (map-map (λ (p : tree.SigPort). p.width) seen_port ins) i;
-}
 
 -- the greatest end among these ports' intervals, and this number
 abbrev pub greatest_from : ℕ → ℕ → List tree.SigPort → ℕ

@@ -8,7 +8,7 @@ use Rattle.fil_ast.specs.Signature.{SigEvent, Signature}
 use Rattle.fil_ast.specs.declared.tx.Tx.{Tx}
 use Rattle.fil_ast.specs.declared.tx.TxList.{TxList}
 use Rattle.fil_sig.proofs.ListLemmas.{All-unmap}
-use Rattle.stim_read.specs.CycleRules.{or_else, refused}
+use Rattle.stim_read.specs.CycleRules.{first_fault, refused}
 use Rattle.stim_read.specs.TxEvents.{Event, EventList, ports_after, port_targets, events_from, events_of}
 use Rattle.stim_read.specs.TxRules.{Start, starts_in, event_number, event_by, last_start, event_fault, tx_fault, txs_fault}
 use Rattle.stim_read.specs.TxRun.{Transaction, inputs_of, transaction_of, end_row, run_rows, count_of, count_fault, rows_fault, transaction_seen, tx_run_seen, GiveTransactions}
@@ -79,7 +79,7 @@ module _ (bytes : List ℕ) (sig : Signature) where
       let seen : map transaction_seen list.txs.items ≡ ts = ap (λ r. r.transactions) gives.gives in
       let rules = txs_fault ev [] 0 (starts_in gives.stimulus.entries) in
       let rows = rows_fault (run_rows ev.events ts) in
-      let counts = neither_there (count_fault (count_of gives.stimulus.entries)) (or_else rules rows) gives.kept in
+      let counts = neither_there (count_fault (count_of gives.stimulus.entries)) (first_fault rules rows) gives.kept in
       let none = neither_there rules rows counts.1 in
       let each : (P : Transaction → Type 0) → All P ts → P (transaction_seen (get_or list.txs.items k d)) =
       λ P all. All-unmap P transaction_seen list.txs.items (subst (λ (xs : List Transaction). All P xs) (sym seen) all) k d within in

@@ -7,7 +7,7 @@ use Rattle.std.proofs.lemmas.List.Kept.{AllPairs-cons}
 use Rattle.std.proofs.lemmas.Option.{same_Some}
 use Rattle.fil_ast.specs.Signature.{SigEvent, Signature}
 use Rattle.fil_ast.specs.declared.tx.TxList.{TxList}
-use Rattle.stim_read.specs.CycleRules.{or_else, refused}
+use Rattle.stim_read.specs.CycleRules.{first_fault, refused}
 use Rattle.stim_read.specs.Fits.{AreLegal}
 use Rattle.stim_read.specs.TxEvents.{Event, EventList, rows_of, event_of, events_from, events_of}
 use Rattle.stim_read.specs.TxRules.{Start, starts_in, event_number, event_by, last_start, start_fault, values_fault, event_fault, tx_fault, txs_fault}
@@ -104,7 +104,7 @@ module _ (bytes : List ℕ) (sig : Signature) where
       let seen : map transaction_seen list.txs.items ≡ ts = ap (λ r. r.transactions) gives.gives in
       let rules = txs_fault ev [] 0 ss in
       let rows = rows_fault (run_rows ev.events ts) in
-      let counts = neither_there (count_fault (count_of gives.stimulus.entries)) (or_else rules rows) gives.kept in
+      let counts = neither_there (count_fault (count_of gives.stimulus.entries)) (first_fault rules rows) gives.kept in
       let none = neither_there rules rows counts.1 in
       let pairs = all_follow ev [] 0 ss none.0 in
       let legal : AreLegal sig ts = λ i j d less within same e rows at fixed.

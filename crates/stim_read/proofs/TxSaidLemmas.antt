@@ -16,7 +16,7 @@ use Rattle.stim_read.specs.CycleRun.{IsTold, Tells}
 use Rattle.stim_read.specs.TxText.{Starts, Transactions, once, repeat_keys, repeat_in, repeat_at, event_at, tx_keys, starts_fit, tx_entry_in, entries_in, idle_at, transactions_keys, transactions_in}
 use Rattle.stim_read.specs.TxEvents.{EventList, ports_after, event_of, events_from, events_of}
 use Rattle.stim_read.specs.TxRun.{tx_run_of, tx_run_seen, transactions_fault, SayTransactions, GiveTransactions, IsTxCause, BrokenRule}
-use Rattle.stim_read.specs.TxWalk.{IsEntry, HasWidths, AreUsable}
+use Rattle.stim_read.specs.inside.TxWalk.{IsEntry, HasWidths, AreUsable}
 use Rattle.stim_read.specs.declared.amounts.Version.{Version}
 use Rattle.stim_read.specs.declared.stim_end.StimEnd.{StimEnd}
 use Rattle.stim_read.specs.declared.tx_text.Repeat.{Repeat}

@@ -5,14 +5,14 @@ use Rattle.std.proofs.lemmas.Bool.{cases_eq, false_from_ne_true, eqb-true}
 use Rattle.std.proofs.lemmas.List.{append-nil, map-append, length-map, length-append, drop_all, take_all, length-set, get_or-set_same, get_or-set_other}
 use Rattle.std.proofs.lemmas.List.FromFn.{length-range_with_len}
 use Rattle.std.proofs.lemmas.Option.{slice_get_within}
-use Rattle.stim_read.specs.CycleRules.{Targets, or_else, unless, refused, has_known_name}
+use Rattle.stim_read.specs.CycleRules.{Targets, first_fault, unless, refused, has_known_name}
 use Rattle.stim_read.specs.TxText.{Starts, tx_entry_seen}
 use Rattle.stim_read.specs.TxEvents.{Event, EventList}
 use Rattle.stim_read.specs.TxRules.{Start, start_of, starts_of, starts_in, event_number, event_by, is_given, all_fit, value_or_0, values_fault, last_start, start_fault, tx_fault, txs_fault}
 use Rattle.stim_read.specs.CycleRun.{IsTold}
 use Rattle.stim_read.specs.TxRun.{Transaction, transaction_of, transaction_seen}
 use Rattle.fil_ast.specs.declared.tx.Tx.{Tx}
-use Rattle.stim_read.specs.TxWalk.{IsEntry, rows_from, start_rows, starts_fault, last_after, last_by, entry_fault, started}
+use Rattle.stim_read.specs.inside.TxWalk.{IsEntry, rows_from, start_rows, starts_fault, last_after, last_by, entry_fault, started}
 use Rattle.stim_read.specs.declared.given.Given.{Given}
 use Rattle.stim_read.specs.declared.stim_end.StimEnd.{StimEnd}
 use Rattle.stim_read.specs.declared.tx_text.TxEntry.{TxEntry}
@@ -24,12 +24,12 @@ abbrev pub onto : List Start → List Start → List Start
 onto [] earlier = earlier
 onto (s ∷ later) earlier = onto later (s ∷ earlier)
 
-assoc : (a b c : Option StimEnd) → or_else (or_else a b) c ≡ or_else a (or_else b c)
+assoc : (a b c : Option StimEnd) → first_fault (first_fault a b) c ≡ first_fault a (first_fault b c)
 assoc None b c = refl
 assoc (Some e) b c = refl
 
-kept_any : (a b c : Bool) (n m : ℕ) → or_else (unless a (refused 3 n)) (or_else (unless b (refused 6 n)) (unless c (refused 4 n))) ≡ None
-    → or_else (unless a (refused 3 m)) (or_else (unless b (refused 6 m)) (unless c (refused 4 m))) ≡ None
+kept_any : (a b c : Bool) (n m : ℕ) → first_fault (unless a (refused 3 n)) (first_fault (unless b (refused 6 n)) (unless c (refused 4 n))) ≡ None
+    → first_fault (unless a (refused 3 m)) (first_fault (unless b (refused 6 m)) (unless c (refused 4 m))) ≡ None
 kept_any true true true n m h = refl
 kept_any true true false n m h = cc
 kept_any true false c n m h = cc
@@ -69,16 +69,16 @@ module _ (ev : EventList) (event : Event) (e : Starts) (by : event_by ev e.event
     fault_is earlier n k = rw (by, values_kept event.inputs n₀ n e.given kept) refl
 
     walk : (ks : List ℕ) (earlier : List Start) (n : ℕ) (rest : List Start)
-        → txs_fault ev earlier n (map (start_of e) ks ++ rest) ≡ or_else (starts_fault (last_start ev.names number earlier) n event.delay (rows_from e ks)) (txs_fault ev (onto (map (start_of e) ks) earlier) (n + length ks) rest)
+        → txs_fault ev earlier n (map (start_of e) ks ++ rest) ≡ first_fault (starts_fault (last_start ev.names number earlier) n event.delay (rows_from e ks)) (txs_fault ev (onto (map (start_of e) ks) earlier) (n + length ks) rest)
     walk [] earlier n rest = let same : n ≡ n + 0 = omega arith in ap (λ m. txs_fault ev earlier m rest) same
     walk (k ∷ ks) earlier n rest =
         let first = start_fault (last_start ev.names number earlier) n event.delay (row k) in
         let after = onto (map (start_of e) ks) (start_of e k ∷ earlier) in
         let counted : (n + 1) + length ks ≡ n + length (k ∷ ks) = omega arith in
-        ap (λ f. or_else f (txs_fault ev (start_of e k ∷ earlier) (n + 1) (map (start_of e) ks ++ rest))) (fault_is earlier n k)
-        ∙ ap (or_else first) (walk ks (start_of e k ∷ earlier) (n + 1) rest
-        ∙ ap (λ b. or_else (starts_fault b (n + 1) event.delay (rows_from e ks)) (txs_fault ev after ((n + 1) + length ks) rest)) (last_here earlier k)
-        ∙ ap (λ m. or_else (starts_fault (Some (row k)) (n + 1) event.delay (rows_from e ks)) (txs_fault ev after m rest)) counted)
+        ap (λ f. first_fault f (txs_fault ev (start_of e k ∷ earlier) (n + 1) (map (start_of e) ks ++ rest))) (fault_is earlier n k)
+        ∙ ap (first_fault first) (walk ks (start_of e k ∷ earlier) (n + 1) rest
+        ∙ ap (λ b. first_fault (starts_fault b (n + 1) event.delay (rows_from e ks)) (txs_fault ev after ((n + 1) + length ks) rest)) (last_here earlier k)
+        ∙ ap (λ m. first_fault (starts_fault (Some (row k)) (n + 1) event.delay (rows_from e ks)) (txs_fault ev after m rest)) counted)
         ∙ sym (assoc first (starts_fault (Some (row k)) (n + 1) event.delay (rows_from e ks)) (txs_fault ev after (n + length (k ∷ ks)) rest))
 
   -- the transactions of an entry
@@ -103,7 +103,7 @@ broken_told ev event earlier n e ss more f by broken are = rw are (rw (by, broke
 
 module _ (ev : EventList) (last : List (Option ℕ)) (earlier : List Start) (n : ℕ) (e : Starts) (rest : List Start) (has : HasLast ev last earlier) (entry : IsEntry e) where
   abbrev Steps : Type 0
-  Steps = txs_fault ev earlier n (starts_of e ++ rest) ≡ or_else (entry_fault ev last n e) (txs_fault ev (onto (starts_of e) earlier) (n + e.repeat.times) rest)
+  Steps = txs_fault ev earlier n (starts_of e ++ rest) ≡ first_fault (entry_fault ev last n e) (txs_fault ev (onto (starts_of e) earlier) (n + e.repeat.times) rest)
 
   begins : starts_of e ++ rest ≡ start_of e 0 ∷ (map (start_of e) (range_with_len (0 + 1) (e.repeat.times - 1)) ++ rest)
   begins = ap (λ ks. map (start_of e) ks ++ rest) (range_more 0 e.repeat.times entry.some)
@@ -116,8 +116,8 @@ module _ (ev : EventList) (last : List (Option ℕ)) (earlier : List Start) (n :
       let counted : length (range_with_len 0 e.repeat.times) ≡ e.repeat.times = length-range_with_len 0 e.repeat.times in
       let judged : entry_fault ev last n e ≡ starts_fault (last_start ev.names (event_number ev.names e.event) earlier) n event.delay (start_rows e) = rw (by, kept) (ap (λ b. starts_fault b n event.delay (start_rows e)) before) in
       walk ev event e by n kept (range_with_len 0 e.repeat.times) earlier n rest
-      ∙ ap (λ m. or_else (starts_fault (last_start ev.names (event_number ev.names e.event) earlier) n event.delay (start_rows e)) (txs_fault ev (onto (starts_of e) earlier) (n + m) rest)) counted
-      ∙ ap (λ f. or_else f (txs_fault ev (onto (starts_of e) earlier) (n + e.repeat.times) rest)) (sym judged)
+      ∙ ap (λ m. first_fault (starts_fault (last_start ev.names (event_number ev.names e.event) earlier) n event.delay (start_rows e)) (txs_fault ev (onto (starts_of e) earlier) (n + m) rest)) counted
+      ∙ ap (λ f. first_fault f (txs_fault ev (onto (starts_of e) earlier) (n + e.repeat.times) rest)) (sym judged)
 
   by_event : (o : Option Event) → event_by ev e.event ≡ o → Steps
   by_event None by = none_told ev earlier n e (starts_of e ++ rest) _ by begins ∙ sym (rw by refl)
@@ -166,11 +166,11 @@ rows_start e = let all : e.repeat.times - 0 ≡ e.repeat.times = omega arith in 
 
 pub told_on : (before : Option ℕ) (n m delay row : ℕ) (rows left : List ℕ) (all : Option StimEnd) → rows ≡ row ∷ left → start_fault before n delay row ≡ None → m ≡ n + 1 → starts_fault before n delay rows ≡ all → starts_fault (Some row) m delay left ≡ all
 told_on before n m delay row rows left all cut kept counted so_far =
-    ap (λ i. starts_fault (Some row) i delay left) counted ∙ ap (λ f. or_else f (starts_fault (Some row) (n + 1) delay left)) (sym kept) ∙ ap (starts_fault before n delay) (sym cut) ∙ so_far
+    ap (λ i. starts_fault (Some row) i delay left) counted ∙ ap (λ f. first_fault f (starts_fault (Some row) (n + 1) delay left)) (sym kept) ∙ ap (starts_fault before n delay) (sym cut) ∙ so_far
 
 pub told_here : (before : Option ℕ) (n m delay row : ℕ) (rows left : List ℕ) (all : Option StimEnd) (end : StimEnd) → rows ≡ row ∷ left → m ≡ n → IsTold end (start_fault before m delay row) → starts_fault before n delay rows ≡ all → IsTold end all
 told_here before n m delay row rows left all end cut counted told so_far =
-    subst (IsTold end) (ap (λ i. or_else (start_fault before i delay row) (starts_fault (Some row) (n + 1) delay left)) counted ∙ ap (starts_fault before n delay) (sym cut) ∙ so_far)
+    subst (IsTold end) (ap (λ i. first_fault (start_fault before i delay row) (starts_fault (Some row) (n + 1) delay left)) counted ∙ ap (starts_fault before n delay) (sym cut) ∙ so_far)
     (told_first end (start_fault before m delay row) (starts_fault (Some row) (n + 1) delay left) told)
 
 pub last_on : (before : Option ℕ) (row : ℕ) (rows left : List ℕ) (all : Option ℕ) → rows ≡ row ∷ left → last_after before rows ≡ all → last_after (Some row) left ≡ all
@@ -190,7 +190,7 @@ started_is event row values widths given_values given_widths v w = λ i. record 
 
 pub fault_turn : (ev : EventList) (last : List (Option ℕ)) (earlier : List Start) (n : ℕ) (entries : List TxEntry) (i : ℕ) (x : TxEntry) → i < length entries → x ≡ get_or entries i x → HasLast ev last earlier → IsEntry (tx_entry_seen x)
     → txs_fault ev earlier n (starts_in (map tx_entry_seen (drop i entries)))
-    ≡ or_else (entry_fault ev last n (tx_entry_seen x)) (txs_fault ev (onto (starts_of (tx_entry_seen x)) earlier) (n + x.repeat.times) (starts_in (map tx_entry_seen (drop (i + 1) entries))))
+    ≡ first_fault (entry_fault ev last n (tx_entry_seen x)) (txs_fault ev (onto (starts_of (tx_entry_seen x)) earlier) (n + x.repeat.times) (starts_in (map tx_entry_seen (drop (i + 1) entries))))
 fault_turn ev last earlier n entries i x within is has entry =
     ap (λ ys. txs_fault ev earlier n (starts_in (map tx_entry_seen ys))) (cut_at entries i x within is)
     ∙ entry_step ev last earlier n (tx_entry_seen x) (starts_in (map tx_entry_seen (drop (i + 1) entries))) has entry

@@ -22,9 +22,9 @@ abbrev pub decimal_in : Text → Option ℕ
 decimal_in text = if is_decimal text && nat_lt (digits_value 10 text) (2 ^ 128) then Some (digits_value 10 text) else None
 
 -- the first of two
-abbrev pub or_else : Option ℕ → Option ℕ → Option ℕ
-or_else (Some n) other = Some n
-or_else None other = other
+abbrev pub first_given : Option ℕ → Option ℕ → Option ℕ
+first_given (Some n) other = Some n
+first_given None other = other
 
 -- in version 2 a text may stand for a value
 abbrev pub spelled_amount : Version → Data → Option ℕ
@@ -33,7 +33,7 @@ spelled_amount Two value = as_str value >>= decimal_in
 
 -- the value that a number, or in version 2 also a text, gives to a port or a word
 abbrev pub amount_in : Version → Data → Option ℕ
-amount_in version value = or_else (number_in value) (spelled_amount version value)
+amount_in version value = first_given (number_in value) (spelled_amount version value)
 
 abbrev pub version_numbered : ℕ → Option Version
 version_numbered n = if n == 1 then Some One else (if n == 2 then Some Two else None)

@@ -3,7 +3,7 @@ use Rattle.std.specs.Prelude.{ℕ, ◌+◌, ◌^◌, nat_lt, nat_le, length, sli
 use Rattle.std.specs.List.{list_all, position_or_len}
 use Rattle.std.specs.Str.{bytes_eq}
 use Rattle.hw_names.specs.Name.{Text}
-use Rattle.fil_sig.specs.declared.time_sig.SigPort.{SigPort}
+use Rattle.stim_read.specs.declared.shape.InputShape.{InputShape}
 use Rattle.net_core.specs.declared.stimulus.MemShape.{MemShape}
 use Rattle.stim_read.specs.Parts.{is_one_of}
 use Rattle.stim_read.specs.CycleText.{Entry, Words, Cycles}
@@ -17,8 +17,8 @@ pub record Targets : Type 0 where
   pub names : List Text
   pub widths : List ℕ
 
-abbrev pub input_targets : List SigPort → Targets
-input_targets ins = record { names = map (λ (p : SigPort). p.name) ins; widths = map (λ (p : SigPort). p.width) ins }
+abbrev pub input_targets : List InputShape → Targets
+input_targets ins = record { names = map (λ (i : InputShape). i.name) ins; widths = map (λ (i : InputShape). i.width) ins }
 
 abbrev pub memory_targets : List MemShape → Targets
 memory_targets mems = record { names = map (λ (m : MemShape). m.name) mems; widths = map (λ (m : MemShape). m.width) mems }
@@ -48,9 +48,9 @@ abbrev pub refused : ℕ → ℕ → StimEnd
 refused rule entry = Refused rule entry 0 0 0
 
 -- the first of two
-abbrev pub or_else : Option StimEnd → Option StimEnd → Option StimEnd
-or_else (Some fault) later = Some fault
-or_else None later = later
+abbrev pub first_fault : Option StimEnd → Option StimEnd → Option StimEnd
+first_fault (Some fault) later = Some fault
+first_fault None later = later
 
 -- the end, where the rule is broken
 abbrev pub unless : Bool → StimEnd → Option StimEnd
@@ -64,35 +64,35 @@ order_fault (Some before) entry from = unless (nat_lt before from) (Refused 5 en
 -- S3, S4 and S5 in an entry of inputs, whose number is counted from 0
 abbrev pub input_fault : Targets → Option ℕ → ℕ → Entry → Option StimEnd
 input_fault targets before number entry =
-    or_else (unless (list_all (has_known_name targets.names) entry.given) (refused 3 number)) (
-    or_else (unless (list_all (given_fits targets) entry.given) (refused 4 number)) (order_fault before number entry.from))
+    first_fault (unless (list_all (has_known_name targets.names) entry.given) (refused 3 number)) (
+    first_fault (unless (list_all (given_fits targets) entry.given) (refused 4 number)) (order_fault before number entry.from))
 
 abbrev pub inputs_fault : Targets → Option ℕ → ℕ → List Entry → Option StimEnd
 inputs_fault targets before number [] = None
 inputs_fault targets before number (entry ∷ others) =
-    or_else (input_fault targets before number entry) (inputs_fault targets (Some entry.from) (number + 1) others)
+    first_fault (input_fault targets before number entry) (inputs_fault targets (Some entry.from) (number + 1) others)
 
 -- S3, S7 and S4 in a memory, which is an entry too
 abbrev pub memory_fault : Targets → List ℕ → ℕ → Words → Option StimEnd
 memory_fault targets sizes number memory =
-    or_else (unless (is_one_of targets.names memory.name) (refused 3 number)) (
-    or_else (unless (nat_le (length memory.words) (slice_index sizes (place_in targets.names memory.name))) (refused 7 number)) (
+    first_fault (unless (is_one_of targets.names memory.name) (refused 3 number)) (
+    first_fault (unless (nat_le (length memory.words) (slice_index sizes (place_in targets.names memory.name))) (refused 7 number)) (
     unless (list_all (fits_width (width_of targets memory.name)) memory.words) (refused 4 number)))
 
 abbrev pub memories_fault : Targets → List ℕ → ℕ → List Words → Option StimEnd
 memories_fault targets sizes number [] = None
 memories_fault targets sizes number (memory ∷ others) =
-    or_else (memory_fault targets sizes number memory) (memories_fault targets sizes (number + 1) others)
+    first_fault (memory_fault targets sizes number memory) (memories_fault targets sizes (number + 1) others)
 
 -- the limits on the entries of inputs and on the rows
 abbrev pub limit_fault : Cycles → Option StimEnd
 limit_fault c =
-    or_else (unless (nat_le (length c.inputs) MOST_TRANSACTIONS) (Limit (length c.inputs) MOST_TRANSACTIONS false))
+    first_fault (unless (nat_le (length c.inputs) MOST_TRANSACTIONS) (Limit (length c.inputs) MOST_TRANSACTIONS false))
     (unless (nat_le c.cycles MOST_CYCLES) (Limit c.cycles MOST_CYCLES true))
 
 -- the first limit or rule that a stimulus does not keep; memories are counted on after the inputs
-abbrev pub cycles_fault : List SigPort → List MemShape → Cycles → Option StimEnd
+abbrev pub cycles_fault : List InputShape → List MemShape → Cycles → Option StimEnd
 cycles_fault ins mems c =
-    or_else (limit_fault c) (
-    or_else (inputs_fault (input_targets ins) None 0 c.inputs)
+    first_fault (limit_fault c) (
+    first_fault (inputs_fault (input_targets ins) None 0 c.inputs)
     (memories_fault (memory_targets mems) (sizes_of mems) (length c.inputs) c.memories))

@@ -4,7 +4,7 @@ use Rattle.std.specs.Str.{IsUtf8}
 use Rattle.hw_bits.specs.Values.{values_of, widths_of}
 use Rattle.serde_json.specs.Data.{Data}
 use Rattle.serde_json.specs.Read.{read}
-use Rattle.fil_sig.specs.declared.time_sig.SigPort.{SigPort}
+use Rattle.stim_read.specs.declared.shape.InputShape.{InputShape}
 use Rattle.net_core.specs.declared.stimulus.CycleList.{CycleList}
 use Rattle.net_core.specs.declared.stimulus.InputSet.{InputSet}
 use Rattle.net_core.specs.declared.stimulus.MemLoad.{MemLoad}
@@ -45,7 +45,7 @@ abbrev pub load_of : Targets → Words → Load
 load_of targets memory =
     record { memory = place_in targets.names memory.name; values = memory.words; widths = map (λ _. width_of targets memory.name) memory.words }
 
-abbrev pub run_of : List SigPort → List MemShape → Cycles → Run
+abbrev pub run_of : List InputShape → List MemShape → Cycles → Run
 run_of ins mems c =
     record {
       cycles = c.cycles;
@@ -79,7 +79,7 @@ pub record SayCycles (bytes : List ℕ) (c : Cycles) : Type 0 where
   pub says : cycles_in value ≡ Some c
 
 -- the bytes say a stimulus that keeps the rules and the limits, and it gives this run
-pub record GiveRun (bytes : List ℕ) (ins : List SigPort) (mems : List MemShape) (run : Run) : Type 0 where
+pub record GiveRun (bytes : List ℕ) (ins : List InputShape) (mems : List MemShape) (run : Run) : Type 0 where
   pub stimulus : Cycles
   pub said : SayCycles bytes stimulus
   pub kept : cycles_fault ins mems stimulus ≡ None
@@ -106,6 +106,6 @@ Tells (Ok x) fault = fault ≡ None
 Tells (Err end) fault = IsTold end fault
 
 -- the cause for which the bytes give no run
-pub data IsCause (bytes : List ℕ) (ins : List SigPort) (mems : List MemShape) : StimEnd → Type 0 where
+pub data IsCause (bytes : List ℕ) (ins : List InputShape) (mems : List MemShape) : StimEnd → Type 0 where
   NoStimulus : (end : StimEnd) → IsUnsaid bytes end → IsCause bytes ins mems end
   ByRule : (c : Cycles) (end : StimEnd) → SayCycles bytes c → IsTold end (cycles_fault ins mems c) → IsCause bytes ins mems end

@@ -4,7 +4,7 @@ use Rattle.std.specs.List.Sorted.{IsNonDecreasingBy}
 use Rattle.hw_bits.specs.Values.{widths_of}
 use Rattle.fil_ast.specs.Signature.{Fixed, SigEvent, Signature}
 use Rattle.fil_ast.specs.declared.tx.Tx.{Tx}
-use Rattle.fil_sig.specs.declared.time_sig.SigPort.{SigPort}
+use Rattle.stim_read.specs.declared.shape.InputShape.{InputShape}
 use Rattle.net_core.specs.declared.stimulus.CycleList.{CycleList}
 use Rattle.net_core.specs.declared.stimulus.InputSet.{InputSet}
 use Rattle.net_core.specs.declared.stimulus.MemLoad.{MemLoad}
@@ -15,7 +15,7 @@ use Rattle.stim_read.specs.TxRun.{Transaction}
 use Rattle.stim_read.specs.declared.limits.TheConstants.{MOST_CYCLES}
 
 -- one of these inputs, by its place, is set to a value of that input's width
-abbrev pub SetsInput : List SigPort → InputSet → Type 0
+abbrev pub SetsInput : List InputShape → InputSet → Type 0
 SetsInput ins s = slice_get (input_targets ins).widths s.input ≡ Some s.value.width
 
 -- one of these memories, by its place, is loaded with no more words than it has, each of its width
@@ -26,7 +26,7 @@ pub record LoadsMemory (mems : List MemShape) (load : MemLoad) : Type 0 where
   pub widths : All (λ w. w ≡ memory.width) (widths_of load.words.items)
 
 -- what is set fits the inputs and stands in the order of its rows, and what is loaded fits the memories
-pub record FitsRun (ins : List SigPort) (mems : List MemShape) (list : CycleList) : Type 0 where
+pub record FitsRun (ins : List InputShape) (mems : List MemShape) (list : CycleList) : Type 0 where
   pub sets : All (SetsInput ins) list.sets.items
   pub in_order : IsNonDecreasingBy (λ (s : InputSet). s.from) list.sets.items
   pub loads : All (LoadsMemory mems) list.loads.items

@@ -1,3 +1,4 @@
+pub mod inside
 pub use Rattle.fil_ast.specs.Signature
 pub mod Parts
 pub mod Amounts
@@ -9,4 +10,3 @@ pub mod TxEvents
 pub mod Fits
 pub mod TxRules
 pub mod TxRun
-pub mod TxWalk

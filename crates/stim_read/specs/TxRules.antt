@@ -4,7 +4,7 @@ use Rattle.std.specs.List.{list_all, range_with_len}
 use Rattle.std.specs.Option.{unwrap_or}
 use Rattle.std.specs.Str.{bytes_eq}
 use Rattle.hw_names.specs.Name.{Text}
-use Rattle.stim_read.specs.CycleRules.{Targets, has_known_name, fits_width, place_in, refused, or_else, unless}
+use Rattle.stim_read.specs.CycleRules.{Targets, has_known_name, fits_width, place_in, refused, first_fault, unless}
 use Rattle.stim_read.specs.TxText.{Starts}
 use Rattle.stim_read.specs.TxEvents.{Event, EventList}
 use Rattle.stim_read.specs.declared.given.Given.{Given}
@@ -64,8 +64,8 @@ all_fit (width ∷ widths) (value ∷ values) = fits_width width value && all_fi
 -- S3, S6 and S4: each name is an input, each input has a value, and the values fit the inputs' widths
 abbrev pub values_fault : Targets → ℕ → List Given → Option StimEnd
 values_fault inputs number given =
-    or_else (unless (list_all (has_known_name inputs.names) given) (refused 3 number)) (
-    or_else (unless (list_all (is_given given) inputs.names) (refused 6 number))
+    first_fault (unless (list_all (has_known_name inputs.names) given) (refused 3 number)) (
+    first_fault (unless (list_all (is_given given) inputs.names) (refused 6 number))
     (unless (all_fit inputs.widths (map (value_or_0 given) inputs.names)) (refused 4 number)))
 
 -- the last start of the event with this number among the earlier ones, of which the latest stands first
@@ -81,11 +81,11 @@ start_fault (Some before) number delay start = unless (nat_le (before + delay) s
 -- S3, S6, S4 and S5 at a start, whose number is counted from 0
 abbrev pub event_fault : Option Event → Option ℕ → ℕ → Start → Option StimEnd
 event_fault None before number s = Some (refused 3 number)
-event_fault (Some event) before number s = or_else (values_fault event.inputs number s.given) (start_fault before number event.delay s.start)
+event_fault (Some event) before number s = first_fault (values_fault event.inputs number s.given) (start_fault before number event.delay s.start)
 
 abbrev pub tx_fault : EventList → List Start → ℕ → Start → Option StimEnd
 tx_fault events earlier number s = event_fault (event_by events s.event) (last_start events.names (event_number events.names s.event) earlier) number s
 
 abbrev pub txs_fault : EventList → List Start → ℕ → List Start → Option StimEnd
 txs_fault events earlier number [] = None
-txs_fault events earlier number (s ∷ later) = or_else (tx_fault events earlier number s) (txs_fault events (s ∷ earlier) (number + 1) later)
+txs_fault events earlier number (s ∷ later) = first_fault (tx_fault events earlier number s) (txs_fault events (s ∷ earlier) (number + 1) later)

@@ -5,7 +5,7 @@ use Rattle.hw_bits.specs.Values.{values_of, widths_of}
 use Rattle.serde_json.specs.Data.{Data}
 use Rattle.fil_ast.specs.declared.tx.Tx.{Tx}
 use Rattle.fil_ast.specs.declared.tx.TxList.{TxList}
-use Rattle.stim_read.specs.CycleRules.{Targets, refused, or_else, unless}
+use Rattle.stim_read.specs.CycleRules.{Targets, refused, first_fault, unless}
 use Rattle.stim_read.specs.CycleRun.{IsJson, IsNoJson, IsTold}
 use Rattle.stim_read.specs.TxText.{Starts, Transactions, transactions_in}
 use Rattle.stim_read.specs.TxEvents.{Event, EventList}
@@ -72,8 +72,8 @@ rows_fault rows = unless (nat_le rows MOST_CYCLES) (Limit rows MOST_CYCLES true)
 -- the first limit or rule that a stimulus does not keep: the number of transactions, S3 to S6, and the number of rows
 abbrev pub transactions_fault : EventList → Transactions → Option StimEnd
 transactions_fault events t =
-    or_else (count_fault (count_of t.entries)) (
-    or_else (txs_fault events [] 0 (starts_in t.entries)) (
+    first_fault (count_fault (count_of t.entries)) (
+    first_fault (txs_fault events [] 0 (starts_in t.entries)) (
     rows_fault (run_rows events.events (tx_run_of events t).transactions)))
 
 -- ---- the same as the program holds it

@@ -3,7 +3,7 @@ ghost use Rattle.std.specs.Prelude.{◌≡◌, ◌<◌, ◌≤◌, ◌++◌, [],
 ghost use Rattle.std.specs.List.{list_all};
 ghost use Rattle.hw_bits.specs.declared.bits.TheConstants.{MAX_WIDTH};
 ghost use Rattle.hw_names.specs.Name.{AreDistinct};
-ghost use Rattle.fil_sig.specs.declared.time_sig.SigPort.{SigPort};
+ghost use Rattle.stim_read.specs.declared.shape.InputShape.{InputShape};
 ghost use Rattle.stim_read.specs.CycleText.{entry_seen};
 ghost use Rattle.stim_read.specs.CycleRules.{input_targets, has_known_name, given_fits, order_fault, input_fault, inputs_fault};
 ghost use Rattle.stim_read.specs.CycleRun.{setting_of, settings_of, setting_seen, Tells};
@@ -11,8 +11,8 @@ ghost use Rattle.stim_read.specs.CycleRun.{setting_of, settings_of, setting_seen
 use crate::cycle_text::InputEntry;
 use crate::given::Given;
 use crate::places::{input_names, place};
+use crate::shape::InputShape;
 use crate::stim_end::{StimEnd, refused};
-use fil_sig::SigPort;
 use hw_bits::{Bits, Memory};
 use hw_names::Names;
 use net_core::InputSet;
@@ -31,9 +31,9 @@ fn are_known(names: &Names, given: &[Given]) -> bool
 }
 
 /// What a known input is set to from this row on; `None` where the value is too wide.
-fn setting(names: &Names, ins: &[SigPort], from: u64, given: &Given) -> Option<InputSet>
+fn setting(names: &Names, ins: &[InputShape], from: u64, given: &Given) -> Option<InputSet>
     requires names { names.now ≡ (input_targets ins.now).names }
-    requires widths { All (λ (p : SigPort). (1 ≤ p.width) × (p.width ≤ MAX_WIDTH)) ins.now }
+    requires widths { All (λ (i : InputShape). (1 ≤ i.width) × (i.width ≤ MAX_WIDTH)) ins.now }
     requires known { has_known_name names.now given.now ≡ true }
     ensures { MatchOption result (given_fits (input_targets ins.now) given.now ≡ false)
         (λ set. (given_fits (input_targets ins.now) given.now ≡ true) × (setting_seen set ≡ setting_of (input_targets ins.now) from given.now)) }
@@ -46,13 +46,13 @@ fn setting(names: &Names, ins: &[SigPort], from: u64, given: &Given) -> Option<I
 /// Puts what an entry's known inputs are set to last; says whether each value fits.
 fn push_settings(
     names: &Names,
-    ins: &[SigPort],
+    ins: &[InputShape],
     from: u64,
     given: &[Given],
     sets: &mut Vec<InputSet>,
 ) -> Result<bool, Memory>
     requires names { names.now ≡ (input_targets ins.now).names }
-    requires widths { All (λ (p : SigPort). (1 ≤ p.width) × (p.width ≤ MAX_WIDTH)) ins.now }
+    requires widths { All (λ (i : InputShape). (1 ≤ i.width) × (i.width ≤ MAX_WIDTH)) ins.now }
     requires known { list_all (has_known_name names.now) given.now ≡ true }
     ensures fit { IfOk result (λ fit. fit ≡ list_all (given_fits (input_targets ins.now)) given.now) }
     ensures pushed { result ≡ Ok true
@@ -86,14 +86,14 @@ fn check_order(before: Option<u64>, entry: u64, from: u64) -> Result<(), StimEnd
 /// Judges an entry, and puts what it sets last.
 fn take_entry(
     names: &Names,
-    ins: &[SigPort],
+    ins: &[InputShape],
     before: Option<u64>,
     number: u64,
     entry: &InputEntry,
     sets: &mut Vec<InputSet>,
 ) -> Result<(), StimEnd>
     requires names { names.now ≡ (input_targets ins.now).names }
-    requires widths { All (λ (p : SigPort). (1 ≤ p.width) × (p.width ≤ MAX_WIDTH)) ins.now }
+    requires widths { All (λ (i : InputShape). (1 ≤ i.width) × (i.width ≤ MAX_WIDTH)) ins.now }
     ensures told { Tells result (input_fault (input_targets ins.now) before number (entry_seen entry.now)) }
     ensures pushed { OnOk result (map setting_seen sets.new.items ≡ map setting_seen sets.old.items ++ settings_of (input_targets ins.now) (entry_seen entry.now)) }
 {
@@ -109,11 +109,11 @@ fn take_entry(
 /// What the entries set, in their order; else the first rule that is broken.
 pub(crate) fn settings(
     alloc: Global,
-    ins: &[SigPort],
+    ins: &[InputShape],
     entries: &[InputEntry],
 ) -> Result<Vec<InputSet>, StimEnd>
     requires names { AreDistinct (input_targets ins.now).names }
-    requires widths { All (λ (p : SigPort). (1 ≤ p.width) × (p.width ≤ MAX_WIDTH)) ins.now }
+    requires widths { All (λ (i : InputShape). (1 ≤ i.width) × (i.width ≤ MAX_WIDTH)) ins.now }
     ensures told { Tells result (inputs_fault (input_targets ins.now) None 0 (map entry_seen entries.now)) }
     ensures settings { IfOk result (λ sets. map setting_seen sets.items ≡ flat_map (settings_of (input_targets ins.now)) (map entry_seen entries.now)) }
 {

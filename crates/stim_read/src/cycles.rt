@@ -2,7 +2,7 @@
 ghost use Rattle.std.specs.Prelude.{◌≡◌, ◌≤◌, Some, None, map, All, IfOk, IfErr, MatchResult};
 ghost use Rattle.hw_bits.specs.declared.bits.TheConstants.{MAX_WIDTH};
 ghost use Rattle.hw_names.specs.Name.{AreDistinct};
-ghost use Rattle.fil_sig.specs.declared.time_sig.SigPort.{SigPort};
+ghost use Rattle.stim_read.specs.declared.shape.InputShape.{InputShape};
 ghost use Rattle.net_core.specs.declared.stimulus.MemShape.{MemShape};
 ghost use Rattle.serde_json.specs.View.{view};
 ghost use Rattle.stim_read.specs.CycleText.{cycles_seen};
@@ -14,8 +14,8 @@ use crate::cycle_inputs::settings;
 use crate::cycle_memories::loads;
 use crate::cycle_text::{CycleText, read_cycle_text};
 use crate::limits::{MOST_CYCLES, MOST_TRANSACTIONS};
+use crate::shape::InputShape;
 use crate::stim_end::{StimEnd, refused};
-use fil_sig::SigPort;
 use net_core::{CycleList, MemShape};
 use serde_json::Value;
 use std::alloc::Global;
@@ -69,13 +69,13 @@ fn check_limits(text: &CycleText) -> Result<(), StimEnd>
 /// What a stimulus gives to a run; else the first limit or rule that it does not keep.
 fn judge(
     alloc: Global,
-    ins: &[SigPort],
+    ins: &[InputShape],
     mems: &[MemShape],
     text: &CycleText,
 ) -> Result<CycleList, StimEnd>
     requires inputs { AreDistinct (input_targets ins.now).names }
     requires memories { AreDistinct (memory_targets mems.now).names }
-    requires input_widths { All (λ (p : SigPort). (1 ≤ p.width) × (p.width ≤ MAX_WIDTH)) ins.now }
+    requires input_widths { All (λ (i : InputShape). (1 ≤ i.width) × (i.width ≤ MAX_WIDTH)) ins.now }
     requires memory_widths { All (λ (m : MemShape). (1 ≤ m.width) × (m.width ≤ MAX_WIDTH)) mems.now }
     ensures told { Tells result (cycles_fault ins.now mems.now (cycles_seen text.now)) }
     ensures run { IfOk result (λ list. run_seen list ≡ run_of ins.now mems.now (cycles_seen text.now)) }
@@ -96,12 +96,12 @@ fn judge(
 pub fn read_cycles(
     alloc: Global,
     bytes: &[u8],
-    ins: &[SigPort],
+    ins: &[InputShape],
     mems: &[MemShape],
 ) -> Result<CycleList, StimEnd>
     requires inputs { AreDistinct (input_targets ins.now).names }
     requires memories { AreDistinct (memory_targets mems.now).names }
-    requires input_widths { All (λ (p : SigPort). (1 ≤ p.width) × (p.width ≤ MAX_WIDTH)) ins.now }
+    requires input_widths { All (λ (i : InputShape). (1 ≤ i.width) × (i.width ≤ MAX_WIDTH)) ins.now }
     requires memory_widths { All (λ (m : MemShape). (1 ≤ m.width) × (m.width ≤ MAX_WIDTH)) mems.now }
     ensures run { IfOk result (λ list. GiveRun bytes.now ins.now mems.now (run_seen list)) }
     ensures fits { IfOk result (FitsRun ins.now mems.now) }

@@ -4,14 +4,15 @@ ghost use Rattle.hw_names.specs.Name.{AreDistinct};
 ghost use Rattle.stim_read.specs.Parts.{is_one_of};
 ghost use Rattle.stim_read.specs.CycleRules.{input_targets, memory_targets, place_in};
 
-use fil_sig::{SigPort, add_name};
+use crate::shape::InputShape;
+use fil_sig::add_name;
 use hw_bits::Memory;
 use hw_names::Names;
 use net_core::MemShape;
 use std::alloc::Global;
 
 /// The names of inputs, which differ.
-pub(crate) fn input_names(alloc: Global, ins: &[SigPort]) -> Result<Names, Memory>
+pub(crate) fn input_names(alloc: Global, ins: &[InputShape]) -> Result<Names, Memory>
     requires { AreDistinct (input_targets ins.now).names }
     ensures { IfOk result (λ names. names ≡ (input_targets ins.now).names) }
 {

@@ -5,7 +5,7 @@ ghost use Rattle.stim_read.specs.CycleRun.{Tells};
 ghost use Rattle.stim_read.specs.TxText.{tx_entry_seen};
 ghost use Rattle.stim_read.specs.TxRules.{start_fault};
 ghost use Rattle.stim_read.specs.TxRun.{Transaction, transaction_seen};
-ghost use Rattle.stim_read.specs.TxWalk.{IsEntry, start_rows, starts_fault, last_after, started};
+ghost use Rattle.stim_read.specs.inside.TxWalk.{IsEntry, start_rows, starts_fault, last_after, started};
 
 use crate::stim_end::StimEnd;
 use crate::tx_text::TxEntry;

@@ -7,7 +7,7 @@ ghost use Rattle.stim_read.specs.CycleRules.{has_known_name};
 ghost use Rattle.stim_read.specs.CycleRun.{Tells};
 ghost use Rattle.stim_read.specs.TxEvents.{event_seen};
 ghost use Rattle.stim_read.specs.TxRules.{value_given, value_or_0, or_0, all_fit, values_fault};
-ghost use Rattle.stim_read.specs.TxWalk.{HasWidths};
+ghost use Rattle.stim_read.specs.inside.TxWalk.{HasWidths};
 
 use crate::events::EventInputs;
 use crate::given::Given;

@@ -8,7 +8,7 @@ ghost use Rattle.stim_read.specs.CycleRun.{Tells};
 ghost use Rattle.stim_read.specs.TxText.{tx_entry_seen, transactions_seen};
 ghost use Rattle.stim_read.specs.TxEvents.{event_names, port_targets, events_of, event_seen, events_seen, HasFixedDelay};
 ghost use Rattle.stim_read.specs.TxRules.{starts_of, starts_in, event_number, txs_fault};
-ghost use Rattle.stim_read.specs.TxWalk.{IsEntry, HasWidths, AreUsable, start_rows, last_after, last_by, entry_fault};
+ghost use Rattle.stim_read.specs.inside.TxWalk.{IsEntry, HasWidths, AreUsable, start_rows, last_after, last_by, entry_fault};
 ghost use Rattle.stim_read.specs.TxRun.{count_of, count_fault, end_of, run_rows, rows_fault, transaction_of, tx_run_of, transactions_fault, transaction_seen, tx_run_seen, SayTransactions, GiveTransactions, IsNoTransactions, IsTxCause};
 ghost use Rattle.stim_read.specs.Fits.{AreLegal, FitsSignature};
 

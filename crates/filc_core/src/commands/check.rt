@@ -18,7 +18,7 @@ pub(crate) struct Check<'a> {
 }
 
 impl<'a> Check<'a> {
-    ghost use Rattle.filc_core.specs.Told.{check_told};
+    ghost use Rattle.filc_core.specs.inside.Told.{check_told};
 
     /// What words ask for, if they are those of `check`.
     pub(crate) fn asked(words: &[&'a str]) -> Option<Check<'a>>
@@ -36,7 +36,7 @@ impl<'a> Check<'a> {
 }
 
 impl Command for Check<'_> {
-    ghost use Rattle.filc_core.specs.Told.{check_told};
+    ghost use Rattle.filc_core.specs.inside.Told.{check_told};
 
     ghost request = { λ c. OfCheck (check_told c) };
 

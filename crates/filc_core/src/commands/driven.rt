@@ -13,7 +13,7 @@ pub(crate) struct Driven<'a> {
 
 impl<'a> Driven<'a> {
     ghost use Rattle.filc_core.specs.commands.Driven.{AsksWith};
-    ghost use Rattle.filc_core.specs.Told.{driven_told};
+    ghost use Rattle.filc_core.specs.inside.Told.{driven_told};
 
     /// What words ask for, if they are those of the command with this word, for files in this language.
     pub(crate) fn asked(language: Language, command: &str, words: &[&'a str]) -> Option<Driven<'a>>

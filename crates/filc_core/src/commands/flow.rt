@@ -15,7 +15,7 @@ use std::alloc::Global;
 pub(crate) struct Flow<'a>(Started<'a>);
 
 impl<'a> Flow<'a> {
-    ghost use Rattle.filc_core.specs.Told.{flow_told};
+    ghost use Rattle.filc_core.specs.inside.Told.{flow_told};
 
     /// What words ask for, if they are those of `flow`.
     pub(crate) fn asked(words: &[&'a str]) -> Option<Flow<'a>>
@@ -27,7 +27,7 @@ impl<'a> Flow<'a> {
 }
 
 impl Command for Flow<'_> {
-    ghost use Rattle.filc_core.specs.Told.{flow_told};
+    ghost use Rattle.filc_core.specs.inside.Told.{flow_told};
 
     ghost request = { λ c. OfFlow (flow_told c) };
 

@@ -98,7 +98,7 @@ pub(crate) struct Making<'a> {
 }
 
 impl<'a> Making<'a> {
-    ghost use Rattle.filc_core.specs.Told.{making_told};
+    ghost use Rattle.filc_core.specs.inside.Told.{making_told};
 
     /// What words ask for, if they are those of such a command.
     pub(crate) fn asked(words: &[&'a str]) -> Option<Making<'a>>
@@ -151,7 +151,7 @@ impl<'a> Making<'a> {
 }
 
 impl Command for Making<'_> {
-    ghost use Rattle.filc_core.specs.Told.{making_told};
+    ghost use Rattle.filc_core.specs.inside.Told.{making_told};
 
     ghost request = { λ c. OfMaking (making_told c) };
 

@@ -20,7 +20,7 @@ pub(crate) struct Rows<'a> {
 }
 
 impl<'a> Rows<'a> {
-    ghost use Rattle.filc_core.specs.Told.{rows_told};
+    ghost use Rattle.filc_core.specs.inside.Told.{rows_told};
 
     /// What words ask for, if they are those of `rows`.
     pub(crate) fn asked(words: &[&'a str]) -> Option<Rows<'a>>
@@ -38,7 +38,7 @@ impl<'a> Rows<'a> {
 }
 
 impl Command for Rows<'_> {
-    ghost use Rattle.filc_core.specs.Told.{rows_told};
+    ghost use Rattle.filc_core.specs.inside.Told.{rows_told};
 
     ghost request = { λ c. OfRows (rows_told c) };
 

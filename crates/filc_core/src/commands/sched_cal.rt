@@ -15,7 +15,7 @@ use std::alloc::Global;
 pub(crate) struct SchedCal<'a>(Driven<'a>);
 
 impl<'a> SchedCal<'a> {
-    ghost use Rattle.filc_core.specs.Told.{sched_cal_told};
+    ghost use Rattle.filc_core.specs.inside.Told.{sched_cal_told};
 
     /// What words ask for, if they are those of `sched`.
     pub(crate) fn asked(words: &[&'a str]) -> Option<SchedCal<'a>>
@@ -27,7 +27,7 @@ impl<'a> SchedCal<'a> {
 }
 
 impl Command for SchedCal<'_> {
-    ghost use Rattle.filc_core.specs.Told.{sched_cal_told};
+    ghost use Rattle.filc_core.specs.inside.Told.{sched_cal_told};
 
     ghost request = { λ c. OfSchedCal (sched_cal_told c) };
 

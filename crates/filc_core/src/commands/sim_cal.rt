@@ -16,7 +16,7 @@ use std::alloc::Global;
 pub(crate) struct SimCal<'a>(Driven<'a>);
 
 impl<'a> SimCal<'a> {
-    ghost use Rattle.filc_core.specs.Told.{sim_cal_told};
+    ghost use Rattle.filc_core.specs.inside.Told.{sim_cal_told};
 
     /// What words ask for, if they are those of `sim` for a Calyx design.
     pub(crate) fn asked(words: &[&'a str]) -> Option<SimCal<'a>>
@@ -28,7 +28,7 @@ impl<'a> SimCal<'a> {
 }
 
 impl Command for SimCal<'_> {
-    ghost use Rattle.filc_core.specs.Told.{sim_cal_told};
+    ghost use Rattle.filc_core.specs.inside.Told.{sim_cal_told};
 
     ghost request = { λ c. OfSimCal (sim_cal_told c) };
 

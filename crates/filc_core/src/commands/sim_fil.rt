@@ -15,7 +15,7 @@ use std::alloc::Global;
 pub(crate) struct SimFil<'a>(Started<'a>);
 
 impl<'a> SimFil<'a> {
-    ghost use Rattle.filc_core.specs.Told.{sim_fil_told};
+    ghost use Rattle.filc_core.specs.inside.Told.{sim_fil_told};
 
     /// What words ask for, if they are those of `sim` for a Filament design.
     pub(crate) fn asked(words: &[&'a str]) -> Option<SimFil<'a>>
@@ -27,7 +27,7 @@ impl<'a> SimFil<'a> {
 }
 
 impl Command for SimFil<'_> {
-    ghost use Rattle.filc_core.specs.Told.{sim_fil_told};
+    ghost use Rattle.filc_core.specs.inside.Told.{sim_fil_told};
 
     ghost request = { λ c. OfSimFil (sim_fil_told c) };
 

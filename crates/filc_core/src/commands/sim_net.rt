@@ -15,7 +15,7 @@ use std::alloc::Global;
 pub(crate) struct SimNet<'a>(Driven<'a>);
 
 impl<'a> SimNet<'a> {
-    ghost use Rattle.filc_core.specs.Told.{sim_net_told};
+    ghost use Rattle.filc_core.specs.inside.Told.{sim_net_told};
 
     /// What words ask for, if they are those of `sim` for a netlist.
     pub(crate) fn asked(words: &[&'a str]) -> Option<SimNet<'a>>
@@ -27,7 +27,7 @@ impl<'a> SimNet<'a> {
 }
 
 impl Command for SimNet<'_> {
-    ghost use Rattle.filc_core.specs.Told.{sim_net_told};
+    ghost use Rattle.filc_core.specs.inside.Told.{sim_net_told};
 
     ghost request = { λ c. OfSimNet (sim_net_told c) };
 

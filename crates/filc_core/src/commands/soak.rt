@@ -17,7 +17,7 @@ pub(crate) struct Soak {
 }
 
 impl Soak {
-    ghost use Rattle.filc_core.specs.Told.{soak_told};
+    ghost use Rattle.filc_core.specs.inside.Told.{soak_told};
 
     /// What words ask for, if they are those of `soak`.
     pub(crate) fn asked(words: &[&str]) -> Option<Soak>
@@ -34,7 +34,7 @@ impl Soak {
 }
 
 impl Command for Soak {
-    ghost use Rattle.filc_core.specs.Told.{soak_told};
+    ghost use Rattle.filc_core.specs.inside.Told.{soak_told};
 
     ghost request = { λ c. OfSoak (soak_told c) };
 

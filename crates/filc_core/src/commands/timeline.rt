@@ -15,7 +15,7 @@ use std::alloc::Global;
 pub(crate) struct Timeline<'a>(Started<'a>);
 
 impl<'a> Timeline<'a> {
-    ghost use Rattle.filc_core.specs.Told.{timeline_told};
+    ghost use Rattle.filc_core.specs.inside.Told.{timeline_told};
 
     /// What words ask for, if they are those of `timeline`.
     pub(crate) fn asked(words: &[&'a str]) -> Option<Timeline<'a>>
@@ -27,7 +27,7 @@ impl<'a> Timeline<'a> {
 }
 
 impl Command for Timeline<'_> {
-    ghost use Rattle.filc_core.specs.Told.{timeline_told};
+    ghost use Rattle.filc_core.specs.inside.Told.{timeline_told};
 
     ghost request = { λ c. OfTimeline (timeline_told c) };
 

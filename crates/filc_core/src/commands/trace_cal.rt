@@ -17,7 +17,7 @@ use std::alloc::Global;
 pub(crate) struct TraceCal<'a>(Driven<'a>);
 
 impl<'a> TraceCal<'a> {
-    ghost use Rattle.filc_core.specs.Told.{trace_cal_told};
+    ghost use Rattle.filc_core.specs.inside.Told.{trace_cal_told};
 
     /// What words ask for, if they are those of `trace` for a Calyx design.
     pub(crate) fn asked(words: &[&'a str]) -> Option<TraceCal<'a>>
@@ -29,7 +29,7 @@ impl<'a> TraceCal<'a> {
 }
 
 impl Command for TraceCal<'_> {
-    ghost use Rattle.filc_core.specs.Told.{trace_cal_told};
+    ghost use Rattle.filc_core.specs.inside.Told.{trace_cal_told};
 
     ghost request = { λ c. OfTraceCal (trace_cal_told c) };
 

@@ -15,7 +15,7 @@ use std::alloc::Global;
 pub(crate) struct TraceFil<'a>(Started<'a>);
 
 impl<'a> TraceFil<'a> {
-    ghost use Rattle.filc_core.specs.Told.{trace_fil_told};
+    ghost use Rattle.filc_core.specs.inside.Told.{trace_fil_told};
 
     /// What words ask for, if they are those of `trace` for a Filament design.
     pub(crate) fn asked(words: &[&'a str]) -> Option<TraceFil<'a>>
@@ -27,7 +27,7 @@ impl<'a> TraceFil<'a> {
 }
 
 impl Command for TraceFil<'_> {
-    ghost use Rattle.filc_core.specs.Told.{trace_fil_told};
+    ghost use Rattle.filc_core.specs.inside.Told.{trace_fil_told};
 
     ghost request = { λ c. OfTraceFil (trace_fil_told c) };
 

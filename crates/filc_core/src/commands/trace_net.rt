@@ -16,7 +16,7 @@ use std::alloc::Global;
 pub(crate) struct TraceNet<'a>(Driven<'a>);
 
 impl<'a> TraceNet<'a> {
-    ghost use Rattle.filc_core.specs.Told.{trace_net_told};
+    ghost use Rattle.filc_core.specs.inside.Told.{trace_net_told};
 
     /// What words ask for, if they are those of `trace` for a netlist.
     pub(crate) fn asked(words: &[&'a str]) -> Option<TraceNet<'a>>
@@ -28,7 +28,7 @@ impl<'a> TraceNet<'a> {
 }
 
 impl Command for TraceNet<'_> {
-    ghost use Rattle.filc_core.specs.Told.{trace_net_told};
+    ghost use Rattle.filc_core.specs.inside.Told.{trace_net_told};
 
     ghost request = { λ c. OfTraceNet (trace_net_told c) };
 

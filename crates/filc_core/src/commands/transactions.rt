@@ -13,7 +13,7 @@ pub(crate) struct Started<'a> {
 
 impl<'a> Started<'a> {
     ghost use Rattle.filc_core.specs.commands.Transactions.{AsksWith};
-    ghost use Rattle.filc_core.specs.Told.{started_told};
+    ghost use Rattle.filc_core.specs.inside.Told.{started_told};
 
     /// What words ask for, if they are a command's of this word.
     pub(crate) fn asked(command: &str, words: &[&'a str]) -> Option<Started<'a>>

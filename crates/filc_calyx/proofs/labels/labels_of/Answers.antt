@@ -3,7 +3,7 @@ use Rattle.std.specs.Prelude.{codes, decimal}
 use Rattle.hw_names.specs.Name.{Text, text_of}
 use Rattle.cal_ast.specs.declared.tree.Group.{Group}
 use Rattle.cal_walk.specs.declared.planning.Invoke.{Invoke}
-use Rattle.filc_calyx.specs.Scheduling.{label_texts}
+use Rattle.filc_calyx.specs.inside.Scheduling.{label_texts}
 use Rattle.filc_calyx.proofs.LabelLemmas.{labels_are}
 use Rattle.filc_calyx.proofs.labels.labels_of.Goals as goal
 

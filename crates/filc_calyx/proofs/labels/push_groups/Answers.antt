@@ -3,7 +3,7 @@ use Rattle.std.specs.Prelude.{codes}
 use Rattle.hw_names.proofs.NameLemmas.{text_of-slice_get}
 use Rattle.hw_names.specs.Name.{Text, text_of}
 use Rattle.cal_ast.specs.declared.tree.Group.{Group}
-use Rattle.filc_calyx.specs.Scheduling.{label_texts}
+use Rattle.filc_calyx.specs.inside.Scheduling.{label_texts}
 use Rattle.filc_calyx.proofs.LabelLemmas.{label_more}
 use Rattle.filc_calyx.proofs.labels.push_groups.Goals as goal
 

@@ -2,7 +2,7 @@ use Rattle.std.proofs.Common.{◌≡◌, ◌++◌, map, take}
 use Rattle.std.specs.Prelude.{codes}
 use Rattle.hw_names.specs.Name.{text_of}
 use Rattle.cal_ast.specs.declared.tree.Group.{Group}
-use Rattle.filc_calyx.specs.Scheduling.{label_texts}
+use Rattle.filc_calyx.specs.inside.Scheduling.{label_texts}
 use Rattle.filc_calyx.proofs.labels.push_groups.Given as goal
 
 -- the labels of the groups so far are last

@@ -1,7 +1,7 @@
 use Rattle.std.proofs.Common.{◌≡◌, ◌++◌, map, take}
 use Rattle.std.specs.Prelude.{codes, decimal}
 use Rattle.cal_walk.specs.declared.planning.Invoke.{Invoke}
-use Rattle.filc_calyx.specs.Scheduling.{label_texts}
+use Rattle.filc_calyx.specs.inside.Scheduling.{label_texts}
 use Rattle.filc_calyx.proofs.labels.push_invokes.Given as goal
 
 -- the labels of the invokes so far are last

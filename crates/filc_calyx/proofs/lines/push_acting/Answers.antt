@@ -2,7 +2,7 @@ use Rattle.std.proofs.Common.{◌∙◌, ◌++◌, Option, sym, ap, subst}
 use Rattle.std.proofs.lemmas.List.{append-nil}
 use Rattle.hw_names.specs.Name.{Text}
 use Rattle.cal_sched.specs.declared.walker.Walker.{Walker}
-use Rattle.filc_calyx.specs.Scheduling.{Tells}
+use Rattle.filc_calyx.specs.inside.Scheduling.{Tells}
 use Rattle.filc_calyx.proofs.LabelLemmas.{none_act}
 use Rattle.filc_calyx.proofs.lines.push_acting.Goals as goal
 

@@ -2,7 +2,7 @@ use Rattle.std.proofs.Common.{◌∙◌, ◌++◌, Bool, true, false, List, flat
 use Rattle.std.proofs.lemmas.List.{append-nil}
 use Rattle.hw_names.specs.Name.{Text}
 use Rattle.cal_ast.specs.Actors.{Actor}
-use Rattle.filc_calyx.specs.Scheduling.{label_if}
+use Rattle.filc_calyx.specs.inside.Scheduling.{label_if}
 use Rattle.filc_calyx.proofs.LabelLemmas.{actor_more, actors_all, inside, label_is}
 use Rattle.filc_calyx.proofs.lines.push_labels.Goals as goal
 use Rattle.filc_calyx.proofs.lines.push_labels.Goals.{then-acts+in_ok-push_text, else-acts}

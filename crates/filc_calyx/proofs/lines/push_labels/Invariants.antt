@@ -1,6 +1,6 @@
 use Rattle.std.proofs.Common.{◌≡◌, ◌++◌, Bool, List, take, flat_map}
 use Rattle.cal_ast.specs.Actors.{Actor}
-use Rattle.filc_calyx.specs.Scheduling.{AreLabelsOf, TellsActing, label_if}
+use Rattle.filc_calyx.specs.inside.Scheduling.{AreLabelsOf, TellsActing, label_if}
 use Rattle.filc_calyx.proofs.lines.push_labels.Given as goal
 
 -- the labels of those so far that act are last

@@ -1,7 +1,7 @@
 use Rattle.std.proofs.Common.{◌≡◌, ◌<◌, ◌+◌, ◌++◌, ◌∙◌, ℕ, List, drop, flat_map, get_or, length, true, refl, sym, ap, subst, arith}
 use Rattle.hw_names.proofs.NameLemmas.{text_of-slice_get}
 use Rattle.hw_names.specs.Name.{Text, text_of}
-use Rattle.hw_prims.specs.State.{State, words_of}
+use Rattle.hw_prims.specs.State.{State, memory_words}
 use Rattle.hw_prims.specs.declared.prim.Primitive.{Primitive}
 use Rattle.net_core.specs.Netlist.{Netlist, netlist_of}
 use Rattle.net_core.specs.Rules.{IsValid}
@@ -38,12 +38,12 @@ loop-cell-preserved c =
           let at = next net c.requires.valid states c.deref-cell-items.result.now c.loop-cell.mem i c.cell-item.result c.deref-cell-items.ensures.value c.loop-cell-test.true c.cell-item.is c.loop-cell.invariant.left w.if-cell.true in
           let name = text_of net.names c.cell-item.result.name in
           let named = text_of-slice_get net.names c.cell-item.result.name w.text.result.now w.text.ensures in
-          let line = memory_text name (words_of (states name at.prim)) in
+          let line = memory_text name (memory_words (states name at.prim)) in
           let shown = subst (λ (m : Netlist). IsShown m c.loop-cell.mem name at.prim) (sym c.requires.net) at.is_shown in
           let pushed : w.push_memory.new.text.items ≡ c.loop-cell.text.items ++ line =
           w.in_ok-push_memory.ensures name at.prim shown
-          ∙ ap (λ (m : Netlist). c.loop-cell.text.items ++ memory_text w.text.result.now (words_of (states_of m c.args.sim.now.states name at.prim))) c.requires.net
-          ∙ ap (λ (t : Text). c.loop-cell.text.items ++ memory_text t (words_of (states name at.prim))) (sym named) in
+          ∙ ap (λ (m : Netlist). c.loop-cell.text.items ++ memory_text w.text.result.now (memory_words (states_of m c.args.sim.now.states name at.prim))) c.requires.net
+          ∙ ap (λ (t : Text). c.loop-cell.text.items ++ memory_text t (memory_words (states name at.prim))) (sym named) in
           rw (w.text-is, w.mem-is) (record {
             left = at.left;
             counted = omega (arith, c.loop-cell.invariant.counted);

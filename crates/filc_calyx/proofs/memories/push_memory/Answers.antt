@@ -1,6 +1,6 @@
 use Rattle.std.proofs.Common.{◌<◌, ◌++◌, ◌∙◌, length, arith}
 use Rattle.std.proofs.lemmas.Result.{on_ok_weaker}
-use Rattle.hw_prims.specs.State.{words_of}
+use Rattle.hw_prims.specs.State.{memory_words}
 use Rattle.net_core.specs.Netlist.{netlist_of}
 use Rattle.net_sim.specs.Sim.{states_of}
 use Rattle.filc_report.specs.Rows.{memory_text}
@@ -15,7 +15,7 @@ word-requires c = record {
 
 pub loop-at-preserved : goal.loop-at-preserved
 loop-at-preserved c = λ cell prim is.
-    let words = words_of (states_of (netlist_of c.args.sim.now.net) c.args.sim.now.states cell prim) in
+    let words = memory_words (states_of (netlist_of c.args.sim.now.net) c.args.sim.now.states cell prim) in
     let count = c.word_count-at-end.ensures cell prim is in
     let within : c.loop-at.at < length words = omega (arith, c.loop-at-test.true, count.1) in
     word_more words c.loop-at.at c.value.result c.loop-at.text.items c.push_text-in-loop-at.new.text.items c.push_number.new.text.items (c.args.text.now.items ++ memory_text c.args.name.now words) within
@@ -23,7 +23,7 @@ loop-at-preserved c = λ cell prim is.
 
 pub returns : goal.returns
 returns c = λ cell prim is.
-    let words = words_of (states_of (netlist_of c.args.sim.now.net) c.args.sim.now.states cell prim) in
+    let words = memory_words (states_of (netlist_of c.args.sim.now.net) c.args.sim.now.states cell prim) in
     let count = c.word_count-at-end.ensures cell prim is in
     on_ok_weaker c.push_text-3.result
     (words_end words c.loop-at.at c.loop-at.text.items c.push_text-3.new.text.items (c.args.text.now.items ++ memory_text c.args.name.now words) (omega (arith, c.loop-at-test.false, count.1)) (c.loop-at.invariant cell prim is))

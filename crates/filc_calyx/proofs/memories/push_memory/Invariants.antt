@@ -1,6 +1,6 @@
 use Rattle.std.proofs.Common.{◌≡◌, ◌++◌}
 use Rattle.hw_names.specs.Name.{Text}
-use Rattle.hw_prims.specs.State.{words_of}
+use Rattle.hw_prims.specs.State.{memory_words}
 use Rattle.hw_prims.specs.declared.prim.Primitive.{Primitive}
 use Rattle.net_core.specs.Netlist.{netlist_of}
 use Rattle.net_sim.specs.Shown.{IsShown}
@@ -14,4 +14,4 @@ abbrev pub invariant-loop-at : goal.invariant-loop-at
 invariant-loop-at l =
     let n = netlist_of l.sim.net in
     (cell : Text) (prim : Primitive) → IsShown n l.mem cell prim
-    → l.text.items ++ rest_of_words (words_of (states_of n l.sim.states cell prim)) l.at ≡ l.fn.text.items ++ memory_text l.name (words_of (states_of n l.sim.states cell prim))
+    → l.text.items ++ rest_of_words (memory_words (states_of n l.sim.states cell prim)) l.at ≡ l.fn.text.items ++ memory_text l.name (memory_words (states_of n l.sim.states cell prim))

@@ -9,7 +9,7 @@ use Rattle.filc_calyx.proofs.ScheduleLemmas.{schedules_from}
 use Rattle.filc_calyx.proofs.SubjectLemmas.{can_schedule, driven_is, refines_from}
 use Rattle.filc_calyx.specs.Means.{Driven}
 use Rattle.filc_calyx.specs.Scheduled.{Schedules, outcome_of}
-use Rattle.filc_calyx.specs.Scheduling.{IsScheduleOf, subject_of}
+use Rattle.filc_calyx.specs.inside.Scheduling.{IsScheduleOf, subject_of}
 use Rattle.filc_calyx.specs.declared.schedule.Schedule.{Schedule}
 use Rattle.filc_calyx.proofs.schedule.make_schedule.Goals as goal
 

@@ -2,7 +2,7 @@ use Rattle.std.proofs.Common.{Option, sym, subst}
 use Rattle.std.proofs.lemmas.Result.{on_ok_weaker}
 use Rattle.cal_sched.specs.declared.walker.Walker.{Walker}
 use Rattle.filc_calyx.proofs.WalkLemmas.{none_walks, walks_on}
-use Rattle.filc_calyx.specs.Scheduling.{Walks, WalksOver}
+use Rattle.filc_calyx.specs.inside.Scheduling.{Walks, WalksOver}
 use Rattle.filc_calyx.proofs.scheduler.walk.Goals as goal
 
 pub returns-in-None : goal.returns-in-None

@@ -1,7 +1,7 @@
 use Rattle.std.proofs.Common.{List, ℕ, map}
 use Rattle.std.specs.Borrow.{Bor}
 use Rattle.filc_core.proofs.EndingLemmas.{unasked_verdict, unasked_write, done_verdict, done_known, stop_verdict, stop_called, stop_known, stop_read, stop_write, stop_memory, stop_memory_line, stop_complete, told_by, asked_files}
-use Rattle.filc_core.specs.Told.{request_told}
+use Rattle.filc_core.specs.inside.Told.{request_told}
 use Rattle.filc_core.proofs.top_call.filc.Goals as goal
 
 abbrev words_of : List (Bor (List ℕ)) → List (List ℕ)

@@ -14,5 +14,5 @@ pub returns-in-Ok : goal.returns-in-Ok
 returns-in-Ok c text of =
     let d = c.args.design.now in
     let first = subst (λ (end : CalEnd). TellsRefusal d end) c.in-Refused.is c.requires.first in
-    design_refused d c.in-Refused.rule c.in-Refused.comp c.in-Refused.item c.in-Refused.ports.items _ _ first
-    (text_of-slice_get d.names c.in-Refused.comp c.text.result.now c.text.ensures ∙ sym c.in-Ok.ensures) c.evidence_with.ensures text of
+    design_refused d c.in-Refused.rule c.in-Refused.comp c.in-Refused.item c.in-Refused.ports.items _ first
+    (text_of-slice_get d.names c.in-Refused.comp c.text.result.now c.text.ensures ∙ sym c.in-Ok.ensures) text of

@@ -1,7 +1,7 @@
 use Rattle.std.proofs.Common.{◌<◌, ◌≤◌, ◌+◌, ◌++◌, Some, length, drop, map, flat_map, append_assoc, refl, sym, ap, ◌∙◌, arith}
 use Rattle.std.proofs.lemmas.List.{drop_all}
 use Rattle.stim_read.specs.CycleText.{entry_seen}
-use Rattle.stim_read.specs.CycleRules.{input_targets, input_fault, inputs_fault, or_else}
+use Rattle.stim_read.specs.CycleRules.{input_targets, input_fault, inputs_fault, first_fault}
 use Rattle.stim_read.specs.CycleRun.{settings_of, setting_seen}
 use Rattle.stim_read.proofs.FaultLemmas.{passes, told_first, told_by, inputs_cut}
 use Rattle.stim_read.proofs.WalkLemmas.{flat_cut, flat_ends}
@@ -32,7 +32,7 @@ loop-number-preserved c =
     let rest = flat_map (settings_of t) (map entry_seen (drop (n + 1) xs)) in
     let cut = inputs_cut t c.loop-number.before n xs n x within c.index-entries-number.is in
     record {
-      fault = sym (cut ∙ ap (λ f. or_else f (inputs_fault t (Some x.from) (n + 1) (map entry_seen (drop (n + 1) xs)))) c.in_ok-take_entry.ensures.told) ∙ c.loop-number.invariant.fault;
+      fault = sym (cut ∙ ap (λ f. first_fault f (inputs_fault t (Some x.from) (n + 1) (map entry_seen (drop (n + 1) xs)))) c.in_ok-take_entry.ensures.told) ∙ c.loop-number.invariant.fault;
       settings = ap (λ ys. ys ++ rest) c.in_ok-take_entry.ensures.pushed
           ∙ append_assoc (map setting_seen c.loop-number.sets.items) (settings_of t (entry_seen x)) rest
           ∙ ap (λ ys. map setting_seen c.loop-number.sets.items ++ ys) (sym (flat_cut entry_seen (settings_of t) xs n x within c.index-entries-number.is)) ∙ c.loop-number.invariant.settings;

@@ -1,7 +1,7 @@
 use Rattle.std.proofs.Common.{◌≡◌, ℕ, ◌<◌, ◌≤◌, ◌+◌, ◌++◌, ◌∷◌, [], None, length, drop, map, append_assoc, refl, sym, ap, subst, ◌∙◌, arith}
 use Rattle.std.proofs.lemmas.List.{drop_all, append-nil, map-append}
 use Rattle.stim_read.specs.CycleText.{words_seen}
-use Rattle.stim_read.specs.CycleRules.{memory_targets, sizes_of, memory_fault, memories_fault, or_else}
+use Rattle.stim_read.specs.CycleRules.{memory_targets, sizes_of, memory_fault, memories_fault, first_fault}
 use Rattle.stim_read.specs.CycleRun.{IsTold, load_of, load_seen}
 use Rattle.stim_read.proofs.EachLemmas.{cut_at}
 use Rattle.stim_read.proofs.FaultLemmas.{passes, passes_memory, told_first, told_by, memories_cut}
@@ -50,7 +50,7 @@ loop-index-preserved c =
     let rest = map words_seen (drop (i + 1) xs) in
     let cut = memories_cut t sizes n xs i x within c.index-memories-index.is in
     record {
-      fault = ap (λ k. memories_fault t sizes k rest) after ∙ sym (cut ∙ ap (λ f. or_else f (memories_fault t sizes (n + 1) rest)) kept) ∙ c.loop-index.invariant.fault;
+      fault = ap (λ k. memories_fault t sizes k rest) after ∙ sym (cut ∙ ap (λ f. first_fault f (memories_fault t sizes (n + 1) rest)) kept) ∙ c.loop-index.invariant.fault;
       loads = ap (λ ys. map load_seen ys ++ map (load_of t) rest) c.in_ok-push.ensures.items
           ∙ ap (λ ys. ys ++ map (load_of t) rest) (map-append load_seen c.loop-index.loads.items (c.in_ok-load.field-0 ∷ []))
           ∙ append_assoc (map load_seen c.loop-index.loads.items) (load_seen c.in_ok-load.field-0 ∷ []) (map (load_of t) rest)

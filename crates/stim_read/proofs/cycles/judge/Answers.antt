@@ -1,7 +1,7 @@
 use Rattle.std.proofs.Common.{◌≡◌, ℕ, None, List, length, map, flat_map, sym, ap, subst, ◌∙◌}
 use Rattle.std.proofs.lemmas.List.{length-map}
 use Rattle.stim_read.specs.CycleText.{entry_seen, words_seen, cycles_seen}
-use Rattle.stim_read.specs.CycleRules.{input_targets, memory_targets, sizes_of, limit_fault, inputs_fault, memories_fault, or_else}
+use Rattle.stim_read.specs.CycleRules.{input_targets, memory_targets, sizes_of, limit_fault, inputs_fault, memories_fault, first_fault}
 use Rattle.stim_read.specs.CycleRun.{IsTold, settings_of, load_of}
 use Rattle.stim_read.specs.declared.cycle_text.InputEntry.{InputEntry}
 use Rattle.stim_read.specs.declared.cycle_text.MemoryWords.{MemoryWords}
@@ -51,7 +51,7 @@ returns-clause-told c =
     let memories = memories_fault m sizes (length (map entry_seen entries)) (map words_seen c.args.text.now.memories.items) in
     let counted = subst (λ (n : ℕ). memories_fault m sizes n (map words_seen c.deref-2.result.now) ≡ None) count c.in_ok-loads.ensures.told in
     let kept : memories ≡ None = subst (λ (xs : List MemoryWords). memories_fault m sizes (length (map entry_seen entries)) (map words_seen xs) ≡ None) c.deref-2.ensures.value counted in
-    neither (limit_fault (cycles_seen c.args.text.now)) (or_else inputs memories) c.in_ok-check_limits.ensures (neither inputs memories none kept)
+    neither (limit_fault (cycles_seen c.args.text.now)) (first_fault inputs memories) c.in_ok-check_limits.ensures (neither inputs memories none kept)
 
 pub returns-clause-run : goal.returns-clause-run
 returns-clause-run c =

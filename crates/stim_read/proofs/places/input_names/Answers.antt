@@ -1,14 +1,14 @@
 use Rattle.std.proofs.Common.{◌<◌, length, Ok, ap, arith}
-use Rattle.fil_sig.specs.declared.time_sig.SigPort.{SigPort}
+use Rattle.stim_read.specs.declared.shape.InputShape.{InputShape}
 use Rattle.stim_read.proofs.PlaceLemmas.{clash, named}
 use Rattle.stim_read.proofs.places.input_names.Goals as goal
 
 pub prove-unreachable-requires : goal.prove-unreachable-requires
 prove-unreachable-requires c =
     let within : c.loop-port.port-index < length c.args.ins.now = omega arith in
-    clash (λ (x : SigPort). x.name) c.args.ins.now c.loop-port.port-index c.port-item.result c.bytes.result.now c.loop-port.names c.requires within c.port-item.is c.bytes.ensures c.loop-port.invariant (c.in_ok-new.ensures.there (ap Ok c.if-prove.true)).0
+    clash (λ (x : InputShape). x.name) c.args.ins.now c.loop-port.port-index c.port-item.result c.bytes.result.now c.loop-port.names c.requires within c.port-item.is c.bytes.ensures c.loop-port.invariant (c.in_ok-new.ensures.there (ap Ok c.if-prove.true)).0
 
 pub loop-port-preserved : goal.loop-port-preserved
 loop-port-preserved c =
     let within : c.loop-port.port-index < length c.args.ins.now = omega arith in
-    named (λ (x : SigPort). x.name) c.args.ins.now c.loop-port.port-index c.port-item.result c.bytes.result.now c.loop-port.names c.add_name.new.names within c.port-item.is c.bytes.ensures c.loop-port.invariant (c.in_ok-new.ensures.new (ap Ok c.if-prove.false)).1
+    named (λ (x : InputShape). x.name) c.args.ins.now c.loop-port.port-index c.port-item.result c.bytes.result.now c.loop-port.names c.add_name.new.names within c.port-item.is c.bytes.ensures c.loop-port.invariant (c.in_ok-new.ensures.new (ap Ok c.if-prove.false)).1

@@ -3,7 +3,7 @@ use Rattle.std.specs.List.{range_with_len}
 use Rattle.hw_bits.specs.Values.{values_of, widths_of}
 use Rattle.stim_read.specs.TxText.{tx_entry_seen}
 use Rattle.stim_read.specs.TxRun.{transaction_seen}
-use Rattle.stim_read.specs.TxWalk.{rows_from, start_rows, starts_fault, last_after, started}
+use Rattle.stim_read.specs.inside.TxWalk.{rows_from, start_rows, starts_fault, last_after, started}
 use Rattle.stim_read.proofs.tx_starts.push_starts.Given as goal
 
 abbrev pub invariant-loop-k : goal.invariant-loop-k

@@ -4,7 +4,7 @@ use Rattle.stim_read.specs.CycleRun.{NoMemory}
 use Rattle.stim_read.specs.TxText.{transactions_seen}
 use Rattle.stim_read.specs.TxEvents.{EventList, events_of, events_seen}
 use Rattle.stim_read.specs.TxRun.{IsTxCause, NoTransactions, NoJson}
-use Rattle.stim_read.specs.TxWalk.{AreUsable}
+use Rattle.stim_read.specs.inside.TxWalk.{AreUsable}
 use Rattle.stim_read.specs.declared.stim_end.StimEnd.TheVariants.{Memory}
 use Rattle.stim_read.proofs.FaultLemmas.{passes_cause}
 use Rattle.stim_read.proofs.TxFitLemmas.{result_fits_signature}

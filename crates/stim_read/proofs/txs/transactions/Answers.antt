@@ -1,11 +1,11 @@
 use Rattle.std.proofs.Common.{◌≡◌, ℕ, ◌+◌, ◌++◌, ◌<◌, None, List, Option, length, map, drop, append_assoc, sym, ap, subst, ◌∙◌, arith}
 use Rattle.std.proofs.lemmas.List.{map-append, length-set}
-use Rattle.stim_read.specs.CycleRules.{or_else}
+use Rattle.stim_read.specs.CycleRules.{first_fault}
 use Rattle.stim_read.specs.TxText.{tx_entry_seen}
 use Rattle.stim_read.specs.TxEvents.{events_seen}
 use Rattle.stim_read.specs.TxRules.{starts_of, starts_in, event_number, txs_fault}
 use Rattle.stim_read.specs.TxRun.{transaction_of, transaction_seen}
-use Rattle.stim_read.specs.TxWalk.{IsEntry, entry_fault, last_after, last_by, start_rows}
+use Rattle.stim_read.specs.inside.TxWalk.{IsEntry, entry_fault, last_after, last_by, start_rows}
 use Rattle.stim_read.proofs.FaultLemmas.{passes, told_first, told_by}
 use Rattle.stim_read.proofs.TxSaidLemmas.{mapped_hold}
 use Rattle.stim_read.proofs.TxStartLemmas.{HasLast, onto, fault_turn, event_there, last_moves, counted_after, written_back}
@@ -64,7 +64,7 @@ loop-entry-preserved c =
       earlier = next;
       last = subst (λ (l : List (Option ℕ)). HasLast ev l next) (sym back) moved;
       told = ap (λ m. txs_fault ev next m rest) counted
-          ∙ sym (fault_turn ev last earlier n entries i x within c.entry-item.is has entry ∙ ap (λ f. or_else f (txs_fault ev next (n + e.repeat.times) rest)) kept) ∙ c.loop-entry.invariant.told;
+          ∙ sym (fault_turn ev last earlier n entries i x within c.entry-item.is has entry ∙ ap (λ f. first_fault f (txs_fault ev next (n + e.repeat.times) rest)) kept) ∙ c.loop-entry.invariant.told;
       pushed = ap (λ ts. ts ++ map g rest) pushed ∙ append_assoc (map transaction_seen c.loop-entry.txs.items) (map g (starts_of e)) (map g rest)
           ∙ ap (λ ts. map transaction_seen c.loop-entry.txs.items ++ ts) (sym (map-append g (starts_of e) rest))
           ∙ ap (λ ss. map transaction_seen c.loop-entry.txs.items ++ map g ss) (sym (flat_cut tx_entry_seen starts_of entries i x within c.entry-item.is)) ∙ c.loop-entry.invariant.pushed;

@@ -8,7 +8,7 @@ use Rattle.net_sim.specs.Sim.{states_of}
 use Rattle.filc_report.proofs.RunLemmas.{table_numbers}
 use Rattle.filc_report.specs.Rows.{memories_text}
 use Rattle.filc_calyx.proofs.SchedulerLemmas.{after_none, inputs_in, text_to, whole_text}
-use Rattle.filc_calyx.specs.Scheduling.{IsAfterRow, IsBefore}
+use Rattle.filc_calyx.specs.inside.Scheduling.{IsAfterRow, IsBefore}
 use Rattle.filc_calyx.proofs.scheduler.Scheduler.go_through.Goals as goal
 
 pub row-requires : goal.row-requires

@@ -1,8 +1,8 @@
 use Rattle.std.proofs.Common.{◌≡◌}
 use Rattle.net_core.specs.Netlist.{netlist_of}
-use Rattle.filc_load.specs.Inputs.{driven}
+use Rattle.filc_load.specs.Given.{driven}
 use Rattle.filc_report.specs.Driving.{AreInputsAt}
-use Rattle.filc_calyx.specs.Scheduling.{IsBefore, Subject}
+use Rattle.filc_calyx.specs.inside.Scheduling.{IsBefore, Subject}
 use Rattle.filc_calyx.proofs.scheduler.Scheduler.go_through.Given as goal
 
 -- the inputs and the rows stand before this one

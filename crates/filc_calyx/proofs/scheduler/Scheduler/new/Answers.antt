@@ -6,7 +6,7 @@ use Rattle.cal_sched.specs.Walking.{CanWalk}
 use Rattle.stim_read.specs.CycleRun.{run_seen}
 use Rattle.filc_report.specs.Runs.{no_inputs}
 use Rattle.filc_report.specs.Streams.{IsStopped}
-use Rattle.filc_calyx.specs.Scheduling.{Walks, subject_of}
+use Rattle.filc_calyx.specs.inside.Scheduling.{Walks, subject_of}
 use Rattle.filc_calyx.proofs.scheduler.Scheduler.new.Goals as goal
 
 pub returns : goal.returns

@@ -6,7 +6,7 @@ use Rattle.net_sim.specs.Layout.{port_names}
 use Rattle.cal_ast.specs.Actors.{actors_of}
 use Rattle.filc_report.specs.Rows.{outputs_of_net}
 use Rattle.filc_calyx.proofs.SchedulerLemmas.{line_made}
-use Rattle.filc_calyx.specs.Scheduling.{AreLabelsOf}
+use Rattle.filc_calyx.specs.inside.Scheduling.{AreLabelsOf}
 use Rattle.filc_calyx.proofs.scheduler.Scheduler.push_line.Goals as goal
 
 pub returns-clause-line : goal.returns-clause-line

@@ -8,7 +8,7 @@ use Rattle.net_sim.specs.declared.sim.Phase.{Phase}
 use Rattle.cal_sched.specs.declared.walker.Walker.{Walker}
 use Rattle.filc_report.proofs.StreamLemmas.{running}
 use Rattle.filc_calyx.proofs.SchedulerLemmas.{goes_on, grown, stopped_at, values_are, walks_there}
-use Rattle.filc_calyx.specs.Scheduling.{IsSchedulerOf, Walks, acting}
+use Rattle.filc_calyx.specs.inside.Scheduling.{IsSchedulerOf, Walks, acting}
 use Rattle.filc_calyx.specs.declared.scheduler.Scheduler.{Scheduler}
 use Rattle.filc_calyx.proofs.scheduler.Scheduler.row.Goals as goal
 

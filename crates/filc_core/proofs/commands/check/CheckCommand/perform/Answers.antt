@@ -3,7 +3,7 @@ use Rattle.filc_stop.specs.declared.stop.Stop.TheVariants as stop
 use Rattle.filc_core.proofs.CheckLemmas.{check_reads, check_leaves}
 use Rattle.filc_core.proofs.PerformLemmas.{source_stops, read_one, reports, report_stops, design_told}
 use Rattle.filc_core.specs.Request.{OfCheck}
-use Rattle.filc_core.specs.Told.{check_told}
+use Rattle.filc_core.specs.inside.Told.{check_told}
 use Rattle.filc_core.proofs.commands.check.CheckCommand.perform.Goals as goal
 
 pub returns-in_err-accept : goal.returns-in_err-accept

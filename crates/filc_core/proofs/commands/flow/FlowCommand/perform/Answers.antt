@@ -4,7 +4,7 @@ use Rattle.filc_load.proofs.TopLemmas.{has_top}
 use Rattle.filc_core.proofs.PerformLemmas.{source_stops}
 use Rattle.filc_core.proofs.StartedLemmas.{is_started, started_stops, started_reports}
 use Rattle.filc_core.specs.Request.{OfFlow}
-use Rattle.filc_core.specs.Told.{flow_told}
+use Rattle.filc_core.specs.inside.Told.{flow_told}
 use Rattle.filc_core.specs.commands.Flow.{flow_of_top}
 use Rattle.filc_core.specs.commands.Transactions.{Top}
 use Rattle.filc_core.proofs.commands.flow.FlowCommand.perform.Goals as goal

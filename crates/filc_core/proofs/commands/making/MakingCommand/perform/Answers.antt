@@ -3,7 +3,7 @@ use Rattle.filc_stop.specs.declared.stop.Stop.TheVariants as stop
 use Rattle.filc_core.proofs.MakingLemmas.{making_reads, making_leaves}
 use Rattle.filc_core.proofs.PerformLemmas.{source_stops, read_one, reports, report_stops, design_told}
 use Rattle.filc_core.specs.Request.{OfMaking}
-use Rattle.filc_core.specs.Told.{making_told}
+use Rattle.filc_core.specs.inside.Told.{making_told}
 use Rattle.filc_core.proofs.commands.making.MakingCommand.perform.Goals as goal
 
 pub returns-in_err-text : goal.returns-in_err-text

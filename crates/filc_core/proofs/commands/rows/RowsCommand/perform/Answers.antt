@@ -8,7 +8,7 @@ use Rattle.filc_stop.specs.declared.language.Language.TheVariants.{Netlists}
 use Rattle.filc_core.proofs.PerformLemmas.{IsNoReadFault, source_stops, read_one, reports, design_told, if_stops, no_fault_at_run}
 use Rattle.filc_core.proofs.RowsLemmas.{rows_reads, rows_leaves}
 use Rattle.filc_core.specs.Request.{OfRows, command_of}
-use Rattle.filc_core.specs.Told.{rows_told}
+use Rattle.filc_core.specs.inside.Told.{rows_told}
 use Rattle.filc_core.proofs.commands.rows.RowsCommand.perform.Goals as goal
 
 pub returns-in_err-built : goal.returns-in_err-built

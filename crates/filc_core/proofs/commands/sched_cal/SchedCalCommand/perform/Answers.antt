@@ -7,7 +7,7 @@ use Rattle.filc_calyx.specs.Scheduled.{IsDriven}
 use Rattle.filc_core.proofs.CalRunLemmas.{IsNetFor, cal_run_reports, cal_run_stops, driven_of, sched_cal_leaves, sched_cal_reading}
 use Rattle.filc_core.proofs.PerformLemmas.{memory_stops, source_stops}
 use Rattle.filc_core.specs.Request.{OfSchedCal}
-use Rattle.filc_core.specs.Told.{sched_cal_told}
+use Rattle.filc_core.specs.inside.Told.{sched_cal_told}
 use Rattle.filc_core.specs.commands.CalRun.{CalTop}
 use Rattle.filc_core.proofs.commands.sched_cal.SchedCalCommand.perform.Goals as goal
 

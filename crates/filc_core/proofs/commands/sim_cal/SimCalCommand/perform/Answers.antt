@@ -12,7 +12,7 @@ use Rattle.filc_report.specs.Runs.{PrintedRun, RunLeaves}
 use Rattle.filc_core.proofs.CalRunLemmas.{IsNetFor, cal_run_reports, cal_run_stops, sim_cal_leaves, sim_cal_reading}
 use Rattle.filc_core.proofs.PerformLemmas.{memory_stops, source_stops}
 use Rattle.filc_core.specs.Request.{OfSimCal}
-use Rattle.filc_core.specs.Told.{sim_cal_told}
+use Rattle.filc_core.specs.inside.Told.{sim_cal_told}
 use Rattle.filc_core.specs.commands.CalRun.{CalTop}
 use Rattle.filc_core.proofs.commands.sim_cal.SimCalCommand.perform.Goals as goal
 

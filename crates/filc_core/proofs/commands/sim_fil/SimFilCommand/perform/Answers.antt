@@ -4,7 +4,7 @@ use Rattle.filc_load.proofs.TopLemmas.{has_top}
 use Rattle.filc_core.proofs.PerformLemmas.{source_stops}
 use Rattle.filc_core.proofs.StartedLemmas.{loaded_transactions, is_started, started_stops, started_reports}
 use Rattle.filc_core.specs.Request.{OfSimFil}
-use Rattle.filc_core.specs.Told.{sim_fil_told}
+use Rattle.filc_core.specs.inside.Told.{sim_fil_told}
 use Rattle.filc_core.specs.commands.SimFil.{rows_of_top}
 use Rattle.filc_core.specs.commands.Transactions.{Top}
 use Rattle.filc_core.proofs.commands.sim_fil.SimFilCommand.perform.Goals as goal

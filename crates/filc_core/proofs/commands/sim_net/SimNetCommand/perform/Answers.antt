@@ -3,7 +3,7 @@ use Rattle.net_core.specs.Netlist.{netlist_of}
 use Rattle.filc_core.proofs.NetRunLemmas.{is_net_run, net_run_stops, net_run_reports}
 use Rattle.filc_core.proofs.PerformLemmas.{source_stops}
 use Rattle.filc_core.specs.Request.{OfSimNet}
-use Rattle.filc_core.specs.Told.{sim_net_told}
+use Rattle.filc_core.specs.inside.Told.{sim_net_told}
 use Rattle.filc_core.proofs.commands.sim_net.SimNetCommand.perform.Goals as goal
 
 pub returns-in_err-built : goal.returns-in_err-built

@@ -5,7 +5,7 @@ use Rattle.filc_stop.specs.Stops.{IsWritingStop}
 use Rattle.filc_core.proofs.PerformLemmas.{IsNoReadFault, if_stops, no_fault_at_writing, reports}
 use Rattle.filc_core.proofs.SoakLemmas.{soak_leaves, soak_reads}
 use Rattle.filc_core.specs.Request.{OfSoak, command_of}
-use Rattle.filc_core.specs.Told.{soak_told}
+use Rattle.filc_core.specs.inside.Told.{soak_told}
 use Rattle.filc_core.proofs.commands.soak.SoakCommand.perform.Goals as goal
 
 pub returns-then-self-gt-MOST_TRANSACTIONS : goal.returns-then-self-gt-MOST_TRANSACTIONS

@@ -13,7 +13,7 @@ use Rattle.filc_stop.specs.declared.stop.Stop.TheVariants as stop
 use Rattle.filc_core.proofs.CalRunLemmas.{IsNetFor, cal_run_reports, cal_run_stops, driven_of, trace_cal_leaves, trace_cal_reading}
 use Rattle.filc_core.proofs.PerformLemmas.{memory_stops, read_both, report_stops, source_stops}
 use Rattle.filc_core.specs.Request.{OfTraceCal}
-use Rattle.filc_core.specs.Told.{trace_cal_told}
+use Rattle.filc_core.specs.inside.Told.{trace_cal_told}
 use Rattle.filc_core.specs.commands.CalRun.{CalTop}
 use Rattle.filc_core.proofs.commands.trace_cal.TraceCalCommand.perform.Goals as goal
 

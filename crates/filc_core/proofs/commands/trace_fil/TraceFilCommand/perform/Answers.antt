@@ -5,7 +5,7 @@ use Rattle.filc_core.proofs.PerformLemmas.{source_stops}
 use Rattle.filc_core.proofs.StartedLemmas.{loaded_transactions, started_stops, started_writes}
 use Rattle.filc_core.proofs.TraceFilLemmas.{trace_fil_reading, trace_fil_leaves}
 use Rattle.filc_core.specs.Request.{OfTraceFil}
-use Rattle.filc_core.specs.Told.{trace_fil_told}
+use Rattle.filc_core.specs.inside.Told.{trace_fil_told}
 use Rattle.filc_core.specs.commands.Transactions.{Top}
 use Rattle.filc_core.proofs.commands.trace_fil.TraceFilCommand.perform.Goals as goal
 

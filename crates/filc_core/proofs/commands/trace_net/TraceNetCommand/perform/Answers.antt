@@ -8,7 +8,7 @@ use Rattle.filc_stop.specs.declared.stop.Stop.TheVariants as stop
 use Rattle.filc_core.proofs.NetRunLemmas.{is_net_run, net_run_stops, net_run_reports}
 use Rattle.filc_core.proofs.PerformLemmas.{source_stops, read_both, report_stops}
 use Rattle.filc_core.specs.Request.{OfTraceNet}
-use Rattle.filc_core.specs.Told.{trace_net_told}
+use Rattle.filc_core.specs.inside.Told.{trace_net_told}
 use Rattle.filc_core.proofs.commands.trace_net.TraceNetCommand.perform.Goals as goal
 
 pub returns-in_err-built : goal.returns-in_err-built

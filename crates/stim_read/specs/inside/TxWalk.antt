@@ -2,7 +2,7 @@
 use Rattle.std.specs.Prelude.{◌≡◌, ℕ, ◌+◌, ◌*◌, ◌≤◌, ◌<◌, ◌-◌, ◌^◌, length, map, List, [], ◌∷◌, All, Option, Some, None, slice_index_or}
 use Rattle.std.specs.List.{range_with_len}
 use Rattle.hw_bits.specs.declared.bits.TheConstants.{MAX_WIDTH}
-use Rattle.stim_read.specs.CycleRules.{or_else, refused}
+use Rattle.stim_read.specs.CycleRules.{first_fault, refused}
 use Rattle.stim_read.specs.TxText.{Starts}
 use Rattle.stim_read.specs.TxEvents.{Event, EventList}
 use Rattle.stim_read.specs.TxRun.{Transaction}
@@ -35,7 +35,7 @@ start_rows e = rows_from e (range_with_len 0 e.repeat.times)
 -- S5 at starts of an event one after another
 abbrev pub starts_fault : Option ℕ → ℕ → ℕ → List ℕ → Option StimEnd
 starts_fault before number delay [] = None
-starts_fault before number delay (row ∷ rows) = or_else (start_fault before number delay row) (starts_fault (Some row) (number + 1) delay rows)
+starts_fault before number delay (row ∷ rows) = first_fault (start_fault before number delay row) (starts_fault (Some row) (number + 1) delay rows)
 
 -- the last start after these
 abbrev pub last_after : Option ℕ → List ℕ → Option ℕ
@@ -48,7 +48,7 @@ last_by events last e = slice_index_or last (event_number events.names e.event) 
 
 abbrev pub entry_fault_at : Option Event → Option ℕ → ℕ → Starts → Option StimEnd
 entry_fault_at None before number e = Some (refused 3 number)
-entry_fault_at (Some event) before number e = or_else (values_fault event.inputs number e.given) (starts_fault before number event.delay (start_rows e))
+entry_fault_at (Some event) before number e = first_fault (values_fault event.inputs number e.given) (starts_fault before number event.delay (start_rows e))
 
 -- S3, S6, S4 and S5 in an entry, whose first start has this number
 abbrev pub entry_fault : EventList → List (Option ℕ) → ℕ → Starts → Option StimEnd
