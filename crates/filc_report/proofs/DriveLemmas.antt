@@ -1,5 +1,5 @@
 -- What transactions give to the inputs of a netlist that has the ports of their signature.
-use Rattle.std.proofs.Common.{◌≡◌, ◌⊎◌, ℕ, zero, suc, ◌+◌, ◌<◌, ◌≤◌, ◌%◌, ◌^◌, Bool, true, false, cond, if◌then◌else◌, List, [], ◌∷◌, ◌++◌, length, map, take, get_or, Option, None, Some, refl, sym, ap, ap₂, subst, ◌∙◌, arith, inl, inr, ⊎_elim, length-append, zero-add}
+use Rattle.std.proofs.Common.{◌≡◌, ◌⊎◌, ℕ, zero, suc, ◌+◌, ◌<◌, ◌≤◌, ◌%◌, ◌^◌, Bool, true, false, cond, if◌then◌else◌, List, [], ◌∷◌, ◌++◌, length, map, take, get_or, Option, None, Some, refl, sym, ap, ap₂, subst, ◌∙◌, arith, inl, inr, ⊎_elim, length-append}
 use Rattle.std.specs.Prelude.{slice_get, filter, find, ◌==◌, ◌&&◌, ◌||◌, bytes_eq, IsSome}
 use Rattle.std.specs.List.{list_any}
 use Rattle.std.specs.Option.{option_map, option_map_or}
@@ -23,6 +23,8 @@ use Rattle.fil_ast.specs.declared.tx.TxList.{TxList}
 use Rattle.stim_read.specs.TxEvents.{ports_after, IsFixed}
 use Rattle.stim_read.specs.TxRun.{Transaction, transaction_seen, tx_run_seen}
 use Rattle.fil_sig.specs.Seen.{seen}
+use Rattle.net_sim.proofs.ValidLemmas.{slice_get-append_right}
+use Rattle.filc_load.proofs.ListLemmas.{distinct_front, distinct_back}
 use Rattle.filc_report.specs.Driving.{txs_of, FitsDrive, value_given, value_in, GivesValue, AreTransactionsFor, DrivesPin, IsInterface, IsDataInput}
 use Rattle.fil_driven.specs.TxDrive.{port_pin, HasPortsOf}
 use Rattle.filc_report.specs.Intervals.{port_interval, lies_in, holding, RiseByEvent}
@@ -224,26 +226,11 @@ input_name n names are k p at =
     ∙ get_or-append (pin_texts n.ins) (pin_texts n.outs ++ inner_names n) [] k (omega (arith, within, length-map n.ins (λ (q : Pin). q.name)))
     ∙ get_or-map (λ (q : Pin). q.name) n.ins k p [] within ∙ ap (λ (q : Pin). q.name) (get_or_from_slice_get n.ins k p p at)
 
-distinct_right : (xs ys : List Text) → AreDistinct (xs ++ ys) → AreDistinct ys
-distinct_right [] ys distinct = distinct
-distinct_right (x ∷ xs) ys distinct = distinct_right xs ys (λ i j d before within. distinct (suc i) (suc j) d (omega arith) (omega arith))
-
-distinct_left : (xs ys : List Text) → AreDistinct (xs ++ ys) → AreDistinct xs
-distinct_left xs ys distinct i j d before within same =
-    distinct i j d before (omega (arith, within, length-append xs ys))
-    (get_or-append xs ys d i (omega (arith, before, within)) ∙ same ∙ sym (get_or-append xs ys d j within))
-
 -- the names of inputs differ
 pub ins_differ : (n : Netlist) → IsValid n → AreDistinct (pin_names n.ins)
 ins_differ n valid =
     let D : List Text → Type 0 = AreDistinct in
-    distinct_left (pin_texts n.ins) (pin_texts n.outs ++ inner_names n) (subst D (names_of_ports n) (port_names_are_distinct n valid))
-
-after_front : {X : Type 0} (xs ys : List X) (j : ℕ) → slice_get (xs ++ ys) (length xs + j) ≡ slice_get ys j
-after_front [] ys j = ap (slice_get ys) (zero-add j)
-after_front (x ∷ xs) ys j =
-    let next : length (x ∷ xs) + j ≡ suc (length xs + j) = omega arith in
-    ap (slice_get (x ∷ (xs ++ ys))) next ∙ after_front xs ys j
+    distinct_front (pin_texts n.ins) (pin_texts n.outs ++ inner_names n) (subst D (names_of_ports n) (port_names_are_distinct n valid))
 
 module _ (n : Netlist) (sig : Signature) (ports : HasPortsOf sig n) where
   pub ins_are : length n.ins ≡ length ports.interfaces + length sig.ins
@@ -262,7 +249,7 @@ module _ (n : Netlist) (sig : Signature) (ports : HasPortsOf sig n) where
   later_in : (j : ℕ) (p : Pin) (q : SigPort) → slice_get n.ins (length ports.interfaces + j) ≡ Some p → slice_get sig.ins j ≡ Some q → port_pin q ≡ p
   later_in j p q pin port =
       same_Some (port_pin q) p (
-      sym (ap (λ (l : List Pin). slice_get l (length ports.interfaces + j)) ports.ins ∙ after_front ports.interfaces (map port_pin sig.ins) j
+      sym (ap (λ (l : List Pin). slice_get l (length ports.interfaces + j)) ports.ins ∙ slice_get-append_right ports.interfaces (map port_pin sig.ins) j
       ∙ slice_get-map port_pin sig.ins j ∙ ap (option_map port_pin) port) ∙ pin
       )
 
@@ -272,7 +259,7 @@ module _ (n : Netlist) (sig : Signature) (ports : HasPortsOf sig n) where
       let names : pin_texts n.ins ≡ pin_texts ports.interfaces ++ sig_names sig.ins =
       ap pin_texts ports.ins ∙ map-append (λ (q : Pin). q.name) ports.interfaces (map port_pin sig.ins)
       ∙ ap (λ (ns : List Text). pin_texts ports.interfaces ++ ns) (map-map (λ (q : Pin). q.name) port_pin sig.ins) in
-      distinct_right (pin_texts ports.interfaces) (sig_names sig.ins) (subst D names distinct)
+      distinct_back (pin_texts ports.interfaces) (sig_names sig.ins) (subst D names distinct)
 
   -- so transactions drive each input
   pub inputs_drive : IsValid n → (names : List Text) → names ≡ port_names (ports_of n) → (first rest : List TxInput) → length first ≡ length ports.interfaces → ((k : ℕ) (i : TxInput) → slice_get first k ≡ Some i → IsInterface sig.events (get_or names k []) i) → ((k : ℕ) (i : TxInput) → slice_get rest k ≡ Some i → IsDataInput sig.ins k i) → (list : TxList) → AreTransactionsFor n sig list → (k : ℕ) (i : TxInput) (p : Pin) → slice_get (first ++ rest) k ≡ Some i → slice_get n.ins k ≡ Some p → DrivesPin list (driven_by sig (tx_run_seen list)) i p

@@ -1,5 +1,5 @@
 -- What a transaction computes, put down one by one: the values of its inputs, the outputs of its event, and the lines of transactions.
-use Rattle.std.proofs.Common.{◌≡◌, ℕ, zero, suc, ◌+◌, ◌<◌, ◌≤◌, Bool, true, false, cond, List, [], ◌∷◌, ◌++◌, decimal, length, map, filter, drop, get_or, slice_get, All, Some, refl, sym, ap, ap₂, subst, ◌∙◌, arith, add-one, append_assoc}
+use Rattle.std.proofs.Common.{◌≡◌, ℕ, ◌+◌, ◌<◌, ◌≤◌, Bool, true, false, cond, List, [], ◌∷◌, ◌++◌, decimal, length, map, filter, drop, get_or, slice_get, All, Some, refl, sym, ap, ap₂, subst, ◌∙◌, arith, add-one, append_assoc}
 use Rattle.std.specs.Prelude.{bytes_eq, option_map, slice_index}
 use Rattle.std.specs.Option.{option_map_or}
 use Rattle.std.proofs.lemmas.List.{append-nil, drop_all, drop_more, get_or-map, length-map, map-append}
@@ -22,19 +22,10 @@ use Rattle.fil_flow.specs.Dataflow.{IsDataflowOf}
 use Rattle.fil_flow.specs.Shown.{port_widths}
 use Rattle.fil_flow.specs.declared.dataflow.Dataflow.{Dataflow}
 use Rattle.stim_read.specs.TxRun.{Transaction, transaction_seen}
+use Rattle.filc_report.proofs.MemoryLemmas.{first_left}
 use Rattle.filc_report.specs.Rows.{port_text, ports_text}
 use Rattle.filc_load.specs.StimulusFile.{event_name}
 use Rattle.filc_report.specs.Transactions.{flow_line, flow_lines, named_line}
-
--- the first of what is left of a list
-first_left : {X : Type 0} (xs : List X) (i : ℕ) (x : X) (rest : List X) → drop i xs ≡ x ∷ rest → (slice_get xs i ≡ Some x) × (drop (i + 1) xs ≡ rest)
-first_left [] zero x rest e = cc
-first_left [] (suc i) x rest e = cc
-first_left (y ∷ xs) zero x rest e = let same : y ≡ x = cc in let left : xs ≡ rest = cc in (ap Some same, left)
-first_left (y ∷ xs) (suc i) x rest e =
-    let r = first_left xs i x rest e in
-    let next : suc i + 1 ≡ suc (i + 1) = omega arith in
-    (r.0, rw next r.1)
 
 -- what is left of a mapped list, from a place on
 pub mapped_here : {X Y : Type 0} (f : X → Y) (xs : List X) (i : ℕ) (x : X) → i < length xs → x ≡ get_or xs i x → drop i (map f xs) ≡ f x ∷ drop (i + 1) (map f xs)

@@ -1,5 +1,5 @@
 -- The inputs of a run as they are set.
-use Rattle.std.proofs.Common.{◌≡◌, ℕ, zero, suc, ◌+◌, ◌-◌, ◌<◌, ◌≤◌, List, [], ◌∷◌, ◌++◌, length, take, drop, get_or, set, slice_get, slice_range, slice_set, replicate, Some, cond, false, ⊎_elim, refl, sym, ap, ◌∙◌, arith, get_or-drop}
+use Rattle.std.proofs.Common.{◌≡◌, ℕ, zero, suc, ◌+◌, ◌-◌, ◌<◌, ◌≤◌, List, [], ◌∷◌, ◌++◌, length, map, take, drop, get_or, set, slice_get, slice_range, slice_set, replicate, Some, cond, false, ⊎_elim, refl, sym, ap, ◌∙◌, arith, get_or-drop}
 use Rattle.std.proofs.lemmas.List.{map-set, take_more, length-drop, length-map, get_or-map}
 use Rattle.std.proofs.lemmas.Option.{get_or_from_slice_get, slice_get_within, slice_get-get_or}
 use Rattle.std.proofs.Math.Seq.{map-set_same, take-add}
@@ -11,7 +11,8 @@ use Rattle.std.specs.List.Sorted.{IsNonDecreasingBy}
 use Rattle.hw_bits.specs.Values.{values_of, widths_of}
 use Rattle.hw_bits.specs.declared.bits.Bits.{Bits}
 use Rattle.net_core.specs.declared.stimulus.InputSet.{InputSet}
-use Rattle.filc_load.specs.Inputs.{with_sets, is_due, values_in_row}
+use Rattle.stim_read.specs.CycleRun.{Setting, setting_seen}
+use Rattle.filc_load.specs.Given.{with_settings, is_made_by, with_sets}
 use Rattle.filc_report.specs.Driving.{AreMade}
 
 pub with_sets-append : (xs ys : List InputSet) (values : List ℕ) → with_sets (xs ++ ys) values ≡ with_sets ys (with_sets xs values)
@@ -49,19 +50,23 @@ read_same xs i d e within = get_or_from_slice_get xs i (get_or xs i e) d (slice_
 later-leb : (row from : ℕ) → row < from → nat_le from row ≡ false
 later-leb row from later = ⊎_elim (λ yes. absurd (omega (arith, yes.1, later))) (λ no. no.0) (leb_tells from row)
 
-none_due : (row : ℕ) (sets : List InputSet) → ((i : ℕ) (d : InputSet) → i < length sets → row < (get_or sets i d).from) → filter (is_due row) sets ≡ []
+-- the settings that are made by a row
+abbrev pub due_of : ℕ → List InputSet → List Setting
+due_of row sets = filter (is_made_by row) (map setting_seen sets)
+
+none_due : (row : ℕ) (sets : List InputSet) → ((i : ℕ) (d : InputSet) → i < length sets → row < (get_or sets i d).from) → due_of row sets ≡ []
 none_due row [] later = refl
 none_due row (s ∷ sets) later =
-    ap (λ b. cond b (s ∷ filter (is_due row) sets) (filter (is_due row) sets)) (later-leb row s.from (later 0 s (omega arith)))
+    ap (λ b. cond b (setting_seen s ∷ due_of row sets) (due_of row sets)) (later-leb row s.from (later 0 s (omega arith)))
     ∙ none_due row sets (λ i d within. later (suc i) d (omega arith))
 
-pub due_front : (row k : ℕ) (sets : List InputSet) → k ≤ length sets → ((i : ℕ) (d : InputSet) → i < k → i < length sets → (get_or sets i d).from ≤ row) → ((i : ℕ) (d : InputSet) → k ≤ i → i < length sets → row < (get_or sets i d).from) → filter (is_due row) sets ≡ take k sets
+pub due_front : (row k : ℕ) (sets : List InputSet) → k ≤ length sets → ((i : ℕ) (d : InputSet) → i < k → i < length sets → (get_or sets i d).from ≤ row) → ((i : ℕ) (d : InputSet) → k ≤ i → i < length sets → row < (get_or sets i d).from) → due_of row sets ≡ map setting_seen (take k sets)
 due_front row zero [] fits due later = refl
 due_front row (suc k) [] fits due later = refl
 due_front row zero (s ∷ sets) fits due later = none_due row (s ∷ sets) (λ i d within. later i d (omega arith) within)
 due_front row (suc k) (s ∷ sets) fits due later =
-    ap (λ b. cond b (s ∷ filter (is_due row) sets) (filter (is_due row) sets)) (le-leb s.from row (due 0 s (omega arith) (omega arith)))
-    ∙ ap (λ xs. s ∷ xs) (due_front row k sets (omega arith) (λ i d before within. due (suc i) d (omega arith) (omega arith)) (λ i d after within. later (suc i) d (omega arith) (omega arith)))
+    ap (λ b. cond b (setting_seen s ∷ due_of row sets) (due_of row sets)) (le-leb s.from row (due 0 s (omega arith) (omega arith)))
+    ∙ ap (λ xs. setting_seen s ∷ xs) (due_front row k sets (omega arith) (λ i d before within. due (suc i) d (omega arith) (omega arith)) (λ i d after within. later (suc i) d (omega arith) (omega arith)))
 
 take-append-range : {X : Type 0} (xs : List X) (from to : ℕ) → from ≤ to → take from xs ++ slice_range xs from to ≡ take to xs
 take-append-range xs from to in_order =
@@ -83,9 +88,9 @@ module _ (sets : List InputSet) (before after : List Bits) (taken next row count
   pub more_made : AreMade sets after next (suc row) count
   more_made = record { fits = within; due = λ i d earlier. omega (arith, all_due i d earlier); values = all_values }
 
-  pub values_are : ((s : InputSet) → next < length sets → slice_get sets next ≡ Some s → row < s.from) → IsNonDecreasingBy (λ (s : InputSet). s.from) sets → values_of after ≡ values_in_row sets count row
+  pub values_are : ((s : InputSet) → next < length sets → slice_get sets next ≡ Some s → row < s.from) → IsNonDecreasingBy (λ (s : InputSet). s.from) sets → values_of after ≡ with_settings (due_of row sets) (replicate count 0)
   values_are later rising =
-      all_values ∙ ap (λ xs. with_sets xs (replicate count 0)) (sym (due_front row next sets within (λ i d earlier inside. all_due i d earlier)
+      all_values ∙ ap (λ xs. with_settings xs (replicate count 0)) (sym (due_front row next sets within (λ i d earlier inside. all_due i d earlier)
       (λ i d late inside.
       let first = later (get_or sets next d) (omega (arith, late, inside)) (slice_get-get_or sets next d (omega (arith, late, inside))) in
       omega (arith, first, rising next i d late inside))))

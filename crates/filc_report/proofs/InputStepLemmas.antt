@@ -20,7 +20,7 @@ use Rattle.fil_ast.specs.declared.tx.TxList.{TxList}
 use Rattle.fil_sig.specs.Seen.{seen}
 use Rattle.fil_sig.specs.declared.time_sig.TimeSig.{TimeSig}
 use Rattle.stim_read.specs.TxRun.{tx_run_seen}
-use Rattle.filc_load.specs.Inputs.{with_sets, AreSetsFor}
+use Rattle.filc_load.specs.Given.{with_sets, AreSetsFor}
 use Rattle.filc_report.specs.Driving.{trace_of, AreInputsAt, AreMade, DrivesPin, value_in, GiveValues}
 use Rattle.filc_report.specs.Intervals.{ArePassed}
 use Rattle.fil_driven.specs.TxDrive.{driven_by}

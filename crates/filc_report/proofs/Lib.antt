@@ -15,6 +15,7 @@ pub mod PartLemmas
 pub mod RunLemmas
 pub mod GivenLemmas
 pub mod PassingLemmas
+pub mod LineLemmas
 pub mod FlowLemmas
 pub mod HoldLemmas
 pub mod SumLemmas

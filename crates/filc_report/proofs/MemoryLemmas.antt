@@ -9,8 +9,8 @@ use Rattle.hw_io.specs.Writing.{AppendsPrefix, Passes}
 use Rattle.hw_names.proofs.NameLemmas.{Contains-slice_get}
 use Rattle.hw_names.specs.Name.{Text, dotted}
 use Rattle.hw_prims.specs.Meaning.{next_state}
-use Rattle.hw_prims.specs.Row.{Row, Trace, values_at}
-use Rattle.hw_prims.specs.State.{State, words_of}
+use Rattle.hw_prims.specs.Row.{Trace}
+use Rattle.hw_prims.specs.State.{State, memory_words}
 use Rattle.hw_prims.specs.Table.{prim_of, inputs_of, pin_names}
 use Rattle.hw_prims.specs.declared.prim.Primitive.{Primitive}
 use Rattle.net_core.specs.Circuit.{states_before}
@@ -20,7 +20,7 @@ use Rattle.net_core.specs.Rules.{IsValid}
 use Rattle.net_core.specs.declared.net.NetCell.{NetCell}
 use Rattle.net_sim.specs.Layout.{port_names}
 use Rattle.net_sim.specs.Shown.{is_shown, shown_cells, IsShown}
-use Rattle.net_sim.proofs.OneRunLemmas.{input_number}
+use Rattle.net_sim.proofs.OneRunLemmas.{input_number, values_alike}
 use Rattle.net_sim.proofs.PlaceLemmas.{named_at}
 use Rattle.filc_load.proofs.SettableLemmas.{made_cell}
 use Rattle.filc_report.specs.Rows.{memory_text, cell_words, shown_text, memories_text}
@@ -63,7 +63,8 @@ AreLeft n mem i = drop mem (shown_cells n) ≡ filter is_shown (drop i n.cells)
 pub line_at : (names : List Text) (cells : List NetCell) (i : ℕ) (cell : NetCell) (d : CellLine) → i < length cells → cell ≡ get_or cells i cell → get_or (map (cell_of names) cells) i d ≡ cell_of names cell
 line_at names cells i cell d within is = get_or-map (cell_of names) cells i cell d within ∙ ap (cell_of names) (sym is)
 
-first_left : {X : Type 0} (xs : List X) (i : ℕ) (x : X) (rest : List X) → drop i xs ≡ x ∷ rest → (slice_get xs i ≡ Some x) × (drop (i + 1) xs ≡ rest)
+-- the first of what is left of a list
+pub first_left : {X : Type 0} (xs : List X) (i : ℕ) (x : X) (rest : List X) → drop i xs ≡ x ∷ rest → (slice_get xs i ≡ Some x) × (drop (i + 1) xs ≡ rest)
 first_left [] zero x rest e = cc
 first_left [] (suc i) x rest e = cc
 first_left (y ∷ xs) zero x rest e = let same : y ≡ x = cc in let left : xs ≡ rest = cc in (ap Some same, left)
@@ -90,7 +91,7 @@ module _ (n : Netlist) (mem i : ℕ) (line : CellLine) (within : i < length n.ce
     step : flat_map (shown_text states) (drop i n.cells) ≡ shown_text states line ++ flat_map (shown_text states) (drop (i + 1) n.cells)
     step = at_drop_more (flat_map (shown_text states)) n.cells i line within ∙ ap (λ (c : CellLine). shown_text states c ++ flat_map (shown_text states) (drop (i + 1) n.cells)) is
 
-    pub shown_step : (prim : Primitive) → line.shown ≡ true → prim_of line.prim line.params ≡ Some prim → flat_map (shown_text states) (drop i n.cells) ≡ memory_text line.name (words_of (states line.name prim)) ++ flat_map (shown_text states) (drop (i + 1) n.cells)
+    pub shown_step : (prim : Primitive) → line.shown ≡ true → prim_of line.prim line.params ≡ Some prim → flat_map (shown_text states) (drop i n.cells) ≡ memory_text line.name (memory_words (states line.name prim)) ++ flat_map (shown_text states) (drop (i + 1) n.cells)
     shown_step prim shown made =
         step ∙ ap (λ b. (if b then memory_text line.name (cell_words states line.name (prim_of line.prim line.params)) else []) ++ flat_map (shown_text states) (drop (i + 1) n.cells)) shown
         ∙ ap (λ o. memory_text line.name (cell_words states line.name o) ++ flat_map (shown_text states) (drop (i + 1) n.cells)) made
@@ -115,7 +116,7 @@ pub record IsNextShown (n : Netlist) (states : Text → Primitive → State) (me
   pub is_shown : IsShown n mem name prim
   pub counted : mem < length (shown_cells n)
   pub left : AreLeft n (mem + 1) (i + 1)
-  pub step : flat_map (shown_text states) (drop i n.cells) ≡ memory_text name (words_of (states name prim)) ++ flat_map (shown_text states) (drop (i + 1) n.cells)
+  pub step : flat_map (shown_text states) (drop i n.cells) ≡ memory_text name (memory_words (states name prim)) ++ flat_map (shown_text states) (drop (i + 1) n.cells)
 
 pub next_shown : (n : Netlist) → IsValid n → (states : Text → Primitive → State) (names : List Text) (cells : List NetCell) → n.cells ≡ map (cell_of names) cells → (mem i : ℕ) (cell : NetCell) → i < length cells → cell ≡ get_or cells i cell → AreLeft n mem i → cell.shown ≡ true → IsNextShown n states mem i (cell_of names cell).name
 next_shown n valid states names cells are mem i cell inside is left shown =
@@ -151,7 +152,7 @@ line_same states states' c None made same =
     ap (λ o. if c.shown then memory_text c.name (cell_words states c.name o) else []) made ∙ sym (ap (λ o. if c.shown then memory_text c.name (cell_words states' c.name o) else []) made)
 line_same states states' c (Some prim) made same =
     ap (λ o. if c.shown then memory_text c.name (cell_words states c.name o) else []) made
-    ∙ ap (λ s. if c.shown then memory_text c.name (words_of s) else []) (same prim refl)
+    ∙ ap (λ s. if c.shown then memory_text c.name (memory_words s) else []) (same prim refl)
     ∙ sym (ap (λ o. if c.shown then memory_text c.name (cell_words states' c.name o) else []) made)
 
 pub memories_same : (n : Netlist) (states states' : Text → Primitive → State) → ((cell : Text) (prim : Primitive) → IsNetCell n cell prim → states cell prim ≡ states' cell prim) → memories_text n states ≡ memories_text n states'
@@ -159,10 +160,6 @@ memories_same n states states' same =
     texts_same (shown_text states) (shown_text states') n.cells (λ k c at. line_same states states' c (prim_of c.prim c.params) refl (λ prim made. same c.name prim (k, c, at, refl, made)))
 
 -- ---- traces that agree at the ports have the same states
-
-values_alike : (row row' : Row) (cell : Text) (pins : List Text) → ((k : ℕ) (pin : Text) → slice_get pins k ≡ Some pin → row (dotted cell pin) ≡ row' (dotted cell pin)) → values_at row (dotted cell) pins ≡ values_at row' (dotted cell) pins
-values_alike row row' cell [] same = refl
-values_alike row row' cell (pin ∷ pins) same = ap₂ ◌∷◌ (same 0 pin refl) (values_alike row row' cell pins (λ k q at. same (suc k) q at))
 
 pub states_same : (n : Netlist) (loads : Text → List ℕ) (trace second : Trace) (t : ℕ) → ((k : ℕ) → k < t → (port : Text) → IsPort n port → trace k port ≡ second k port) → (cell : Text) (prim : Primitive) → IsNetCell n cell prim → states_before t trace loads cell prim ≡ states_before t second loads cell prim
 states_same n loads trace second zero same cell prim is = refl

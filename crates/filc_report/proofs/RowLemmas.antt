@@ -1,11 +1,12 @@
 -- Printed rows: they depend on the printed ports alone, and more rows go on from fewer.
 use Rattle.std.proofs.Common.{◌≡◌, ℕ, zero, suc, ◌+◌, ◌-◌, ◌<◌, ◌≤◌, List, [], ◌∷◌, ◌++◌, length, drop, get_or, flat_map, decimal, Contains, refl, sym, ap, ap₂, subst, ◌∙◌, arith, append_assoc, add-zero, add-suc, slice_get, slice_range, Some, get_or-take, get_or-drop, length-take, length-drop}
-use Rattle.std.proofs.lemmas.List.{append-nil, drop_more}
+use Rattle.std.proofs.lemmas.List.{append-nil}
 use Rattle.std.proofs.lemmas.Option.{get_or_from_slice_get}
 use Rattle.std.specs.Prelude.{Bool, All, codes}
 use Rattle.std.proofs.lemmas.List.Elements.{Contains-append_right}
 use Rattle.hw_names.specs.Name.{Text}
 use Rattle.fil_ast.specs.Signature.{SigPort}
+use Rattle.stim_read.proofs.EachLemmas.{cut_at}
 use Rattle.stim_read.specs.TxRun.{Transaction}
 use Rattle.hw_prims.specs.Row.{Row, Trace}
 use Rattle.filc_report.specs.Rows.{port_text, row_text, lines_text, marked_port, marked_ports, marked_line}
@@ -54,12 +55,9 @@ fewer_lines line trace t u few =
 abbrev pub rest_of_line : List Text → List ℕ → List Bool → ℕ → Text
 rest_of_line names values marks k = marked_ports (drop k names) (drop k values) (drop k marks) ++ 10 ∷ []
 
-next_of_list : {X : Type 0} (xs : List X) (k : ℕ) (x : X) → k < length xs → x ≡ get_or xs k x → drop k xs ≡ x ∷ drop (k + 1) xs
-next_of_list xs k x within is = drop_more xs k x within ∙ ap (λ y. y ∷ drop (k + 1) xs) (sym is)
-
 pub next_of_line : (names : List Text) (values : List ℕ) (marks : List Bool) (k : ℕ) (name : Text) (value : ℕ) (mark : Bool) → k < length names → k < length values → k < length marks → name ≡ get_or names k name → value ≡ get_or values k value → mark ≡ get_or marks k mark → rest_of_line names values marks k ≡ marked_port name value mark ++ rest_of_line names values marks (k + 1)
 next_of_line names values marks k name value mark named valued marked name_is value_is mark_is =
-    ap₂ (λ ns (f : List Text → Text). f ns) (next_of_list names k name named name_is) (λ j. λ (ns : List Text). marked_ports ns (next_of_list values k value valued value_is j) (next_of_list marks k mark marked mark_is j) ++ 10 ∷ [])
+    ap₂ (λ ns (f : List Text → Text). f ns) (cut_at names k name named name_is) (λ j. λ (ns : List Text). marked_ports ns (cut_at values k value valued value_is j) (cut_at marks k mark marked mark_is j) ++ 10 ∷ [])
     ∙ append_assoc (marked_port name value mark) (marked_ports (drop (k + 1) names) (drop (k + 1) values) (drop (k + 1) marks)) (10 ∷ [])
 
 pub no_more : {X : Type 0} (xs : List X) (k : ℕ) → length xs ≤ k → drop k xs ≡ []

@@ -30,7 +30,6 @@ use Rattle.std.proofs.lemmas.List.Elements.{Contains-get_or}
 use Rattle.net_sim.proofs.PlaceLemmas.{named_at}
 use Rattle.net_sim.specs.Order.{IsNamed}
 use Rattle.net_sim.specs.Slots.{row_of}
-use Rattle.filc_load.specs.Inputs.{driven}
 use Rattle.filc_stop.specs.Leaving.{HasReport}
 use Rattle.filc_report.specs.Rows.{lines_text}
 use Rattle.filc_report.specs.Streams.{shown_ports, RunsCleanly, RunsIntoConflict, IsStreamed}
@@ -47,7 +46,7 @@ use Rattle.stim_read.specs.TxRun.{transaction_seen}
 use Rattle.filc_report.proofs.RowLemmas.{row_same, outputs_line_same}
 use Rattle.filc_report.specs.Rows.{outputs_of_net}
 use Rattle.filc_load.specs.Built.{IsReady}
-use Rattle.filc_load.specs.Given.{after_loads}
+use Rattle.filc_load.specs.Given.{after_loads, driven}
 use Rattle.filc_load.specs.declared.net_file.Built.{Built}
 use Rattle.net_core.specs.declared.stimulus.CycleList.{CycleList}
 use Rattle.net_core.specs.declared.stimulus.MemLoad.{MemLoad}

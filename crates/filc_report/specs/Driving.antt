@@ -1,11 +1,11 @@
 -- What drives the inputs of a netlist, row by row, and how the inputs stand before a row. This project's.
-use Rattle.std.specs.Prelude.{◌≡◌, ℕ, ◌<◌, ◌≤◌, ◌%◌, ◌^◌, List, [], ◌++◌, length, map, replicate, take, slice_get, slice_index_or, Option, None, Some}
-use Rattle.std.specs.Prelude.{IsSome, All}
+use Rattle.std.specs.Prelude.{◌≡◌, ℕ, ◌<◌, ◌≤◌, ◌%◌, ◌^◌, List, [], length, map, replicate, take, slice_get, slice_index_or, Option, None, Some}
+use Rattle.std.specs.Prelude.{All}
 use Rattle.hw_bits.specs.Values.{values_of, widths_of}
 use Rattle.hw_bits.specs.declared.bits.Bits.{Bits}
 use Rattle.hw_names.specs.Name.{Text, AreDistinct}
 use Rattle.hw_prims.specs.Row.{Trace}
-use Rattle.hw_prims.specs.Table.{Pin, pin, pin_names, pin_widths}
+use Rattle.hw_prims.specs.Table.{Pin, pin_names, pin_widths}
 use Rattle.net_core.specs.Netlist.{Netlist}
 use Rattle.net_core.specs.declared.stimulus.InputSet.{InputSet}
 use Rattle.fil_ast.specs.Signature.{SigEvent, SigPort, Signature}
@@ -15,7 +15,7 @@ use Rattle.fil_sig.specs.Seen.{seen}
 use Rattle.stim_read.specs.Fits.{AreLegal, FitsSignature}
 use Rattle.stim_read.specs.TxEvents.{HasFixedDelay, ports_after}
 use Rattle.stim_read.specs.TxRun.{Transaction, transaction_seen, tx_run_seen}
-use Rattle.filc_load.specs.Inputs.{driven, with_sets, AreSetsFor}
+use Rattle.filc_load.specs.Given.{driven, with_sets, AreSetsFor}
 use Rattle.filc_report.specs.Intervals.{port_interval, holding, ArePassed}
 use Rattle.fil_driven.specs.TxDrive.{HasPortsOf, driven_by, event_with}
 use Rattle.filc_report.specs.declared.drive.Drive.{Drive}

@@ -2,7 +2,7 @@
 use Rattle.std.specs.Prelude.{ℕ, zero, suc, Bool, List, [], ◌∷◌, ◌++◌, codes, decimal, flat_map, map, if◌then◌else◌, Option, None, Some}
 use Rattle.hw_names.specs.Name.{Text}
 use Rattle.hw_prims.specs.Row.{Row, Trace}
-use Rattle.hw_prims.specs.State.{State, words_of}
+use Rattle.hw_prims.specs.State.{State, memory_words}
 use Rattle.hw_prims.specs.Table.{Pin, prim_of}
 use Rattle.hw_prims.specs.declared.prim.Primitive.{Primitive}
 use Rattle.net_core.specs.Netlist.{Netlist, CellLine}
@@ -60,7 +60,7 @@ memory_text name words = codes "mem " ++ name ++ flat_map (λ word. codes " " ++
 -- the words of a cell, where the states of cells are these
 abbrev pub cell_words : (Text → Primitive → State) → Text → Option Primitive → List ℕ
 cell_words states name None = []
-cell_words states name (Some prim) = words_of (states name prim)
+cell_words states name (Some prim) = memory_words (states name prim)
 
 -- the line of a shown cell; any other cell has none
 abbrev pub shown_text : (Text → Primitive → State) → CellLine → Text

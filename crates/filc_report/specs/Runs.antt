@@ -13,8 +13,7 @@ use Rattle.net_core.specs.Netlist.{Netlist}
 use Rattle.net_core.specs.declared.stimulus.CycleList.{CycleList}
 use Rattle.stim_read.specs.CycleRun.{Run, load_seen}
 use Rattle.stim_read.specs.TxRun.{TxRun}
-use Rattle.filc_load.specs.Given.{given_inputs, after_loads}
-use Rattle.filc_load.specs.Inputs.{driven}
+use Rattle.filc_load.specs.Given.{given_inputs, after_loads, driven}
 use Rattle.filc_stop.specs.Leaving.{HasReport, Leaves, MakesNone}
 use Rattle.filc_stop.specs.Outcome.{Outcome, conflict_after, done_with}
 use Rattle.filc_stop.specs.Stops.{answer_of, refusal_line}

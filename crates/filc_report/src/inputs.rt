@@ -10,7 +10,7 @@ ghost use Rattle.net_core.specs.Rules.{IsValid};
 ghost use Rattle.net_core.specs.Table.{IsTableOf};
 ghost use Rattle.net_core.specs.declared.stimulus.InputSet.{InputSet};
 ghost use Rattle.net_sim.specs.Sim.{input_row};
-ghost use Rattle.filc_load.specs.Inputs.{with_sets, FitInputs};
+ghost use Rattle.filc_load.specs.Given.{with_sets, FitInputs};
 ghost use Rattle.filc_report.specs.Driving.{trace_of, FitsDrive, AreInputsAt};
 
 use crate::drive::Drive;

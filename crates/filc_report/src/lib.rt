@@ -6,7 +6,8 @@
 //!     1 p=15 q=-                after the last row the words of the memories that are shown (`memories`)
 //!     mem table 10 20 30 99
 //!
-//! `drive` says what a row is given, from rows or from transactions (`inputs`, `tx_inputs`); `view` which ports a line shows.
+//! `drive` says what a row is given, from rows or from transactions (`inputs`, `tx_inputs`); `view` which ports a line shows. `report` makes a
+//! row's line in a buffer of its own (`line`, `digits`), and passes it on as one piece; a port for which the buffer has no room goes on by itself.
 //! `flows` writes what transactions compute, `holds` which units they hold; `sums` and `summary` add a run's rows up.
 //!
 //! What the layer above uses: a run leaves exactly the lines of the netlist's rows, or up to its Conflict (`RunLeaves`); after a
@@ -19,6 +20,7 @@ mod flows;
 mod holds;
 mod inputs;
 mod intervals;
+mod line;
 mod memories;
 mod net_run;
 mod report;

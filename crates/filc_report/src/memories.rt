@@ -4,7 +4,7 @@ ghost use Rattle.std.specs.Io.KnownBytes.{Appends};
 ghost use Rattle.hw_io.specs.Faults.{Rose};
 ghost use Rattle.hw_io.specs.Writing.{AppendsPrefix, Passes};
 ghost use Rattle.hw_names.specs.Name.{Text};
-ghost use Rattle.hw_prims.specs.State.{words_of};
+ghost use Rattle.hw_prims.specs.State.{memory_words};
 ghost use Rattle.hw_prims.specs.declared.prim.Primitive.{Primitive};
 ghost use Rattle.net_core.specs.Netlist.{netlist_of};
 ghost use Rattle.net_core.specs.Numbers.{HasNumbers};
@@ -33,10 +33,10 @@ fn push_memory<O: Sink>(
     requires shown { mem < length (shown_cells (netlist_of sim.now.net)) }
     ensures passed { (cell : Text) (prim : Primitive) → IsShown (netlist_of sim.now.net) mem cell prim
         → OnOk result (Passes (O.written out.old) held.old (O.written out.new) held.new
-        (memory_text name.now (words_of (states_of (netlist_of sim.now.net) sim.now.states cell prim)))) }
+        (memory_text name.now (memory_words (states_of (netlist_of sim.now.net) sim.now.states cell prim)))) }
     ensures prefix { (cell : Text) (prim : Primitive) → IsShown (netlist_of sim.now.net) mem cell prim
         → OnErr result (AppendsPrefix (O.written out.old) (O.written out.new)
-        (held.old ++ memory_text name.now (words_of (states_of (netlist_of sim.now.net) sim.now.states cell prim)))) }
+        (held.old ++ memory_text name.now (memory_words (states_of (netlist_of sim.now.net) sim.now.states cell prim)))) }
     ensures emptied { OnErr result (held.new ≡ []) }
     ensures failed { OnErr result (Rose (O.faults out.old) (O.faults out.new)) }
     ensures never_falls { O.faults out.old ≤ O.faults out.new }

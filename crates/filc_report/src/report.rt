@@ -1,14 +1,16 @@
 //! The text of rows, passed on as they come.
-ghost use Rattle.std.specs.Prelude.{◌≡◌, ◌+◌, ◌≤◌, [], ◌++◌, length, OnOk, OnErr};
+ghost use Rattle.std.specs.Prelude.{◌≡◌, ◌+◌, ◌<◌, ◌≤◌, [], ◌++◌, length, OnOk, OnErr};
 ghost use Rattle.std.specs.Io.KnownBytes.{Appends};
 ghost use Rattle.hw_io.specs.Faults.{Rose};
 ghost use Rattle.hw_io.specs.Writing.{AppendsPrefix, Passes};
+ghost use Rattle.filc_report.specs.declared.line.TheConstants.{LINE_BYTES};
 ghost use Rattle.filc_report.specs.Rows.{accepted_text, port_text, marked_port};
 ghost use Rattle.filc_report.specs.Views.{line_at};
 ghost use Rattle.filc_load.specs.Slots.{NumbersPortsAsNames};
 ghost use Rattle.filc_stop.specs.Stops.{joined};
 
 use crate::digits::digits_of;
+use crate::line::{BESIDE_NAME, Line};
 use crate::view::View;
 use filc_load::name_of;
 use hw_io::{Failed, Gather, Sink, write_whole};
@@ -82,12 +84,41 @@ fn push_marked<O: Sink>(
     }
 }
 
-/// Passes the line of a row on: the cycle, and the ports of the view with their values in the row, where they are shown.
+/// Puts a port into a line that has room for it and for a byte more. Else passes on what the line holds, and then the port.
+fn pass_port<O: Sink>(
+    line: &mut Line,
+    held: &mut Gather,
+    out: &mut O,
+    port: &[u8],
+    value: u128,
+    shown: bool,
+) -> Result<(), Failed>
+    requires room { length line.old < LINE_BYTES }
+    ensures passed { OnOk result (Passes (O.written out.old) (held.old ++ line.old) (O.written out.new) (held.new ++ line.new) (marked_port port.now value shown)) }
+    ensures prefix { OnErr result (AppendsPrefix (O.written out.old) (O.written out.new) ((held.old ++ line.old) ++ marked_port port.now value shown)) }
+    ensures emptied { OnErr result (held.new ≡ []) }
+    ensures room { length line.new < LINE_BYTES }
+    ensures failed { OnErr result (Rose (O.faults out.old) (O.faults out.new)) }
+    ensures never_falls { O.faults out.old ≤ O.faults out.new }
+{
+    let fits = port.len() + BESIDE_NAME < line.room();
+    if fits {
+        line.put_port(port, value, shown);
+        return Ok(());
+    }
+    held.push(out, line.bytes())?;
+    line.clear();
+    push_marked(held, out, port, value, shown)
+}
+
+/// Passes the line of a row on: the cycle, and the ports of the view with their values in the row, where they are shown. It is made in `line`, of
+/// which nothing is kept.
 pub(crate) fn push_row<O: Sink>(
     sim: &Sim,
     table: &Table,
     view: &View,
     cycle: u64,
+    line: &mut Line,
     held: &mut Gather,
     out: &mut O,
 ) -> Result<(), Failed>
@@ -102,20 +133,23 @@ pub(crate) fn push_row<O: Sink>(
     ensures failed { OnErr result (Rose (O.faults out.old) (O.faults out.new)) }
     ensures never_falls { O.faults out.old ≤ O.faults out.new }
 {
-    let mut digits = Buffer::new();
-    held.push(out, digits.format(cycle).as_bytes())?;
+    line.clear();
+    line.put_number(cycle);
     let first = view.ports.start;
     for at in 0..view.shown.len() {
         let port = first + at;
-        push_marked(
+        let name = name_of(table, port);
+        pass_port(
+            line,
             held,
             out,
-            name_of(table, port),
+            name,
             sim.value(port).value(),
             view.shown[at],
         )?;
     }
-    held.push(out, "\n".as_bytes())
+    line.put_byte(b'\n');
+    held.push(out, line.bytes())
 }
 
 /// Writes that a design is accepted.

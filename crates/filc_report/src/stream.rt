@@ -14,6 +14,7 @@ ghost use Rattle.filc_report.specs.Views.{line_seen, marked_row, IsViewAt};
 
 use crate::drive::Drive;
 use crate::inputs::Inputs;
+use crate::line::Line;
 use crate::report::push_row;
 use crate::view::View;
 use hw_bits::Bits;
@@ -39,6 +40,7 @@ fn stream_row<O: Sink>(
     view: &View,
     cycle: u64,
     inputs: &[Bits],
+    line: &mut Line,
     held: &mut Gather,
     out: &mut O,
 ) -> RowEnd
@@ -60,7 +62,7 @@ fn stream_row<O: Sink>(
             port: conflict.port,
         };
     }
-    match push_row(sim, table, view, cycle, held, out) {
+    match push_row(sim, table, view, cycle, line, held, out) {
         Ok(()) => {
             sim.edge();
             RowEnd::Done
@@ -99,10 +101,20 @@ pub fn stream_rows<O: Sink>(
     ensures failed { result ≡ RowEnd.WriteFault → Rose (O.faults out.old) (O.faults out.new) }
     ensures never_falls { O.faults out.old ≤ O.faults out.new }
 {
+    let mut line = Line::new();
     for cycle in 0..rows {
         inputs.set_row(drive, cycle);
         view.set_row(drive.txs(), cycle);
-        match stream_row(sim, table, view, cycle, &inputs.values, held, out) {
+        match stream_row(
+            sim,
+            table,
+            view,
+            cycle,
+            &inputs.values,
+            &mut line,
+            held,
+            out,
+        ) {
             RowEnd::Done => {}
             end => return end,
         }

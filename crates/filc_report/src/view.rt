@@ -114,6 +114,9 @@ impl View {
         ensures marks { self.new.shown.items ≡ marks_in self.old txs.now row }
         ensures later { (later : ℕ) → marks_in self.new txs.now later ≡ marks_in self.old txs.now later }
     {
+        if self.intervals.is_empty() {
+            return;
+        }
         mark(&self.intervals, txs, row, &mut self.nexts, &mut self.shown);
     }
 }

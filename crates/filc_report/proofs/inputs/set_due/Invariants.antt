@@ -2,7 +2,7 @@ use Rattle.std.proofs.Common.{◌≡◌, ◌-◌, ◌≤◌, length, slice_range
 use Rattle.std.specs.List.{AllWithin}
 use Rattle.hw_bits.specs.Values.{values_of, widths_of}
 use Rattle.net_core.specs.declared.stimulus.InputSet.{InputSet}
-use Rattle.filc_load.specs.Inputs.{with_sets}
+use Rattle.filc_load.specs.Given.{with_sets}
 use Rattle.filc_report.proofs.inputs.set_due.Given as goal
 
 -- the sets up to the next were due, and were made

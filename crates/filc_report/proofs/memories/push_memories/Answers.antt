@@ -2,7 +2,7 @@ use Rattle.std.proofs.Common.{rules, ◌≡◌, ◌<◌, ◌++◌, ℕ, List, le
 use Rattle.hw_io.specs.Writing.{AppendsPrefix, Passes}
 use Rattle.hw_names.specs.Name.{Text, text_of}
 use Rattle.hw_names.proofs.NameLemmas.{text_of-slice_get}
-use Rattle.hw_prims.specs.State.{State, words_of}
+use Rattle.hw_prims.specs.State.{State, memory_words}
 use Rattle.hw_prims.specs.declared.prim.Primitive.{Primitive}
 use Rattle.net_core.specs.Netlist.{Netlist, netlist_of}
 use Rattle.net_core.specs.Rules.{IsValid}
@@ -36,11 +36,11 @@ returns-in_err-push_memory-clause-prefix g c =
     let at = next net c.requires.valid states c.deref-cell-items.result.now c.loop-cell.mem c.loop-cell.cell-index c.cell-item.result c.deref-cell-items.ensures.value c.loop-cell-test.true c.cell-item.is c.loop-cell.invariant.left c.if-cell.true in
     let name = text_of net.names c.cell-item.result.name in
     let named = text_of-slice_get net.names c.cell-item.result.name c.text.result.now c.text.ensures in
-    let text = memory_text name (words_of (states name at.prim)) in
+    let text = memory_text name (memory_words (states name at.prim)) in
     let shown = subst (λ (m : Netlist). IsShown m c.loop-cell.mem name at.prim) (sym c.requires.net) at.is_shown in
     let late : AppendsPrefix (told c.loop-cell.out) (told c.push_memory.new.out) (c.loop-cell.held ++ text) =
-    subst (λ (m : Netlist). AppendsPrefix (told c.loop-cell.out) (told c.push_memory.new.out) (c.loop-cell.held ++ memory_text name (words_of (states_of m c.args.sim.now.states name at.prim)))) c.requires.net
-    (subst (λ t. AppendsPrefix (told c.loop-cell.out) (told c.push_memory.new.out) (c.loop-cell.held ++ memory_text t (words_of (states_of (netlist_of c.args.sim.now.net) c.args.sim.now.states name at.prim)))) (sym named)
+    subst (λ (m : Netlist). AppendsPrefix (told c.loop-cell.out) (told c.push_memory.new.out) (c.loop-cell.held ++ memory_text name (memory_words (states_of m c.args.sim.now.states name at.prim)))) c.requires.net
+    (subst (λ t. AppendsPrefix (told c.loop-cell.out) (told c.push_memory.new.out) (c.loop-cell.held ++ memory_text t (memory_words (states_of (netlist_of c.args.sim.now.net) c.args.sim.now.states name at.prim)))) (sym named)
     (c.in_err-push_memory.ensures.prefix name at.prim shown)) in
     let prefix = passed_up_to_prefix (told c.args.out.now) (told c.loop-cell.out) (told c.push_memory.new.out) c.args.held.now c.loop-cell.held text (flat_map (shown_text states) (drop c.loop-cell.cell-index n.cells)) (flat_map (shown_text states) (drop (c.loop-cell.cell-index + 1) n.cells)) (memories_text n states) at.step c.loop-cell.invariant.passed late in
     search (rules, prefix)
@@ -57,11 +57,11 @@ loop-cell-preserved g c =
           let at = next net c.requires.valid states c.deref-cell-items.result.now c.loop-cell.mem i c.cell-item.result c.deref-cell-items.ensures.value c.loop-cell-test.true c.cell-item.is c.loop-cell.invariant.left w.if-cell.true in
           let name = text_of net.names c.cell-item.result.name in
           let named = text_of-slice_get net.names c.cell-item.result.name w.text.result.now w.text.ensures in
-          let text = memory_text name (words_of (states name at.prim)) in
+          let text = memory_text name (memory_words (states name at.prim)) in
           let shown = subst (λ (m : Netlist). IsShown m c.loop-cell.mem name at.prim) (sym c.requires.net) at.is_shown in
           let late : Passes (told c.loop-cell.out) c.loop-cell.held (told w.push_memory.new.out) w.push_memory.new.held text =
-          subst (λ (m : Netlist). Passes (told c.loop-cell.out) c.loop-cell.held (told w.push_memory.new.out) w.push_memory.new.held (memory_text name (words_of (states_of m c.args.sim.now.states name at.prim)))) c.requires.net
-          (subst (λ t. Passes (told c.loop-cell.out) c.loop-cell.held (told w.push_memory.new.out) w.push_memory.new.held (memory_text t (words_of (states_of (netlist_of c.args.sim.now.net) c.args.sim.now.states name at.prim)))) (sym named)
+          subst (λ (m : Netlist). Passes (told c.loop-cell.out) c.loop-cell.held (told w.push_memory.new.out) w.push_memory.new.held (memory_text name (memory_words (states_of m c.args.sim.now.states name at.prim)))) c.requires.net
+          (subst (λ t. Passes (told c.loop-cell.out) c.loop-cell.held (told w.push_memory.new.out) w.push_memory.new.held (memory_text t (memory_words (states_of (netlist_of c.args.sim.now.net) c.args.sim.now.states name at.prim)))) (sym named)
           (w.in_ok-push_memory.ensures.passed name at.prim shown)) in
           let passed = passed_up_to_more (told c.args.out.now) (told c.loop-cell.out) (told w.push_memory.new.out) c.args.held.now c.loop-cell.held w.push_memory.new.held text (flat_map (shown_text states) (drop i n.cells)) (flat_map (shown_text states) (drop (i + 1) n.cells)) (memories_text n states) at.step c.loop-cell.invariant.passed late in
           rw (w.held-is, w.out-is, w.mem-is) (record {

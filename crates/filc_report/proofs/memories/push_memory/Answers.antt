@@ -2,7 +2,7 @@ use Rattle.std.proofs.Common.{rules, ◌<◌, ◌+◌, ◌++◌, [], ◌∷◌, 
 use Rattle.std.proofs.lemmas.List.{append-nil}
 use Rattle.std.proofs.lemmas.Result.{on_ok_weaker, on_err_weaker}
 use Rattle.hw_io.specs.Writing.{AppendsPrefix, Passes}
-use Rattle.hw_prims.specs.State.{words_of}
+use Rattle.hw_prims.specs.State.{memory_words}
 use Rattle.net_core.specs.Netlist.{netlist_of}
 use Rattle.net_sim.specs.Sim.{states_of}
 use Rattle.filc_report.specs.Rows.{memory_text}
@@ -14,7 +14,7 @@ pub returns-in_err-push_texts-clause-prefix : goal.returns-in_err-push_texts-cla
 returns-in_err-push_texts-clause-prefix g c cell prim is =
     let told = g.O.Sink.written in
     let name = c.args.name.now in
-    let words = words_of (states_of (netlist_of c.args.sim.now.net) c.args.sim.now.states cell prim) in
+    let words = memory_words (states_of (netlist_of c.args.sim.now.net) c.args.sim.now.states cell prim) in
     let all = memory_text name words in
     let late : AppendsPrefix (told c.args.out.now) (told c.push_texts.new.out) (c.args.held.now ++ (codes "mem " ++ name)) =
     subst (λ t. AppendsPrefix (told c.args.out.now) (told c.push_texts.new.out) (c.args.held.now ++ (codes "mem " ++ t))) (append-nil name) (rw c.as_bytes.ensures.value at c.in_err-push_texts.ensures.prefix) in
@@ -29,7 +29,7 @@ loop-at-init g c =
     subst (λ t. Passes (told c.args.out.now) c.args.held.now (told c.push_texts.new.out) c.push_texts.new.held (codes "mem " ++ t)) (append-nil name) (rw c.as_bytes.ensures.value at c.in_ok-push_texts.ensures.passed) in
     record {
       passed = λ cell prim is.
-          let words = words_of (states_of (netlist_of c.args.sim.now.net) c.args.sim.now.states cell prim) in
+          let words = memory_words (states_of (netlist_of c.args.sim.now.net) c.args.sim.now.states cell prim) in
           let all = memory_text name words in
           passed_up_to_more (told c.args.out.now) (told c.args.out.now) (told c.push_texts.new.out) c.args.held.now c.args.held.now c.push_texts.new.held (codes "mem " ++ name) all (rest_of_words words 0) all (memory_from name words) (passed_up_to_none (told c.args.out.now) c.args.held.now all) late;
       never_falls = c.in_ok-push_texts.ensures.never_falls;
@@ -46,7 +46,7 @@ returns-in_err-push_texts-2-clause-prefix g c cell prim is =
     let told = g.O.Sink.written in
     let at = c.loop-at.at in
     let word = c.value-word.result in
-    let words = words_of (states_of (netlist_of c.args.sim.now.net) c.args.sim.now.states cell prim) in
+    let words = memory_words (states_of (netlist_of c.args.sim.now.net) c.args.sim.now.states cell prim) in
     let count = c.word_count-at-end.ensures cell prim is in
     let within : at < length words = omega (arith, c.loop-at-test.true, count.1) in
     let parts = next_word words at word within (c.value-word.ensures ∙ c.word.ensures.value cell prim is) in
@@ -64,7 +64,7 @@ loop-at-preserved g c =
     subst (λ t. Passes (told c.loop-at.out) c.loop-at.held (told c.push_texts-in-loop-at.new.out) c.push_texts-in-loop-at.new.held (codes " " ++ t)) (append-nil (decimal word)) (rw (c.as_bytes-in-loop-at.ensures.value, c.as_bytes-in-loop-at-2.ensures.value, c.format.ensures.text) at c.in_ok-push_texts-2.ensures.passed) in
     record {
       passed = λ cell prim is.
-          let words = words_of (states_of (netlist_of c.args.sim.now.net) c.args.sim.now.states cell prim) in
+          let words = memory_words (states_of (netlist_of c.args.sim.now.net) c.args.sim.now.states cell prim) in
           let count = c.word_count-at-end.ensures cell prim is in
           let within : at < length words = omega (arith, c.loop-at-test.true, count.1) in
           let parts = next_word words at word within (c.value-word.ensures ∙ c.word.ensures.value cell prim is) in
@@ -75,7 +75,7 @@ loop-at-preserved g c =
 pub returns-clause-passed : goal.returns-clause-passed
 returns-clause-passed g c cell prim is =
     let told = g.O.Sink.written in
-    let words = words_of (states_of (netlist_of c.args.sim.now.net) c.args.sim.now.states cell prim) in
+    let words = memory_words (states_of (netlist_of c.args.sim.now.net) c.args.sim.now.states cell prim) in
     let all = memory_text c.args.name.now words in
     let count = c.word_count-at-end.ensures cell prim is in
     let last = last_word words c.loop-at.at (omega (arith, c.loop-at-test.false, count.1)) in
@@ -87,7 +87,7 @@ returns-clause-passed g c cell prim is =
 pub returns-clause-prefix : goal.returns-clause-prefix
 returns-clause-prefix g c cell prim is =
     let told = g.O.Sink.written in
-    let words = words_of (states_of (netlist_of c.args.sim.now.net) c.args.sim.now.states cell prim) in
+    let words = memory_words (states_of (netlist_of c.args.sim.now.net) c.args.sim.now.states cell prim) in
     let all = memory_text c.args.name.now words in
     let count = c.word_count-at-end.ensures cell prim is in
     let last = last_word words c.loop-at.at (omega (arith, c.loop-at-test.false, count.1)) in

@@ -1,6 +1,6 @@
 use Rattle.std.proofs.Common.{◌≤◌}
 use Rattle.hw_names.specs.Name.{Text}
-use Rattle.hw_prims.specs.State.{words_of}
+use Rattle.hw_prims.specs.State.{memory_words}
 use Rattle.hw_prims.specs.declared.prim.Primitive.{Primitive}
 use Rattle.net_core.specs.Netlist.{netlist_of}
 use Rattle.net_sim.specs.Shown.{IsShown}
@@ -18,6 +18,6 @@ invariant-loop-at g l =
     record {
       passed : (cell : Text) (prim : Primitive) → IsShown n l.mem cell prim
           → PassedUpTo (sink.written l.fn.out) l.fn.held (sink.written l.out) l.held
-          (rest_of_words (words_of (states_of n l.sim.states cell prim)) l.at) (memory_text l.name (words_of (states_of n l.sim.states cell prim)));
+          (rest_of_words (memory_words (states_of n l.sim.states cell prim)) l.at) (memory_text l.name (memory_words (states_of n l.sim.states cell prim)));
       never_falls : sink.faults l.fn.out ≤ sink.faults l.out;
     }

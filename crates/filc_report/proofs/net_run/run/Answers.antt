@@ -1,8 +1,7 @@
 use Rattle.std.proofs.Common.{rules, ap, inl, map, refl}
 use Rattle.net_core.specs.Netlist.{netlist_of}
 use Rattle.stim_read.specs.CycleRun.{load_seen}
-use Rattle.filc_load.specs.Given.{after_loads}
-use Rattle.filc_load.specs.Inputs.{driven}
+use Rattle.filc_load.specs.Given.{after_loads, driven}
 use Rattle.filc_stop.proofs.SinkLemmas.{keeps_all}
 use Rattle.filc_stop.specs.Leaving.{LeavesAt, MakesNone}
 use Rattle.filc_stop.specs.declared.stop.Stop.TheVariants as stop

@@ -1,13 +1,34 @@
-use Rattle.std.proofs.Common.{◌≡◌, ℕ, ◌+◌, ◌++◌, List, length, map, drop, get_or, refl, sym, ap, ap₂, subst, ◌∙◌, arith, Some}
-use Rattle.std.specs.Prelude.{Bool, slice_get}
+use Rattle.std.proofs.Common.{◌≡◌, ℕ, ◌+◌, ◌++◌, List, length, map, drop, get_or, refl, sym, ap, ap₂, subst, ◌∙◌, arith, Some, []}
+use Rattle.std.specs.Prelude.{Bool, slice_get, vec_len}
 use Rattle.std.specs.Option.{is_some}
 use Rattle.std.specs.Vec.{with_items}
-use Rattle.std.proofs.lemmas.List.{with_items_is, length-map, drop_at}
+use Rattle.std.proofs.lemmas.Bool.Decides.{Decides-eqb}
+use Rattle.std.proofs.lemmas.List.{nil_from_length, with_items_is, length-map, drop_at}
 use Rattle.filc_report.specs.Intervals.{holding, ArePassed}
 use Rattle.filc_report.specs.Views.{marks_in}
 use Rattle.filc_report.specs.declared.intervals.Interval.{Interval}
 use Rattle.filc_report.proofs.IntervalLemmas.{passed_later}
 use Rattle.filc_report.proofs.view.View.set_row.Goals as goal
+
+-- without intervals each port is marked as before
+pub returns-then-is_empty : goal.returns-then-is_empty
+returns-then-is_empty c =
+    let old = c.args.self.now in
+    let txs = c.args.txs.now in
+    let shows : Interval → Bool = λ (i : Interval). is_some (holding i c.args.row txs) in
+    let zero : vec_len old.intervals ≡ 0 = (Decides-eqb (vec_len old.intervals) 0).0 (sym c.is_empty.ensures ∙ c.if-is_empty.true) in
+    let none : old.intervals.items ≡ [] = nil_from_length old.intervals.items (omega (arith, zero, old.intervals.ok.0)) in
+    record {
+      at = record {
+        marks = c.requires.at.marks;
+        intervals = c.requires.at.intervals;
+        each = c.requires.at.each;
+        passed = λ k i is. passed_later i txs (get_or old.nexts.items k 0) c.args.row (c.requires.at.passed k i is);
+      };
+      ports = refl;
+      marks = sym (ap (λ (is : List Interval). map shows is ++ drop (length is) old.shown.items) none);
+      later = λ later. refl;
+    }
 
 pub mark-requires : goal.mark-requires
 mark-requires c = record {
