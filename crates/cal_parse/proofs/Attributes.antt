@@ -5,7 +5,7 @@ use Rattle.hw_grammar.specs.declared.terminal.Terminal.{Terminal}
 use Rattle.hw_grammar.specs.declared.end.ReadEnd.{ReadEnd}
 use Rattle.hw_grammar.specs.Reading.{Answer, Fails, after, many}
 use Rattle.cal_parse.specs.Grammar.{is_some_true}
-use Rattle.cal_parse.specs.Reading.{attribute_at, attributes_at, angle_entry_at, more_entries_at}
+use Rattle.cal_parse.specs.inside.Reading.{attribute_at, attributes_at, angle_entry_at, more_entries_at}
 use Rattle.cal_parse.proofs.Steps.{mapped_ok, mapped_fails}
 
 or_last : (a b c : Bool) → ((a || b) || c) ≡ (a || (b || c))

@@ -18,7 +18,7 @@ use Rattle.hw_grammar.proofs.Whole.{Judged, judge}
 use Rattle.cal_ast.specs.Tree.{PortName, Assignment, DoneLine, InBinding, OutBinding, Statement}
 use Rattle.cal_ast.specs.Tree as tree
 use Rattle.cal_parse.specs.Grammar.{port_from, Source, Guard, is_external, is_some_true, either_from, meant_from, MeantPin, pin_from, inputs_from, outputs_from, cell_from, assignment_from, done_from, GroupLine, AssignmentLine, LineOfDone, lines_from, group_from, Wire, GroupWire, AssignmentWire, wires_from, in_from, out_from, seq_from, par_from, branch_from, if_from, while_from, invoke_from, control_from, component_from, design_from, Past, IsPort, IsAttribute, AreAttributes, IsAngleEntry, AreAngleEntries, IsAngle, MaybeAngle, IsPin, AreInputs, AreOutputs, AreParameters, IsCell, IsSetting, IsAssignment, IsDoneMark, IsDoneLine, IsGroupLine, AreGroupLines, MaybeComb, IsGroup, IsWire, IsInBinding, IsOutBinding, BlockOf, BranchOf, IsEnable, MaybeWith, MaybeElse, IsCondition, IfOf, WhileOf, AreInBindings, AreOutBindings, IsInvoke, StatementOf, StatementTo, IsStatement, MaybeControl, MaybeOutputs, AreCells, AreWires, IsComponentBody, IsComponent, IsImport, AreImports, IsFile}
-use Rattle.cal_parse.specs.Reading.{attribute_at, attributes_at, angle_entry_at, more_entries_at, entries_at, angle_at, maybe_angle_at, pin_at, pin_set, inputs_at, outputs_at, listed_numbers_at, parameters_at, cell_at, assignment_at, done_mark_at, done_by, assignment_by, dotted_at, named_line_at, of_name, line_at, lines_at, maybe_comb_at, group_at, wire_at, wire_set, wire_list_at, wires_at, in_binding_at, out_binding_at, in_bindings_at, out_bindings_at, statement_set, block_by, branch_by, enable_at, maybe_with_at, maybe_else_by, condition_at, branches_by, if_by, while_by, invoke_at, plain_statement_by, statement_by, statement_to, maybe_control_at, maybe_outputs_at, cells_at, component_body_at, component_set, component_at, import_at, imports_at, components_at, file_at}
+use Rattle.cal_parse.specs.inside.Reading.{attribute_at, attributes_at, angle_entry_at, more_entries_at, entries_at, angle_at, maybe_angle_at, pin_at, pin_set, inputs_at, outputs_at, listed_numbers_at, parameters_at, cell_at, assignment_at, done_mark_at, done_by, assignment_by, dotted_at, named_line_at, of_name, line_at, lines_at, maybe_comb_at, group_at, wire_at, wire_set, wire_list_at, wires_at, in_binding_at, out_binding_at, in_bindings_at, out_bindings_at, statement_set, block_by, branch_by, enable_at, maybe_with_at, maybe_else_by, condition_at, branches_by, if_by, while_by, invoke_at, plain_statement_by, statement_by, statement_to, maybe_control_at, maybe_outputs_at, cells_at, component_body_at, component_set, component_at, import_at, imports_at, components_at, file_at}
 use Rattle.cal_parse.proofs.Parts.{past-exact, upto-between, between-law, limit-between}
 use Rattle.cal_parse.proofs.Guards.{port-exact, source-exact}
 use Rattle.cal_parse.proofs.Settings.{setting-exact}

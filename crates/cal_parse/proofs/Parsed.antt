@@ -22,7 +22,7 @@ use Rattle.cal_parse.specs.declared.parse.TheConstants.{MOST_NESTING}
 use Rattle.cal_parse.specs.declared.parse.CalTextEnd.{CalTextEnd}
 use Rattle.cal_parse.specs.declared.parse.CalTextEnd.TheVariants as ends
 use Rattle.cal_parse.specs.Grammar.{IsFile}
-use Rattle.cal_parse.specs.Reading.{file_at}
+use Rattle.cal_parse.specs.inside.Reading.{file_at}
 use Rattle.cal_parse.specs.Spelling.{SpellsDesign, IsRefusedAt, left_out, is_left_out, KeepsNesting, GrammarEnds, EndsBy}
 use Rattle.cal_parse.proofs.Exactness.{file_judged}
 

@@ -8,7 +8,7 @@ use Rattle.hw_grammar.proofs.Exact.{Exact, IsLang, apart, then_first, then_ext, 
 use Rattle.hw_grammar.proofs.Upto.{Upto, upto, upto-then, upto-mapped, upto-after}
 use Rattle.hw_grammar.proofs.Limit.{Within, within-mapped, within-then, within-after, within-self, Limit, limit-const, limit-mapped, limit-then, limit-after, after-law}
 use Rattle.cal_parse.specs.Grammar.{Past}
-use Rattle.cal_parse.specs.Reading.{past}
+use Rattle.cal_parse.specs.inside.Reading.{past}
 
 pub past-exact : {A B : Type 0} {P : Lang A} {Q : Lang B} {p : Reader A} {q : Reader B} {f g d e : List Sort} {n k : Bool} → Exact P p f n d → Exact Q q g k e → apart g d ≡ true → Exact (Past P Q) (past p q) (then_first n f g) (n && k) (then_ext k d e)
 past-exact {A = A} {B = B} a b side = mapped-exact (λ (x : A × B). x.1) (then-exact a b side)

@@ -7,7 +7,7 @@ use Rattle.cal_ast.specs.declared.tree.CalPin.{CalPin}
 use Rattle.cal_ast.specs.Tree.{pin_tree}
 use Rattle.cal_parse.specs.declared.pin.MeantPin as code
 use Rattle.cal_parse.specs.Grammar.{MeantPin, is_dropped, inputs_from}
-use Rattle.cal_parse.specs.Pins.{meant_tree}
+use Rattle.cal_parse.specs.inside.Pins.{meant_tree}
 
 push_step : (v : Bool) (pin : Pin) (all pins more : List Pin) → all ≡ pins ++ more → cond v all (pin ∷ all) ≡ cond v pins (pin ∷ pins) ++ more
 push_step true pin all pins more e = e

@@ -14,7 +14,7 @@ use Rattle.net_core.specs.declared.net.Cmp.{Cmp}
 use Rattle.net_core.specs.Guard.{GuardTrees, Reads, Compares, Negates, AllOf, AnyOf}
 use Rattle.cal_ast.specs.Tree.{PortName}
 use Rattle.cal_parse.specs.Grammar.{Source, Guard, test_from, all_from, any_from, IsSource, IsTight, IsGuard, UnitOf, GuardOf, IsSetting}
-use Rattle.cal_parse.specs.Reading.{guard_at, source_at, asked_from, asked_by, alone_from, behind_by, guard_marks, setting_at}
+use Rattle.cal_parse.specs.inside.Reading.{guard_at, source_at, asked_from, asked_by, alone_from, behind_by, guard_marks, setting_at}
 use Rattle.cal_parse.proofs.Guards.{source-exact, guard-exact, guard_up, guard_down, source_guard, First}
 
 abbrev Setting : Type 0

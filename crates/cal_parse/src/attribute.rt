@@ -1,7 +1,7 @@
 //! Attributes, which leave no trace but at cells.
 ghost use Rattle.std.specs.Prelude.{◌≡◌};
 ghost use Rattle.cal_parse.specs.Grammar.{is_external};
-ghost use Rattle.cal_parse.specs.Reading.{attribute_word_at, attribute_at, attributes_at, angle_entry_at, more_entries_at, entries_at, angle_at, maybe_angle_at};
+ghost use Rattle.cal_parse.specs.inside.Reading.{attribute_word_at, attribute_at, attributes_at, angle_entry_at, more_entries_at, entries_at, angle_at, maybe_angle_at};
 ghost use Rattle.hw_grammar.specs.declared.sort.Sort.TheVariants as Sort;
 ghost use Rattle.hw_grammar.specs.Reading.{Gives};
 
@@ -15,7 +15,7 @@ fn is_external(special: Special) -> bool
 }
 
 /// `"@" NAME ["(" NUMBER ")"]`: whether the name is `external`.
-#[tactic(auto, unfolding(crate::specs::Reading::attribute_at))]
+#[tactic(auto, unfolding(crate::specs::inside::Reading::attribute_at))]
 fn read_attribute(ts: &[Terminal]) -> Result<(bool, &[Terminal]), ReadEnd<'_>>
     ensures { Gives (λ x. (x.0, x.1.now)) result (attribute_at ts.now) }
 {
@@ -55,7 +55,7 @@ pub fn read_attributes(ts: &[Terminal]) -> Result<(bool, &[Terminal]), ReadEnd<'
 }
 
 /// `STRING "=" NUMBER`: whether the string is `"external"`.
-#[tactic(auto, unfolding(crate::specs::Reading::angle_entry_at))]
+#[tactic(auto, unfolding(crate::specs::inside::Reading::angle_entry_at))]
 fn read_angle_entry(ts: &[Terminal]) -> Result<(bool, &[Terminal]), ReadEnd<'_>>
     ensures { Gives (λ x. (x.0, x.1.now)) result (angle_entry_at ts.now) }
 {
@@ -89,7 +89,7 @@ fn more_entries(ts: &[Terminal]) -> Result<(bool, &[Terminal]), ReadEnd<'_>>
 }
 
 /// `STRING "=" NUMBER {"," STRING "=" NUMBER}`: whether a string is `"external"`.
-#[tactic(auto, unfolding(crate::specs::Reading::entries_at))]
+#[tactic(auto, unfolding(crate::specs::inside::Reading::entries_at))]
 fn read_entries(ts: &[Terminal]) -> Result<(bool, &[Terminal]), ReadEnd<'_>>
     ensures { Gives (λ x. (x.0, x.1.now)) result (entries_at ts.now) }
 {
@@ -99,7 +99,7 @@ fn read_entries(ts: &[Terminal]) -> Result<(bool, &[Terminal]), ReadEnd<'_>>
 }
 
 /// `"<" STRING "=" NUMBER {"," STRING "=" NUMBER} ">"`: whether a string is `"external"`.
-#[tactic(auto, unfolding(crate::specs::Reading::angle_at))]
+#[tactic(auto, unfolding(crate::specs::inside::Reading::angle_at))]
 fn read_angle(ts: &[Terminal]) -> Result<(bool, &[Terminal]), ReadEnd<'_>>
     ensures { Gives (λ x. (x.0, x.1.now)) result (angle_at ts.now) }
 {
@@ -110,7 +110,7 @@ fn read_angle(ts: &[Terminal]) -> Result<(bool, &[Terminal]), ReadEnd<'_>>
 }
 
 /// Such a list in angles, or nothing.
-#[tactic(auto, unfolding(crate::specs::Reading::maybe_angle_at))]
+#[tactic(auto, unfolding(crate::specs::inside::Reading::maybe_angle_at))]
 pub fn angle_or_none(ts: &[Terminal]) -> Result<(bool, &[Terminal]), ReadEnd<'_>>
     ensures { Gives (λ x. (x.0, x.1.now)) result (maybe_angle_at ts.now) }
 {

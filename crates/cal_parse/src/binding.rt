@@ -1,7 +1,7 @@
 //! Bindings of invokes, from terminals.
 ghost use Rattle.std.specs.Prelude.{◌≡◌, [], ◌∷◌, List, map};
 ghost use Rattle.cal_ast.specs.Tree.{in_tree, out_tree};
-ghost use Rattle.cal_parse.specs.Reading.{GivesNamed, in_binding_at, out_binding_at, in_bindings_at, out_bindings_at};
+ghost use Rattle.cal_parse.specs.inside.Reading.{GivesNamed, in_binding_at, out_binding_at, in_bindings_at, out_bindings_at};
 ghost use Rattle.hw_grammar.specs.declared.sort.Sort.TheVariants as Sort;
 ghost use Rattle.hw_grammar.specs.Reading.{with_front, list_tail, listed};
 
@@ -11,7 +11,7 @@ use hw_grammar::{ReadEnd, Sort, Terminal, read_name, read_one, starts};
 use std::alloc::Global;
 
 /// `NAME "=" source`
-#[tactic(auto, unfolding(crate::specs::Reading::in_binding_at))]
+#[tactic(auto, unfolding(crate::specs::inside::Reading::in_binding_at))]
 fn read_in_binding(ts: &[Terminal]) -> Result<(InBind, &[Terminal]), ReadEnd<'_>>
     ensures { GivesNamed (λ names x. (in_tree names x.0, x.1.now)) result (λ names. in_binding_at names ts.now) }
 {
@@ -69,7 +69,7 @@ fn listed_in_bindings(
 }
 
 /// `"(" [ib {"," ib} [","]] ")"`
-#[tactic(auto, unfolding(crate::specs::Reading::in_bindings_at))]
+#[tactic(auto, unfolding(crate::specs::inside::Reading::in_bindings_at))]
 pub fn read_in_bindings(
     alloc: Global,
     ts: &[Terminal],
@@ -83,7 +83,7 @@ pub fn read_in_bindings(
 }
 
 /// `NAME "=" port`
-#[tactic(auto, unfolding(crate::specs::Reading::out_binding_at))]
+#[tactic(auto, unfolding(crate::specs::inside::Reading::out_binding_at))]
 fn read_out_binding(ts: &[Terminal]) -> Result<(OutBind, &[Terminal]), ReadEnd<'_>>
     ensures { GivesNamed (λ names x. (out_tree names x.0, x.1.now)) result (λ names. out_binding_at names ts.now) }
 {
@@ -141,7 +141,7 @@ fn listed_out_bindings(
 }
 
 /// `"(" [ob {"," ob} [","]] ")"`
-#[tactic(auto, unfolding(crate::specs::Reading::out_bindings_at))]
+#[tactic(auto, unfolding(crate::specs::inside::Reading::out_bindings_at))]
 pub fn read_out_bindings(
     alloc: Global,
     ts: &[Terminal],

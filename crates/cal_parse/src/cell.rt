@@ -1,7 +1,7 @@
 //! Cells, from terminals.
 ghost use Rattle.std.specs.Prelude.{◌≡◌, [], ◌∷◌, List, map};
 ghost use Rattle.cal_ast.specs.Tree.{cell_tree};
-ghost use Rattle.cal_parse.specs.Reading.{GivesNamed, pin_set, more_number_at, listed_numbers_at, parameters_at, cell_at, cells_at};
+ghost use Rattle.cal_parse.specs.inside.Reading.{GivesNamed, pin_set, more_number_at, listed_numbers_at, parameters_at, cell_at, cells_at};
 ghost use Rattle.hw_grammar.specs.declared.sort.Sort.TheVariants as Sort;
 ghost use Rattle.hw_grammar.specs.Reading.{Gives, with_front, many};
 
@@ -12,7 +12,7 @@ use hw_grammar::{ReadEnd, Sort, Terminal, read_name, read_number, read_one, star
 use std::alloc::Global;
 
 /// `"," NUMBER`
-#[tactic(auto, unfolding(crate::specs::Reading::more_number_at))]
+#[tactic(auto, unfolding(crate::specs::inside::Reading::more_number_at))]
 fn read_more_number(ts: &[Terminal]) -> Result<(u128, &[Terminal]), ReadEnd<'_>>
     ensures { Gives (λ x. (x.0, x.1.now)) result (more_number_at ts.now) }
 {
@@ -48,7 +48,7 @@ fn more_numbers<'a>(
 }
 
 /// `[NUMBER {"," NUMBER}]`
-#[tactic(auto, unfolding(crate::specs::Reading::listed_numbers_at, crate::specs::Reading::more_number_at))]
+#[tactic(auto, unfolding(crate::specs::inside::Reading::listed_numbers_at, crate::specs::inside::Reading::more_number_at))]
 fn listed_numbers(alloc: Global, ts: &[Terminal]) -> Result<(Vec<u128>, &[Terminal]), ReadEnd<'_>>
     ensures { Gives (λ x. (x.0.items, x.1.now)) result (listed_numbers_at ts.now) }
 {
@@ -63,7 +63,7 @@ fn listed_numbers(alloc: Global, ts: &[Terminal]) -> Result<(Vec<u128>, &[Termin
 }
 
 /// `"(" [NUMBER {"," NUMBER}] ")"`
-#[tactic(auto, unfolding(crate::specs::Reading::parameters_at))]
+#[tactic(auto, unfolding(crate::specs::inside::Reading::parameters_at))]
 fn read_parameters(alloc: Global, ts: &[Terminal]) -> Result<(Vec<u128>, &[Terminal]), ReadEnd<'_>>
     ensures { Gives (λ x. (x.0.items, x.1.now)) result (parameters_at ts.now) }
 {
@@ -74,7 +74,7 @@ fn read_parameters(alloc: Global, ts: &[Terminal]) -> Result<(Vec<u128>, &[Termi
 }
 
 /// A cell.
-#[tactic(auto, unfolding(crate::specs::Reading::cell_at))]
+#[tactic(auto, unfolding(crate::specs::inside::Reading::cell_at))]
 fn read_cell(alloc: Global, ts: &[Terminal]) -> Result<(CalCell, &[Terminal]), ReadEnd<'_>>
     ensures { GivesNamed (λ names x. (cell_tree names x.0, x.1.now)) result (λ names. cell_at names ts.now) }
 {
@@ -120,7 +120,7 @@ fn read_cell_list(
 }
 
 /// `"cells" "{" {cell} "}"`
-#[tactic(auto, unfolding(crate::specs::Reading::cells_at))]
+#[tactic(auto, unfolding(crate::specs::inside::Reading::cells_at))]
 pub fn read_cells(
     alloc: Global,
     ts: &[Terminal],

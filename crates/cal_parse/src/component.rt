@@ -1,7 +1,7 @@
 //! Components and whole files, from terminals.
 ghost use Rattle.std.specs.Prelude.{◌≡◌, [], ◌∷◌, List, map};
 ghost use Rattle.cal_ast.specs.Tree.{assignment_tree, cell_tree, group_tree, control_tree, component_tree};
-ghost use Rattle.cal_parse.specs.Reading.{GivesNamed, component_body_at, component_set, component_at, import_at, imports_at, components_at, file_at};
+ghost use Rattle.cal_parse.specs.inside.Reading.{GivesNamed, component_body_at, component_set, component_at, import_at, imports_at, components_at, file_at};
 ghost use Rattle.hw_grammar.specs.declared.sort.Sort.TheVariants as Sort;
 ghost use Rattle.hw_grammar.specs.Reading.{Gives, with_front, many, whole};
 ghost use Rattle.hw_grammar.specs.Sort.{has};
@@ -24,7 +24,7 @@ struct ComponentBody {
 }
 
 /// The sections of a component, between its braces.
-#[tactic(auto, unfolding(crate::specs::Reading::component_body_at))]
+#[tactic(auto, unfolding(crate::specs::inside::Reading::component_body_at))]
 fn read_component_body(
     alloc: Global,
     ts: &[Terminal],
@@ -52,7 +52,7 @@ fn read_component_body(
 }
 
 /// A component with its attributes, which are dropped.
-#[tactic(auto, unfolding(crate::specs::Reading::component_at))]
+#[tactic(auto, unfolding(crate::specs::inside::Reading::component_at))]
 fn read_component(alloc: Global, ts: &[Terminal]) -> Result<(CalComp, &[Terminal]), ReadEnd<'_>>
     ensures { GivesNamed (λ names x. (component_tree names x.0, x.1.now)) result (λ names. component_at names ts.now) }
 {
@@ -82,7 +82,7 @@ fn read_component(alloc: Global, ts: &[Terminal]) -> Result<(CalComp, &[Terminal
 }
 
 /// What follows `"import" STRING ";"`.
-#[tactic(auto, unfolding(crate::specs::Reading::import_at))]
+#[tactic(auto, unfolding(crate::specs::inside::Reading::import_at))]
 fn after_import(ts: &[Terminal]) -> Result<&[Terminal], ReadEnd<'_>>
     ensures { Gives (λ x. (tt, x.now)) result (import_at ts.now) }
 {
@@ -146,7 +146,7 @@ fn more_components<'a>(
 }
 
 /// `comp {comp}`
-#[tactic(auto, unfolding(crate::specs::Reading::components_at))]
+#[tactic(auto, unfolding(crate::specs::inside::Reading::components_at))]
 fn read_components(
     alloc: Global,
     ts: &[Terminal],
@@ -160,7 +160,7 @@ fn read_components(
 }
 
 /// Imports, which are dropped, and components.
-#[tactic(auto, unfolding(crate::specs::Reading::file_at))]
+#[tactic(auto, unfolding(crate::specs::inside::Reading::file_at))]
 fn read_file(alloc: Global, ts: &[Terminal]) -> Result<(Vec<CalComp>, &[Terminal]), ReadEnd<'_>>
     ensures { GivesNamed (λ names x. (map (component_tree names) x.0.items, x.1.now)) result (λ names. file_at names ts.now) }
 {

@@ -2,7 +2,7 @@
 ghost use Rattle.std.specs.Prelude.{◌≡◌, [], ◌∷◌, List, map, option_map};
 ghost use Rattle.cal_ast.specs.Tree.{port_tree, statement_tree, control_tree};
 ghost use Rattle.cal_parse.specs.Grammar.{branch_from, control_from};
-ghost use Rattle.cal_parse.specs.Reading.{GivesNamed, statement_set, enable_at, maybe_with_at, maybe_else_by, condition_at, branches_by, if_by, while_by, invoke_at, block_by, branch_by, plain_statement_by, statement_to, maybe_control_at};
+ghost use Rattle.cal_parse.specs.inside.Reading.{GivesNamed, statement_set, enable_at, maybe_with_at, maybe_else_by, condition_at, branches_by, if_by, while_by, invoke_at, block_by, branch_by, plain_statement_by, statement_to, maybe_control_at};
 ghost use Rattle.hw_grammar.specs.declared.sort.Sort.TheVariants as Sort;
 ghost use Rattle.hw_grammar.specs.Reading.{many};
 ghost use Rattle.hw_grammar.specs.Sort.{has};
@@ -48,7 +48,7 @@ fn branch_of(mut statements: Vec<Control>) -> Control
 }
 
 /// `NAME ";"`
-#[tactic(auto, unfolding(crate::specs::Reading::enable_at))]
+#[tactic(auto, unfolding(crate::specs::inside::Reading::enable_at))]
 fn read_enable(ts: &[Terminal]) -> Result<(Control, &[Terminal]), ReadEnd<'_>>
     ensures { GivesNamed (λ names x. (statement_tree names x.0, x.1.now)) result (λ names. enable_at names ts.now) }
 {
@@ -58,7 +58,7 @@ fn read_enable(ts: &[Terminal]) -> Result<(Control, &[Terminal]), ReadEnd<'_>>
 }
 
 /// `["with" NAME]`
-#[tactic(auto, unfolding(crate::specs::Reading::maybe_with_at))]
+#[tactic(auto, unfolding(crate::specs::inside::Reading::maybe_with_at))]
 fn with_or_none(ts: &[Terminal]) -> Result<(Option<NameId>, &[Terminal]), ReadEnd<'_>>
     ensures { GivesNamed (λ names x. (option_map (text_of names) x.0, x.1.now)) result (λ names. maybe_with_at names ts.now) }
 {
@@ -72,7 +72,7 @@ fn with_or_none(ts: &[Terminal]) -> Result<(Option<NameId>, &[Terminal]), ReadEn
 }
 
 /// `port ["with" NAME]`
-#[tactic(auto, unfolding(crate::specs::Reading::condition_at))]
+#[tactic(auto, unfolding(crate::specs::inside::Reading::condition_at))]
 fn read_condition(ts: &[Terminal]) -> Result<((CalPort, Option<NameId>), &[Terminal]), ReadEnd<'_>>
     ensures { GivesNamed (λ names x. ((port_tree names x.0.0, option_map (text_of names) x.0.1), x.1.now)) result (λ names. condition_at names ts.now) }
 {
@@ -82,7 +82,7 @@ fn read_condition(ts: &[Terminal]) -> Result<((CalPort, Option<NameId>), &[Termi
 }
 
 /// `"invoke" NAME "(" [ib {"," ib} [","]] ")" "(" [ob {"," ob} [","]] ")" ";"`
-#[tactic(auto, unfolding(crate::specs::Reading::invoke_at))]
+#[tactic(auto, unfolding(crate::specs::inside::Reading::invoke_at))]
 fn read_invoke(alloc: Global, ts: &[Terminal]) -> Result<(Control, &[Terminal]), ReadEnd<'_>>
     ensures { GivesNamed (λ names x. (statement_tree names x.0, x.1.now)) result (λ names. invoke_at names ts.now) }
 {
@@ -280,7 +280,7 @@ fn control_of(statements: Vec<Control>) -> ControlPart
 }
 
 /// `["control" "{" {stmt} "}"]`
-#[tactic(auto, unfolding(crate::specs::Reading::maybe_control_at))]
+#[tactic(auto, unfolding(crate::specs::inside::Reading::maybe_control_at))]
 pub fn control_or_none(
     alloc: Global,
     ts: &[Terminal],

@@ -2,8 +2,8 @@
 ghost use Rattle.std.specs.Prelude.{◌≡◌, [], ◌∷◌, ◌++◌, List, map, option_map, IfOk};
 ghost use Rattle.cal_ast.specs.Tree.{port_tree, assignment_tree, done_tree, group_tree};
 ghost use Rattle.cal_parse.specs.Grammar.{port_from, assignments_in, dones_in, groups_in, sets_in};
-ghost use Rattle.cal_parse.specs.Lines.{line_tree, wire_tree};
-ghost use Rattle.cal_parse.specs.Reading.{GivesNamed, pin_set, wire_set, done_mark_at, dotted_at, named_line_at, line_at, lines_at, maybe_comb_at, group_at, wire_at, wire_list_at, wires_at};
+ghost use Rattle.cal_parse.specs.inside.Lines.{line_tree, wire_tree};
+ghost use Rattle.cal_parse.specs.inside.Reading.{GivesNamed, pin_set, wire_set, done_mark_at, dotted_at, named_line_at, line_at, lines_at, maybe_comb_at, group_at, wire_at, wire_list_at, wires_at};
 ghost use Rattle.hw_grammar.specs.declared.sort.Sort.TheVariants as Sort;
 ghost use Rattle.hw_grammar.specs.Reading.{Gives, mapped};
 ghost use Rattle.hw_grammar.specs.Sort.{has};
@@ -41,7 +41,7 @@ pub struct ComponentWires {
 }
 
 /// `"[" "done" "]"`: what follows it.
-#[tactic(auto, unfolding(crate::specs::Reading::done_mark_at))]
+#[tactic(auto, unfolding(crate::specs::inside::Reading::done_mark_at))]
 fn after_done_mark(ts: &[Terminal]) -> Result<&[Terminal], ReadEnd<'_>>
     ensures { Gives (λ x. (tt, x.now)) result (done_mark_at ts.now) }
 {
@@ -52,7 +52,7 @@ fn after_done_mark(ts: &[Terminal]) -> Result<&[Terminal], ReadEnd<'_>>
 }
 
 /// `["." NAME]`
-#[tactic(auto, unfolding(crate::specs::Reading::dotted_at))]
+#[tactic(auto, unfolding(crate::specs::inside::Reading::dotted_at))]
 fn dotted_or_none(ts: &[Terminal]) -> Result<(Option<NameId>, &[Terminal]), ReadEnd<'_>>
     ensures { GivesNamed (λ names x. (option_map (text_of names) x.0, x.1.now)) result (λ names. dotted_at names ts.now) }
 {
@@ -82,7 +82,7 @@ fn port_of(name: NameId, dotted: Option<NameId>) -> CalPort
 }
 
 /// What follows the name of a line: a done line, or an assignment.
-#[tactic(auto, unfolding(crate::specs::Reading::named_line_at))]
+#[tactic(auto, unfolding(crate::specs::inside::Reading::named_line_at))]
 fn read_named_line(
     alloc: Global,
     name: NameId,
@@ -132,7 +132,7 @@ impl GroupLines {
 }
 
 /// A line of a group, with its attributes, which are dropped.
-#[tactic(auto, unfolding(crate::specs::Reading::line_at))]
+#[tactic(auto, unfolding(crate::specs::inside::Reading::line_at))]
 fn read_line(alloc: Global, ts: &[Terminal]) -> Result<(GroupLine, &[Terminal]), ReadEnd<'_>>
     ensures { GivesNamed (λ names x. (line_tree names x.0, x.1.now)) result (λ names. line_at names ts.now) }
 {
@@ -167,7 +167,7 @@ fn read_lines(alloc: Global, ts: &[Terminal]) -> Result<(GroupLines, &[Terminal]
 }
 
 /// `["comb"]`
-#[tactic(auto, unfolding(crate::specs::Reading::maybe_comb_at))]
+#[tactic(auto, unfolding(crate::specs::inside::Reading::maybe_comb_at))]
 fn comb_or_none(ts: &[Terminal]) -> Result<(bool, &[Terminal]), ReadEnd<'_>>
     ensures { Gives (λ x. (x.0, x.1.now)) result (maybe_comb_at ts.now) }
 {
@@ -180,7 +180,7 @@ fn comb_or_none(ts: &[Terminal]) -> Result<(bool, &[Terminal]), ReadEnd<'_>>
 }
 
 /// A group without its attributes.
-#[tactic(auto, unfolding(crate::specs::Reading::group_at))]
+#[tactic(auto, unfolding(crate::specs::inside::Reading::group_at))]
 fn read_group(alloc: Global, ts: &[Terminal]) -> Result<(Group, &[Terminal]), ReadEnd<'_>>
     ensures { GivesNamed (λ names x. (group_tree names x.0, x.1.now)) result (λ names. group_at names ts.now) }
 {
@@ -236,7 +236,7 @@ impl ComponentWires {
 }
 
 /// A group or an assignment, with its attributes, which are dropped.
-#[tactic(auto, unfolding(crate::specs::Reading::wire_at))]
+#[tactic(auto, unfolding(crate::specs::inside::Reading::wire_at))]
 fn read_wire(alloc: Global, ts: &[Terminal]) -> Result<(Wire, &[Terminal]), ReadEnd<'_>>
     ensures { GivesNamed (λ names x. (wire_tree names x.0, x.1.now)) result (λ names. wire_at names ts.now) }
 {
@@ -279,7 +279,7 @@ fn read_wire_list(
 }
 
 /// `"wires" "{" {attrs (group | assign)} "}"`
-#[tactic(auto, unfolding(crate::specs::Reading::wires_at))]
+#[tactic(auto, unfolding(crate::specs::inside::Reading::wires_at))]
 pub fn read_wires(
     alloc: Global,
     ts: &[Terminal],

@@ -3,7 +3,7 @@ ghost use Rattle.std.specs.Prelude.{◌≡◌, List, [], ◌∷◌, map, length,
 ghost use Rattle.std.specs.List.{prefix_len};
 ghost use Rattle.cal_ast.specs.Tree.{port_tree};
 ghost use Rattle.cal_parse.specs.Grammar.{any_from, all_from};
-ghost use Rattle.cal_parse.specs.Reading.{GivesNamed, operators, operator_at, test_at, operand_by, negated_by, unit_by, conjunction_by, guard_to, is_not, negated};
+ghost use Rattle.cal_parse.specs.inside.Reading.{GivesNamed, operators, operator_at, test_at, operand_by, negated_by, unit_by, conjunction_by, guard_to, is_not, negated};
 ghost use Rattle.hw_grammar.specs.declared.sort.Sort.TheVariants as Sort;
 ghost use Rattle.hw_grammar.specs.Reading.{Gives, with_front, after, between, many};
 ghost use Rattle.hw_grammar.specs.Sort.{has};
@@ -34,7 +34,7 @@ fn starts_operator(ts: &[Terminal]) -> bool
 }
 
 /// `"==" | "!=" | "<" | ">" | "<=" | ">="`
-#[tactic(auto, unfolding(crate::specs::Reading::operator_at))]
+#[tactic(auto, unfolding(crate::specs::inside::Reading::operator_at))]
 fn read_operator(ts: &[Terminal]) -> Result<(Cmp, &[Terminal]), ReadEnd<'_>>
     ensures { Gives (λ x. (x.0, x.1.now)) result (operator_at ts.now) }
 {
@@ -60,7 +60,7 @@ fn read_operator(ts: &[Terminal]) -> Result<(Cmp, &[Terminal]), ReadEnd<'_>>
 }
 
 /// `source [op source]`
-#[tactic(auto, unfolding(crate::specs::Reading::test_at))]
+#[tactic(auto, unfolding(crate::specs::inside::Reading::test_at))]
 fn read_test(ts: &[Terminal]) -> Result<(Guard<CalPort>, &[Terminal]), ReadEnd<'_>>
     ensures { GivesNamed (λ names x. (guard_tree (port_tree names) x.0, x.1.now)) result (λ names. test_at names ts.now) }
 {

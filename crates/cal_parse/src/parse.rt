@@ -2,7 +2,7 @@
 ghost use Rattle.std.specs.Prelude.{◌≡◌, ℕ, List, [], ◌∷◌, IfOk, IfErr};
 ghost use Rattle.cal_ast.specs.Numbers.{HasNumbers};
 ghost use Rattle.cal_ast.specs.Tree.{Design, design_of};
-ghost use Rattle.cal_parse.specs.Reading.{file_at};
+ghost use Rattle.cal_parse.specs.inside.Reading.{file_at};
 ghost use Rattle.cal_parse.specs.Spelling.{SpellsDesign, KeepsNesting, GrammarEnds, EndsBy, left_out};
 ghost use Rattle.cal_parse.specs.Written.{DesignIsWritten};
 ghost use Rattle.hw_grammar.specs.Reading.{Gives, whole};

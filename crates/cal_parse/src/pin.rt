@@ -2,8 +2,8 @@
 ghost use Rattle.std.specs.Prelude.{◌≡◌, [], ◌∷◌, List, map, IfOk};
 ghost use Rattle.cal_ast.specs.Tree.{pin_tree};
 ghost use Rattle.cal_parse.specs.Grammar.{is_dropped, inputs_from, outputs_from};
-ghost use Rattle.cal_parse.specs.Pins.{meant_tree};
-ghost use Rattle.cal_parse.specs.Reading.{GivesNamed, pin_at, pin_set, inputs_at, outputs_at, maybe_outputs_at};
+ghost use Rattle.cal_parse.specs.inside.Pins.{meant_tree};
+ghost use Rattle.cal_parse.specs.inside.Reading.{GivesNamed, pin_at, pin_set, inputs_at, outputs_at, maybe_outputs_at};
 ghost use Rattle.hw_grammar.specs.declared.sort.Sort.TheVariants as Sort;
 ghost use Rattle.hw_grammar.specs.Reading.{with_front, list_tail, listed};
 ghost use Rattle.hw_grammar.specs.Sort.{has};
@@ -29,7 +29,7 @@ pub fn starts_named(ts: &[Terminal]) -> bool
 }
 
 /// A port with its attributes, which are dropped.
-#[tactic(auto, unfolding(crate::specs::Reading::pin_at))]
+#[tactic(auto, unfolding(crate::specs::inside::Reading::pin_at))]
 fn read_pin(ts: &[Terminal]) -> Result<(MeantPin, &[Terminal]), ReadEnd<'_>>
     ensures { GivesNamed (λ names x. (meant_tree names x.0, x.1.now)) result (λ names. pin_at names ts.now) }
 {
@@ -121,7 +121,7 @@ fn outputs_of(alloc: Global, pins: &[MeantPin]) -> Result<Vec<CalPin>, AllocErro
 }
 
 /// `"(" [pins] ")"` of inputs
-#[tactic(auto, unfolding(crate::specs::Reading::inputs_at))]
+#[tactic(auto, unfolding(crate::specs::inside::Reading::inputs_at))]
 pub fn read_inputs(
     alloc: Global,
     ts: &[Terminal],
@@ -136,7 +136,7 @@ pub fn read_inputs(
 }
 
 /// `"(" [pins] ")"` of outputs
-#[tactic(auto, unfolding(crate::specs::Reading::outputs_at))]
+#[tactic(auto, unfolding(crate::specs::inside::Reading::outputs_at))]
 fn read_outputs(alloc: Global, ts: &[Terminal]) -> Result<(Vec<CalPin>, &[Terminal]), ReadEnd<'_>>
     ensures { GivesNamed (λ names x. (map (pin_tree names) x.0.items, x.1.now)) result (λ names. outputs_at names ts.now) }
 {
@@ -148,7 +148,7 @@ fn read_outputs(alloc: Global, ts: &[Terminal]) -> Result<(Vec<CalPin>, &[Termin
 }
 
 /// `["->" "(" [pins] ")"]`
-#[tactic(auto, unfolding(crate::specs::Reading::maybe_outputs_at))]
+#[tactic(auto, unfolding(crate::specs::inside::Reading::maybe_outputs_at))]
 pub fn outputs_or_none(
     alloc: Global,
     ts: &[Terminal],

@@ -1,6 +1,6 @@
 //! Ports and sources, from terminals.
 ghost use Rattle.cal_ast.specs.Tree.{port_tree};
-ghost use Rattle.cal_parse.specs.Reading.{GivesNamed, port_at, source_at};
+ghost use Rattle.cal_parse.specs.inside.Reading.{GivesNamed, port_at, source_at};
 ghost use Rattle.net_core.specs.Guard.{source_tree};
 
 use cal_ast::CalPort;
@@ -8,7 +8,7 @@ use hw_grammar::{ReadEnd, Sort, Terminal, read_name, read_one, starts};
 use net_core::Src;
 
 /// `NAME ["." NAME]`
-#[tactic(auto, unfolding(crate::specs::Reading::port_at))]
+#[tactic(auto, unfolding(crate::specs::inside::Reading::port_at))]
 pub fn read_port(ts: &[Terminal]) -> Result<(CalPort, &[Terminal]), ReadEnd<'_>>
     ensures { GivesNamed (λ names x. (port_tree names x.0, x.1.now)) result (λ names. port_at names ts.now) }
 {
@@ -28,7 +28,7 @@ pub fn read_port(ts: &[Terminal]) -> Result<(CalPort, &[Terminal]), ReadEnd<'_>>
 }
 
 /// A port or a literal.
-#[tactic(auto, unfolding(crate::specs::Reading::source_at))]
+#[tactic(auto, unfolding(crate::specs::inside::Reading::source_at))]
 pub fn read_source(ts: &[Terminal]) -> Result<(Src<CalPort>, &[Terminal]), ReadEnd<'_>>
     ensures { GivesNamed (λ names x. (source_tree (port_tree names) x.0, x.1.now)) result (λ names. source_at names ts.now) }
 {

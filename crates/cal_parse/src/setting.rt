@@ -1,7 +1,7 @@
 //! Assignments, from terminals.
 ghost use Rattle.std.specs.Prelude.{◌≡◌, [], ◌∷◌, List, Option, Some, None};
 ghost use Rattle.cal_ast.specs.Tree.{port_tree, assignment_tree};
-ghost use Rattle.cal_parse.specs.Reading.{GivesNamed, asked_by, behind_by, setting_at, assignment_at};
+ghost use Rattle.cal_parse.specs.inside.Reading.{GivesNamed, asked_by, behind_by, setting_at, assignment_at};
 ghost use Rattle.net_core.specs.Guard.{source_tree, guard_tree, guard_option};
 
 use crate::guard::read_guard;
@@ -19,7 +19,7 @@ pub struct Setting {
 }
 
 /// `"?" source ";"` behind a guard.
-#[tactic(auto, unfolding(crate::specs::Reading::asked_by))]
+#[tactic(auto, unfolding(crate::specs::inside::Reading::asked_by))]
 fn read_asked(guard: Guard<CalPort>, ts: &[Terminal]) -> Result<(Setting, &[Terminal]), ReadEnd<'_>>
     ensures { GivesNamed (λ names x. ((guard_option (port_tree names) x.0.guard, source_tree (port_tree names) x.0.src), x.1.now)) result
         (λ names. asked_by names (guard_tree (port_tree names) guard) ts.now) }
@@ -66,7 +66,7 @@ pub fn read_setting(alloc: Global, ts: &[Terminal]) -> Result<(Setting, &[Termin
 }
 
 /// `port "=" [guard "?"] source ";"`
-#[tactic(auto, unfolding(crate::specs::Reading::assignment_at))]
+#[tactic(auto, unfolding(crate::specs::inside::Reading::assignment_at))]
 pub fn read_assignment(alloc: Global, ts: &[Terminal]) -> Result<(Assign, &[Terminal]), ReadEnd<'_>>
     ensures { GivesNamed (λ names x. (assignment_tree names x.0, x.1.now)) result (λ names. assignment_at names ts.now) }
 {

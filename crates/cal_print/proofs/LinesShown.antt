@@ -19,7 +19,7 @@ use Rattle.hw_grammar.specs.declared.terminal.Special.{Special}
 use Rattle.hw_grammar.specs.declared.terminal.Special.TheVariants.{External, Clock, Reset, Done, Plain}
 use Rattle.hw_grammar.specs.declared.terminal.Terminal.{Terminal}
 use Rattle.hw_grammar.specs.Grammar.{One, OneSpecial, Empty, Mapped, AnyWord, AnyNumber, Then, Either, Optional, After, Closed, Between, Many, Separated, Listed}
-use Rattle.hw_grammar.specs.Terminals.{special_of, sort_of, row_of}
+use Rattle.hw_grammar.specs.Terminals.{special_of, sort_of, entry_of}
 use Rattle.hw_grammar.specs.Words.{IsWritten}
 use Rattle.hw_grammar.proofs.Alike.{named}
 use Rattle.hw_grammar.proofs.Fragments.{Fragment, Blank, Word, retext, fragment_empty, fragment_then, fragment_after, fragment_closed, fragment_many, mark_stands}
@@ -93,9 +93,9 @@ after_external = (codes "clk", Clock) ∷ after_clock
 
 not_dropped : (name : Text) → name ≢ codes "clk" → name ≢ codes "reset" → is_dropped (special_of kinds.Name name) ≡ false
 not_dropped name no_clock no_reset =
-    by_test (λ v. is_dropped (unwrap_or (cond v (Some External) (row_of after_external name)) Plain) ≡ false) (bytes_eq (codes "external") name) (λ _. refl) (λ _.
-    by_test (λ v. is_dropped (unwrap_or (cond v (Some Clock) (row_of after_clock name)) Plain) ≡ false) (bytes_eq (codes "clk") name) (λ e. absurd (no_clock (sym ((bytes_eq-Decides (codes "clk") name).0 e)))) (λ _.
-    by_test (λ v. is_dropped (unwrap_or (cond v (Some Reset) (row_of after_reset name)) Plain) ≡ false) (bytes_eq (codes "reset") name) (λ e. absurd (no_reset (sym ((bytes_eq-Decides (codes "reset") name).0 e)))) (λ _.
+    by_test (λ v. is_dropped (unwrap_or (cond v (Some External) (entry_of after_external name)) Plain) ≡ false) (bytes_eq (codes "external") name) (λ _. refl) (λ _.
+    by_test (λ v. is_dropped (unwrap_or (cond v (Some Clock) (entry_of after_clock name)) Plain) ≡ false) (bytes_eq (codes "clk") name) (λ e. absurd (no_clock (sym ((bytes_eq-Decides (codes "clk") name).0 e)))) (λ _.
+    by_test (λ v. is_dropped (unwrap_or (cond v (Some Reset) (entry_of after_reset name)) Plain) ≡ false) (bytes_eq (codes "reset") name) (λ e. absurd (no_reset (sym ((bytes_eq-Decides (codes "reset") name).0 e)))) (λ _.
     by_test (λ v. is_dropped (unwrap_or (cond v (Some Done) None) Plain) ≡ false) (bytes_eq (codes "done") name) (λ _. refl) (λ _. refl))))
 
 inputs_step : (v : Bool) (p : Pin) (rest pins : List Pin) → v ≡ false → rest ≡ pins → cond v rest (p ∷ rest) ≡ p ∷ pins

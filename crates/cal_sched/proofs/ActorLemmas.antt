@@ -16,7 +16,7 @@ use Rattle.cal_ast.specs.Rules.{C1, KeepsRules}
 use Rattle.cal_ast.specs.Tree.{GroupDef, Invoke, Component, Design}
 use Rattle.cal_ast.specs.Wires.{all_groups}
 use Rattle.cal_walk.proofs.WantLemmas.{of_same_actor, same_actor_of}
-use Rattle.cal_walk.specs.Marking.{AreApart}
+use Rattle.cal_walk.specs.Marking.{HaveOwnMarks}
 use Rattle.cal_sched.proofs.PlaceLemmas.{append_places, map_both, place_from_map}
 use Rattle.cal_sched.specs.Walking.{actor_at}
 
@@ -134,7 +134,7 @@ module _ (design : Design) (keeps : KeepsRules design) (n : ℕ) (c : Component)
   ]
 
   -- so the actors that numbers mean are apart
-  pub actors_apart : AreApart (actor_at c) (length (actors_of c))
+  pub actors_apart : HaveOwnMarks (actor_at c) (length (actors_of c))
   actors_apart j k in_j in_k same =
       one_place (actor_at c k) j k (slice_get-get_or (actors_of c) j (InvokeAt 0) in_j ∙ ap Some same) (slice_get-get_or (actors_of c) k (InvokeAt 0) in_k)
 

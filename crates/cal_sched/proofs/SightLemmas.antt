@@ -14,7 +14,7 @@ use Rattle.cal_ast.specs.Invoking.{InvokeDef, invokes_in}
 use Rattle.cal_ast.specs.Schedule.{is_group_done}
 use Rattle.cal_ast.specs.Tree.{GroupDef, Component, Design, group_tree, own, port_tree}
 use Rattle.cal_walk.proofs.PlanLemmas.{kept_push}
-use Rattle.cal_walk.specs.Marking.{AreApart}
+use Rattle.cal_walk.specs.Marking.{HaveOwnMarks}
 use Rattle.cal_walk.specs.Planning.{AreNumbered, invoke_tree}
 use Rattle.cal_walk.specs.Trees.{IsSeen}
 use Rattle.cal_walk.specs.declared.planning.Controlled.{Controlled}
@@ -49,7 +49,7 @@ module _ (design : Design) (c : Component) (names ports : List Text) (control : 
       invokes : List Actor
       invokes = map (λ (x : InvokeDef). InvokeAt x.item) (invokes_in c)
 
-  pub apart : AreApart (actor_at c) (length (actors_of c))
+  pub apart : HaveOwnMarks (actor_at c) (length (actors_of c))
   apart = let n = place_of design c can.in_design in actors_apart design can.rules.keeps n.0 c n.1
 
   -- there are as many actors as groups and invokes

@@ -10,7 +10,7 @@ use Rattle.cal_ast.specs.Plan.{Plan, plan_of}
 use Rattle.cal_ast.specs.Schedule.{is_group_done}
 use Rattle.cal_ast.specs.Tree.{PortName, Component, Design}
 use Rattle.cal_walk.specs.Left.{Sight}
-use Rattle.cal_walk.specs.Marking.{AddsWanted, AreApart, KeepsSizes}
+use Rattle.cal_walk.specs.Marking.{AddsWanted, HaveOwnMarks, KeepsSizes}
 use Rattle.cal_walk.specs.StageTrees.{StageIsWithin, progress_tree}
 use Rattle.cal_walk.specs.Stages.{Progress, acts_now, enabled_now, next_progress, tested_now}
 use Rattle.cal_walk.specs.Trees.{IsSeen, IsWithin, plan_tree}
@@ -27,7 +27,7 @@ use Rattle.cal_sched.specs.declared.walker.Walker.{Walker}
 -- marks are set of what control wants
 abbrev pub MarksWanted : Walker → Marks → Marks → Type 0
 MarksWanted w cleared marks =
-    (f : ℕ → Actor) (h : ℕ → PortName) → AreApart f (length cleared.enabled.items)
+    (f : ℕ → Actor) (h : ℕ → PortName) → HaveOwnMarks f (length cleared.enabled.items)
     → AddsWanted f (enabled_now (plan_tree f h w.control.now.plan) (progress_tree f h w.stage)) (tested_now (plan_tree f h w.control.now.plan) (progress_tree f h w.stage)) cleared marks
 
 -- whether control runs is told
@@ -105,7 +105,7 @@ module _ (design : Design) (c : Component) (names ports : List Text) (row : Row)
           let plan = plan_tree actor_of port_of w.control.now.plan in
           let p = progress c names w in
           let done : Bool = is_group_done [] row (group_of design c actor) in
-          let all = wanted actor_of port_of (subst (AreApart actor_of) (sym (cleared_enabled cleared clear)) (apart design c names ports w.control.now is.can)) in
+          let all = wanted actor_of port_of (subst (HaveOwnMarks actor_of) (sym (cleared_enabled cleared clear)) (apart design c names ports w.control.now is.can)) in
           let one : acts_by marks seen.done.items runs k ≡ acts_now plan p actor go done =
           acts_as_marked actor_of plan p w.marks cleared marks clear all k actor go runs done seen.done.items enabled_within tested_within means (running actor_of port_of)
           (done_seen design c names ports row w is values same seen sees_row k actor at) in

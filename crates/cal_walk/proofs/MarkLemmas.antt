@@ -6,7 +6,7 @@ use Rattle.std.proofs.lemmas.List.{get_or-set_same, get_or-set_other}
 use Rattle.cal_ast.specs.Actors.{Actor, same_actor}
 use Rattle.cal_ast.specs.Plan.{Plan, AtOnce, InTurn}
 use Rattle.cal_walk.specs.Left.{enables, enables_at_once, tests, tests_at_once, is_over, are_over, is_by}
-use Rattle.cal_walk.specs.Marking.{AreApart, KeepsSizes, AddsMarks, AddsWanted}
+use Rattle.cal_walk.specs.Marking.{HaveOwnMarks, KeepsSizes, AddsMarks, AddsWanted}
 use Rattle.cal_walk.specs.Trees.{plans_of}
 use Rattle.cal_walk.specs.declared.marks.Marks.{Marks}
 use Rattle.cal_walk.proofs.PastLemmas.{enables_first, enables_none, tests_first, tests_none}
@@ -28,7 +28,7 @@ module _ (f : ℕ → Actor) where
   pub no_marks : (marks : List Bool) → AddsMarks f (λ actor. false) marks marks
   no_marks marks k within = or_false (get_or marks k false)
 
-  pub one_mark : (marks : List Bool) (actor : ℕ) → actor < length marks → AreApart f (length marks) → AddsMarks f (λ other. same_actor (f actor) other) marks (set marks actor true)
+  pub one_mark : (marks : List Bool) (actor : ℕ) → actor < length marks → HaveOwnMarks f (length marks) → AddsMarks f (λ other. same_actor (f actor) other) marks (set marks actor true)
   one_mark marks actor there apart k within = elim (cases_eq k actor) [
     | inl same ↦
         let P : ℕ → Type 0 = λ x. get_or (set marks actor true) x false ≡ (get_or marks x false || same_actor (f actor) (f x)) in
@@ -43,7 +43,7 @@ module _ (f : ℕ → Actor) where
   ]
 
   -- the actor of a condition, and none
-  pub tested_mark : (by : Option ℕ) (actor : ℕ) (marks : List Bool) → by ≡ Some actor → actor < length marks → AreApart f (length marks) → AddsMarks f (is_by (option_map f by)) marks (set marks actor true)
+  pub tested_mark : (by : Option ℕ) (actor : ℕ) (marks : List Bool) → by ≡ Some actor → actor < length marks → HaveOwnMarks f (length marks) → AddsMarks f (is_by (option_map f by)) marks (set marks actor true)
   tested_mark by actor marks is there apart =
       let P : Option ℕ → Type 0 = λ o. AddsMarks f (is_by (option_map f o)) marks (set marks actor true) in
       subst P (sym is) (one_mark marks actor there apart)
@@ -90,8 +90,8 @@ sizes_both before mid after first second = record { enabled_sized = second.enabl
 pub sizes_alike : (before after : Marks) → KeepsSizes before after → length before.tested.items ≡ length before.enabled.items → length after.tested.items ≡ length after.enabled.items
 sizes_alike before after sizes alike = sizes.tested_sized ∙ alike ∙ sym sizes.enabled_sized
 
-pub apart_after : (f : ℕ → Actor) (before after : Marks) → KeepsSizes before after → AreApart f (length before.enabled.items) → AreApart f (length after.enabled.items)
-apart_after f before after sizes apart = subst (λ (n : ℕ). AreApart f n) (sym sizes.enabled_sized) apart
+pub apart_after : (f : ℕ → Actor) (before after : Marks) → KeepsSizes before after → HaveOwnMarks f (length before.enabled.items) → HaveOwnMarks f (length after.enabled.items)
+apart_after f before after sizes apart = subst (λ (n : ℕ). HaveOwnMarks f n) (sym sizes.enabled_sized) apart
 
 module _ {X : Type 0} (tree : X → Plan) where
   at_once_push : (xs : List X) (x : X) (actor : Actor) → (enables_at_once (plans_of (map tree xs)) actor || enables (tree x) actor) ≡ enables_at_once (plans_of (map tree (xs ++ x ∷ []))) actor

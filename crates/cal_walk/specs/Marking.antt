@@ -4,8 +4,8 @@ use Rattle.cal_ast.specs.Actors.{Actor}
 use Rattle.cal_walk.specs.declared.marks.Marks.{Marks}
 
 -- each of so many numbers is an actor of its own
-abbrev pub AreApart : (ℕ → Actor) → ℕ → Type 0
-AreApart f actors = (j k : ℕ) → j < actors → k < actors → f j ≡ f k → j ≡ k
+abbrev pub HaveOwnMarks : (ℕ → Actor) → ℕ → Type 0
+HaveOwnMarks f actors = (j k : ℕ) → j < actors → k < actors → f j ≡ f k → j ≡ k
 
 -- there are marks of as many actors
 pub record KeepsSizes (before after : Marks) : Type 0 where

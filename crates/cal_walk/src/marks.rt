@@ -4,7 +4,7 @@ ghost use Rattle.cal_ast.specs.Actors.{Actor, same_actor};
 ghost use Rattle.cal_ast.specs.Plan.{AtOnce, InTurn};
 ghost use Rattle.cal_ast.specs.Tree.{PortName};
 ghost use Rattle.cal_walk.specs.Left.{enables, tests, is_by};
-ghost use Rattle.cal_walk.specs.Marking.{AddsMarks, AddsWanted, AreApart, KeepsSizes};
+ghost use Rattle.cal_walk.specs.Marking.{AddsMarks, AddsWanted, HaveOwnMarks, KeepsSizes};
 ghost use Rattle.cal_walk.specs.Trees.{plan_tree, left_tree, slice_trees, plans_of, IsWithin, LeftIsWithin};
 
 use crate::left::{Left, left_over};
@@ -25,7 +25,7 @@ pub fn mark_left(left: &Left, marks: &mut Marks)
     requires sized { length marks.old.tested.items ≡ length marks.old.enabled.items }
     requires within { (conditions : ℕ) × LeftIsWithin (length marks.old.enabled.items) conditions left.now }
     ensures sized { KeepsSizes marks.old marks.new }
-    ensures marks { (f : ℕ → Actor) (h : ℕ → PortName) → AreApart f (length marks.old.enabled.items)
+    ensures marks { (f : ℕ → Actor) (h : ℕ → PortName) → HaveOwnMarks f (length marks.old.enabled.items)
         → AddsWanted f (enables (left_tree f h left.now)) (tests (left_tree f h left.now)) marks.old marks.new }
 {
     match left {
@@ -55,7 +55,7 @@ fn mark_all(all: &[Left], marks: &mut Marks)
     requires sized { length marks.old.tested.items ≡ length marks.old.enabled.items }
     requires within { (conditions : ℕ) × All (LeftIsWithin (length marks.old.enabled.items) conditions) all.now }
     ensures sized { KeepsSizes marks.old marks.new }
-    ensures marks { (f : ℕ → Actor) (h : ℕ → PortName) → AreApart f (length marks.old.enabled.items)
+    ensures marks { (f : ℕ → Actor) (h : ℕ → PortName) → HaveOwnMarks f (length marks.old.enabled.items)
         → AddsWanted f (enables (AtOnce (plans_of (map (left_tree f h) all.now)))) (tests (AtOnce (plans_of (map (left_tree f h) all.now)))) marks.old marks.new }
 {
     for left in all {
@@ -69,7 +69,7 @@ pub fn mark_start(plan: &Plan, marks: &mut Marks)
     requires sized { length marks.old.tested.items ≡ length marks.old.enabled.items }
     requires within { (conditions : ℕ) × IsWithin (length marks.old.enabled.items) conditions plan.now }
     ensures sized { KeepsSizes marks.old marks.new }
-    ensures marks { (f : ℕ → Actor) (h : ℕ → PortName) → AreApart f (length marks.old.enabled.items)
+    ensures marks { (f : ℕ → Actor) (h : ℕ → PortName) → HaveOwnMarks f (length marks.old.enabled.items)
         → AddsWanted f (enables (plan_tree f h plan.now)) (tests (plan_tree f h plan.now)) marks.old marks.new }
 {
     match plan {
@@ -87,7 +87,7 @@ fn mark_first(plans: &[Plan], marks: &mut Marks)
     requires sized { length marks.old.tested.items ≡ length marks.old.enabled.items }
     requires within { (conditions : ℕ) × All (IsWithin (length marks.old.enabled.items) conditions) plans.now }
     ensures sized { KeepsSizes marks.old marks.new }
-    ensures marks { (f : ℕ → Actor) (h : ℕ → PortName) → AreApart f (length marks.old.enabled.items)
+    ensures marks { (f : ℕ → Actor) (h : ℕ → PortName) → HaveOwnMarks f (length marks.old.enabled.items)
         → AddsWanted f (enables (InTurn (slice_trees f h plans.now))) (tests (InTurn (slice_trees f h plans.now))) marks.old marks.new }
 {
     let number = first_lasting(plans);
@@ -102,7 +102,7 @@ fn mark_each_start(plans: &[Plan], marks: &mut Marks)
     requires sized { length marks.old.tested.items ≡ length marks.old.enabled.items }
     requires within { (conditions : ℕ) × All (IsWithin (length marks.old.enabled.items) conditions) plans.now }
     ensures sized { KeepsSizes marks.old marks.new }
-    ensures marks { (f : ℕ → Actor) (h : ℕ → PortName) → AreApart f (length marks.old.enabled.items)
+    ensures marks { (f : ℕ → Actor) (h : ℕ → PortName) → HaveOwnMarks f (length marks.old.enabled.items)
         → AddsWanted f (enables (AtOnce (slice_trees f h plans.now))) (tests (AtOnce (slice_trees f h plans.now))) marks.old marks.new }
 {
     for plan in plans {
@@ -114,7 +114,7 @@ fn mark_each_start(plans: &[Plan], marks: &mut Marks)
 fn mark_enabled(actor: usize, marks: &mut Marks)
     requires { actor < length marks.old.enabled.items }
     ensures sized { KeepsSizes marks.old marks.new }
-    ensures enabled { (f : ℕ → Actor) → AreApart f (length marks.old.enabled.items)
+    ensures enabled { (f : ℕ → Actor) → HaveOwnMarks f (length marks.old.enabled.items)
         → AddsMarks f (λ other. same_actor (f actor) other) marks.old.enabled.items marks.new.enabled.items }
     ensures tested { marks.new.tested.items ≡ marks.old.tested.items }
 {
@@ -126,7 +126,7 @@ fn mark_tested(by: Option<usize>, marks: &mut Marks)
     requires { IfSome by (λ actor. actor < length marks.old.tested.items) }
     ensures sized { KeepsSizes marks.old marks.new }
     ensures enabled { marks.new.enabled.items ≡ marks.old.enabled.items }
-    ensures tested { (f : ℕ → Actor) → AreApart f (length marks.old.tested.items)
+    ensures tested { (f : ℕ → Actor) → HaveOwnMarks f (length marks.old.tested.items)
         → AddsMarks f (is_by (option_map f by)) marks.old.tested.items marks.new.tested.items }
 {
     if let Some(actor) = by {

@@ -3,7 +3,7 @@ ghost use Rattle.std.specs.Prelude.{◌≡◌, ℕ, length, IfOk};
 ghost use Rattle.cal_ast.specs.Actors.{Actor};
 ghost use Rattle.cal_ast.specs.Tree.{PortName};
 ghost use Rattle.cal_walk.specs.Left.{Sight};
-ghost use Rattle.cal_walk.specs.Marking.{AddsWanted, AreApart, KeepsSizes};
+ghost use Rattle.cal_walk.specs.Marking.{AddsWanted, HaveOwnMarks, KeepsSizes};
 ghost use Rattle.cal_walk.specs.StageTrees.{progress_tree, StageIsWithin};
 ghost use Rattle.cal_walk.specs.Stages.{progress_of, next_progress, is_running_now, is_done_now, enabled_now, tested_now};
 ghost use Rattle.cal_walk.specs.Trees.{plan_tree, left_tree, IsSeen, IsWithin, LeftIsWithin};
@@ -86,7 +86,7 @@ impl<'a> Stage<'a> {
         requires plan { (conditions : ℕ) × IsWithin (length marks.old.enabled.items) conditions plan.now }
         requires stage { (conditions : ℕ) × StageIsWithin (length marks.old.enabled.items) conditions self.now }
         ensures sized { KeepsSizes marks.old marks.new }
-        ensures marks { (f : ℕ → Actor) (h : ℕ → PortName) → AreApart f (length marks.old.enabled.items)
+        ensures marks { (f : ℕ → Actor) (h : ℕ → PortName) → HaveOwnMarks f (length marks.old.enabled.items)
             → AddsWanted f (enabled_now (plan_tree f h plan.now) (progress_tree f h self.now)) (tested_now (plan_tree f h plan.now) (progress_tree f h self.now)) marks.old marks.new }
     {
         match self {

@@ -1,10 +1,10 @@
 -- What a refusal shows besides the rule: an offset by F8, a cycle by F11, a gap and a cycle by F12, a loop by F14. This project's.
-use Rattle.std.specs.Prelude.{◌≡◌, ℕ, ◌+◌, ◌-◌, ◌<◌, ◌≤◌, List, max, slice_get, Some, Contains, IfSome}
+use Rattle.std.specs.Prelude.{◌≡◌, ℕ, ◌+◌, ◌-◌, ◌<◌, ◌≤◌, List, max, slice_get, Some, Contains}
 use Rattle.hw_names.specs.Name.{Text}
 use Rattle.fil_ast.specs.Scope.{Scope, Invocation, instance_signature, invocations_at, signature_in}
 use Rattle.fil_ast.specs.Sharing.{IsUseOf, IsEarlierUse, AreDisjoint}
 use Rattle.fil_ast.specs.Signature.{SigPort, Signature}
-use Rattle.fil_ast.specs.Timeline.{Interval, IsAvailable, Covers, Use, interval_at}
+use Rattle.fil_ast.specs.Timeline.{Interval, IsAvailable, ReadsArgument, Use, interval_at}
 use Rattle.fil_ast.specs.Tree.{Event, Giving, Statement, New, Call, Both, Connect, ValueTree}
 
 pub data Evidence : Type 0 where
@@ -14,12 +14,6 @@ pub data Evidence : Type 0 where
   AGap : (gap cycle : ℕ) → Evidence
   -- of these ports each reads the next, and the last the first
   ALoop : (ports : List Text) → Evidence
-
--- argument k, where it has a port, is available throughout its need
-abbrev pub ReadsArgument : Scope → Signature → Giving → ℕ → Type 0
-ReadsArgument scope sig gives k =
-    (arg : ValueTree) (port : SigPort) → slice_get gives.args k ≡ Some arg → slice_get sig.ins k ≡ Some port →
-    IfSome (interval_at gives.times port) (Covers scope arg)
 
 -- F8: the least offset that is needed and not available, of the first argument that breaks the rule
 pub record IsMissingOffset (scope : Scope) (sig : Signature) (gives : Giving) (offset : ℕ) : Type 0 where
@@ -37,13 +31,13 @@ pub record IsMissingOffset (scope : Scope) (sig : Signature) (gives : Giving) (o
   pub least : (i : ℕ) → need.from ≤ i → i < offset → IsAvailable scope arg need.event i
 
 -- two uses of an event of an instance are on one event of the component, and apart
-abbrev pub AreApart : Use → Use → Type 0
-AreApart u v = (u.at.event ≡ v.at.event) × AreDisjoint u v
+abbrev pub AreKeptApart : Use → Use → Type 0
+AreKeptApart u v = (u.at.event ≡ v.at.event) × AreDisjoint u v
 
 -- each event of its instance that the invocation triggers is apart from what this earlier invocation triggers
 abbrev pub IsApartFrom : Scope → Invocation → Invocation → Type 0
 IsApartFrom scope v earlier =
-    (u w : Use) → IsUseOf scope v u → IsUseOf scope earlier w → w.inst ≡ u.inst → w.event ≡ u.event → AreApart w u
+    (u w : Use) → IsUseOf scope v u → IsUseOf scope earlier w → w.inst ≡ u.inst → w.event ≡ u.event → AreKeptApart w u
 
 -- F11: the later of the two times, for the first earlier invocation that breaks the rule with this one, and in it the first event that does
 pub record IsMeetingCycle (scope : Scope) (v : Invocation) (cycle : ℕ) : Type 0 where
@@ -57,8 +51,8 @@ pub record IsMeetingCycle (scope : Scope) (v : Invocation) (cycle : ℕ) : Type 
   pub triggered : IsUseOf scope earlier other
   pub same_instance : other.inst ≡ own.inst
   pub same_event : other.event ≡ own.event
-  pub events : (u w : Use) → u.event < own.event → IsUseOf scope v u → IsUseOf scope earlier w → w.inst ≡ u.inst → w.event ≡ u.event → AreApart w u
-  pub meet : ¬ AreApart other own
+  pub events : (u w : Use) → u.event < own.event → IsUseOf scope v u → IsUseOf scope earlier w → w.inst ≡ u.inst → w.event ≡ u.event → AreKeptApart w u
+  pub meet : ¬ AreKeptApart other own
   pub later : cycle ≡ max other.at.plus own.at.plus
 
 -- the invocation, or an earlier one of its instance, uses this event of the instance

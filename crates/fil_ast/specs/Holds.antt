@@ -19,8 +19,8 @@ Follows c first second =
     first.event ≡ second.event → (first.row < second.row) × ((e : Event) → Contains c.events e → e.name ≡ first.event → first.row + e.delay ≤ second.row)
 
 -- a legal list: the starts of each event rise, and are at least its delay apart
-abbrev pub IsLegal : Component → List Start → Type 0
-IsLegal c starts = AllPairs (Follows c) starts
+abbrev pub AreLegalStarts : Component → List Start → Type 0
+AreLegalStarts c starts = AllPairs (Follows c) starts
 
 -- an event of an instance is held by an invocation, in the transaction with this number, in the rows [from, to)
 pub record Hold : Type 0 where
@@ -37,14 +37,14 @@ use_of k e inst times =
     option_and_then (λ t. option_map (λ rows. record { inst = inst; event = k; go = e.go; at = t; hold = rows }) (hold_of e.delay t (slice_get times (k + 1))))
     (slice_get times k)
 
-abbrev pub listed : Option Use → List Use
-listed None = []
-listed (Some u) = u ∷ []
+abbrev pub uses_listed : Option Use → List Use
+uses_listed None = []
+uses_listed (Some u) = u ∷ []
 
 -- the uses of a callee's events from number k on, in their order
 abbrev pub uses_from : ℕ → List SigEvent → Text → List TimeAt → List Use
 uses_from k [] inst times = []
-uses_from k (e ∷ events) inst times = listed (use_of k e inst times) ++ uses_from (suc k) events inst times
+uses_from k (e ∷ events) inst times = uses_listed (use_of k e inst times) ++ uses_from (suc k) events inst times
 
 abbrev pub uses_by : Invocation → Option Signature → List Use
 uses_by v None = []
@@ -70,8 +70,8 @@ abbrev pub holds_of : Scope → List Start → List Hold
 holds_of scope starts = holds_from scope 0 starts
 
 -- of one event of an instance, one ends before or where the other starts
-abbrev pub AreApart : Hold → Hold → Type 0
-AreApart h k = h.inst ≡ k.inst → h.event ≡ k.event → (h.to ≤ k.from) ⊎ (k.to ≤ h.from)
+abbrev pub NeverMeet : Hold → Hold → Type 0
+NeverMeet h k = h.inst ≡ k.inst → h.event ≡ k.event → (h.to ≤ k.from) ⊎ (k.to ≤ h.from)
 
 -- the instance's event is held in the row
 abbrev pub IsHeldIn : ℕ → Hold → Type 0

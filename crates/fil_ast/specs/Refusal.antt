@@ -15,14 +15,14 @@ ShowsAtStatement F12 scope with s evidence = (gap : ℕ) × (cycle : ℕ) × (ev
 ShowsAtStatement rule scope with s evidence = evidence ≡ Nothing
 
 -- what the rule shows where it is broken at an item of the component, which stands after these
-abbrev pub Shows : Design → Component → Item → Rule → Evidence → Type 0
-Shows earlier c TheSignature rule evidence = evidence ≡ Nothing
-Shows earlier c (TheStatement before s) rule evidence = ShowsAtStatement rule (scope_after earlier c before) (scope_with earlier c before s) s evidence
-Shows earlier c TheEnd rule evidence = evidence ≡ Nothing
+abbrev pub ShowsBroken : Design → Component → Item → Rule → Evidence → Type 0
+ShowsBroken earlier c TheSignature rule evidence = evidence ≡ Nothing
+ShowsBroken earlier c (TheStatement before s) rule evidence = ShowsAtStatement rule (scope_after earlier c before) (scope_with earlier c before s) s evidence
+ShowsBroken earlier c TheEnd rule evidence = evidence ≡ Nothing
 
 -- the first broken rule, by its number, is broken at this item of component n: F1 to F13 in their order, and F14 after them at item 0
 pub data IsRefusal (comps : Design) (name : Text) (item : ℕ) (evidence : Evidence) : ℕ → Type 0 where
   BreaksRule : (n place : ℕ) (first : IsFirstBroken all_rules comps n item place) → first.c.name ≡ name →
-      Shows (take n comps) first.c first.item first.rule evidence → IsRefusal comps name item evidence (place + 1)
+      ShowsBroken (take n comps) first.c first.item first.rule evidence → IsRefusal comps name item evidence (place + 1)
   HasLoop : (n : ℕ) (port : Text) (others : List Text) (loop : HasFirstLoop comps n port others) → loop.c.name ≡ name → item ≡ 0 →
       evidence ≡ ALoop (port ∷ others) → IsRefusal comps name item evidence 14

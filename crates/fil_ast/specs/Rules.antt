@@ -6,7 +6,7 @@ use Rattle.fil_ast.specs.Items.{Item, TheSignature, TheStatement, TheEnd, IsItem
 use Rattle.fil_ast.specs.Wires.{HasNoLoop, IsLeastLoop}
 use Rattle.fil_ast.specs.Naming.{HasNewNames, MakesNewNames, NamesEvents, UsesKnownNames}
 use Rattle.fil_ast.specs.Scope.{Scope, invocations_at}
-use Rattle.fil_ast.specs.Sharing.{KeepsApart, EndsInTime, TriggersWithInterface}
+use Rattle.fil_ast.specs.Sharing.{KeepsUsesApart, EndsInTime, TriggersWithInterface}
 use Rattle.fil_ast.specs.Signature.{Signature}
 use Rattle.fil_ast.specs.Timeline.{HasShortPorts, HoldsSome, ReadsAvailable, KeepsDelays}
 use Rattle.fil_ast.specs.Tree.{Giving, Statement, New, Call, Both, Connect, Component, Design}
@@ -56,7 +56,7 @@ AtStatement F7 scope with before s = OfInvocation (λ sig inst gives. HoldsSome 
 AtStatement F8 scope with before s = OfInvocation (λ sig inst gives. ReadsAvailable scope sig gives) scope s
 AtStatement F9 scope with before s = ConnectsOnce scope before s
 AtStatement F10 scope with before s = OfInvocation (KeepsDelays scope) scope s
-AtStatement F11 scope with before s = All (KeepsApart with) (invocations_at s)
+AtStatement F11 scope with before s = All (KeepsUsesApart with) (invocations_at s)
 AtStatement F12 scope with before s = All (EndsInTime with) (invocations_at s)
 AtStatement F13 scope with before s = All (TriggersWithInterface with) (invocations_at s)
 

@@ -24,8 +24,8 @@ abbrev pub AreDisjoint : Use → Use → Type 0
 AreDisjoint u v = (u.at.plus + u.hold ≤ v.at.plus) ⊎ (v.at.plus + v.hold ≤ u.at.plus)
 
 -- F11: two uses of an event of an instance are on one event of the component, and in disjoint intervals
-abbrev pub KeepsApart : Scope → Invocation → Type 0
-KeepsApart scope v =
+abbrev pub KeepsUsesApart : Scope → Invocation → Type 0
+KeepsUsesApart scope v =
     (u earlier : Use) → IsUseOf scope v u → IsEarlierUse scope u earlier → (earlier.at.event ≡ u.at.event) × AreDisjoint earlier u
 
 -- from the start of the one to the end of the other is at most the delay

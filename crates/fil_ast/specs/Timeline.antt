@@ -58,11 +58,15 @@ HoldsSome sig times =
     (k : ℕ) (e : SigEvent) → slice_get sig.events k ≡ Some e → e.delay ≡ Gap → (s t : TimeAt) → slice_get times k ≡ Some s → slice_get times (k + 1) ≡ Some t →
     s.plus + 1 < t.plus
 
--- F8: each argument's need lies within its value's availability, on the same event
-abbrev pub ReadsAvailable : Scope → Signature → Giving → Type 0
-ReadsAvailable scope sig gives =
-    (k : ℕ) (arg : ValueTree) (port : SigPort) → slice_get gives.args k ≡ Some arg → slice_get sig.ins k ≡ Some port →
+-- argument k, where it has a port, is available throughout its need, on the need's event
+abbrev pub ReadsArgument : Scope → Signature → Giving → ℕ → Type 0
+ReadsArgument scope sig gives k =
+    (arg : ValueTree) (port : SigPort) → slice_get gives.args k ≡ Some arg → slice_get sig.ins k ≡ Some port →
     IfSome (interval_at gives.times port) (Covers scope arg)
+
+-- F8: the need of each argument lies within its value's availability
+abbrev pub ReadsAvailable : Scope → Signature → Giving → Type 0
+ReadsAvailable scope sig gives = (k : ℕ) → ReadsArgument scope sig gives k
 
 -- how long a callee's event is held from its time on: its delay, or for a register what its second time leaves; an end holds nothing
 abbrev pub until : TimeAt → TimeAt → ℕ

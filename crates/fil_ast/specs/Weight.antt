@@ -8,13 +8,13 @@ use Rattle.fil_ast.specs.Timeline.{Interval, interval_at}
 use Rattle.fil_ast.specs.Tree.{TimeAt, Event, Component, Design}
 use Rattle.fil_ast.specs.Wires.{whole_scope}
 
-abbrev pub listed : Option Interval → List Interval
-listed None = []
-listed (Some i) = i ∷ []
+abbrev pub intervals_listed : Option Interval → List Interval
+intervals_listed None = []
+intervals_listed (Some i) = i ∷ []
 
 abbrev pub needs_at : List TimeAt → Option Signature → List Interval
 needs_at times None = []
-needs_at times (Some sig) = flat_map (λ (p : SigPort). listed (interval_at times p)) sig.ins
+needs_at times (Some sig) = flat_map (λ (p : SigPort). intervals_listed (interval_at times p)) sig.ins
 
 -- in which rows an invocation needs its arguments
 abbrev pub needs_of : Scope → Invocation → List Interval

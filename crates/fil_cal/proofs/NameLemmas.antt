@@ -9,7 +9,7 @@ use Rattle.hw_names.specs.Name.{Text}
 use Rattle.hw_lex.specs.Byte.{is_letter, is_name_byte}
 use Rattle.hw_lex.specs.Word.{IsName}
 use Rattle.hw_lex.specs.declared.token.Dialect.TheVariants.{Cal}
-use Rattle.hw_grammar.specs.Terminals.{keywords, row_of}
+use Rattle.hw_grammar.specs.Terminals.{keywords, entry_of}
 use Rattle.hw_grammar.specs.declared.sort.Sort.{Sort}
 use Rattle.hw_prims.specs.Table.{inputs_of, is_primitive, meaning_in, outputs_of, pin_names, prim_names}
 use Rattle.hw_prims.specs.declared.name.PrimName.{PrimName}
@@ -24,7 +24,7 @@ use Rattle.fil_net.proofs.SegmentLemmas.{IsSegment}
 
 -- the text is no keyword
 abbrev IsNoKeyword : Text → Type 0
-IsNoKeyword text = row_of (keywords Cal) text ≡ None
+IsNoKeyword text = entry_of (keywords Cal) text ≡ None
 
 -- names of netlists are Calyx's, but for keywords
 segment_name : (text : Text) → IsSegment text → IsName Cal text
@@ -38,7 +38,7 @@ register_name name generated = (segment_name name (register_segment name generat
 
 abbrev is_cal_name : Text → Bool
 is_cal_name [] = false
-is_cal_name (c ∷ cs) = is_letter c && (list_all (is_name_byte Cal) cs && not (is_some (row_of (keywords Cal) (c ∷ cs))))
+is_cal_name (c ∷ cs) = is_letter c && (list_all (is_name_byte Cal) cs && not (is_some (entry_of (keywords Cal) (c ∷ cs))))
 
 no_row : (o : Option Sort) → not (is_some o) ≡ true → o ≡ None
 no_row None is = refl
@@ -47,7 +47,7 @@ no_row (Some sort) is = absurd (false≢true is)
 tested_name : (text : Text) → is_cal_name text ≡ true → IsCalName text
 tested_name [] is = absurd (false≢true is)
 tested_name (c ∷ cs) is =
-    let keyword : Option Sort = row_of (keywords Cal) (c ∷ cs) in
+    let keyword : Option Sort = entry_of (keywords Cal) (c ∷ cs) in
     let first = both_true (is_letter c) (list_all (is_name_byte Cal) cs && not (is_some keyword)) is in
     let later = both_true (list_all (is_name_byte Cal) cs) (not (is_some keyword)) first.1 in
     ((first.0, later.0), no_row keyword later.1)

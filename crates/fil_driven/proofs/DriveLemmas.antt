@@ -104,7 +104,7 @@ covered_is p row t is =
 
 -- of transactions that are apart no two cover a row of a short port
 covered_twice : (c : Component) (p : DataPort) (a b : Tx) (row : ℕ) → IsShort c p → IsOfEvent c a → IsCovered (sig_port c.events p) row (transaction_seen a) → IsCovered (sig_port c.events p) row (transaction_seen b)
-    → timed.AreApart (transaction_on c a) (transaction_on c b) → ⊥
+    → timed.NeverOverlap (transaction_on c a) (transaction_on c b) → ⊥
 covered_twice c p a b row short within on_a on_b apart =
     let e = get_or c.events a.event no_event in
     let at = event_at c a within in
@@ -143,7 +143,7 @@ module _ (comps : Design) (n : ℕ) (c : Component) (rules : FilRules comps) (th
   pub on_events : All (IsOfEvent c) txs
   on_events = All-weaker (IsTransactionOf c) (IsOfEvent c) (λ tx is. is.event) txs are.each
 
-  pub on_legal : timed.IsLegal (component_behaviour earlier c).sig (map (transaction_on c) txs)
+  pub on_legal : timed.AreLegalTransactions (component_behaviour earlier c).sig (map (transaction_on c) txs)
   on_legal = transactions_are_legal earlier c txs on_events are.legal
 
   pub on_own : All (HasOwnValues (component_behaviour earlier c)) (map (transaction_on c) txs)
@@ -152,9 +152,9 @@ module _ (comps : Design) (n : ℕ) (c : Component) (rules : FilRules comps) (th
   -- two of them that cover a row of an input are one
   one_covers : (p : DataPort) → Contains c.ins p → (a b : Tx) (row : ℕ) → Contains txs a → Contains txs b → IsCovered (sig_port c.events p) row (transaction_seen a) → IsCovered (sig_port c.events p) row (transaction_seen b) → a ≡ b
   one_covers p has a b row has_a has_b on_a on_b =
-      let R : Tx → Tx → Type 0 = λ x y. timed.AreApart (transaction_on c x) (transaction_on c y) in
+      let R : Tx → Tx → Type 0 = λ x y. timed.NeverOverlap (transaction_on c x) (transaction_on c y) in
       let short = All-contains (IsShort c) c.ins p (short_ports comps n c rules there).ins has in
-      elim (two_of R txs a b (pairs_unmapped timed.AreApart (transaction_on c) txs on_legal.apart) has_a has_b) [
+      elim (two_of R txs a b (pairs_unmapped timed.NeverOverlap (transaction_on c) txs on_legal.apart) has_a has_b) [
         | inl same ↦ same
         | inr (inl apart) ↦ absurd (covered_twice c p a b row short (All-contains (IsOfEvent c) txs a on_events has_a) on_a on_b apart)
         | inr (inr apart) ↦ absurd (covered_twice c p b a row short (All-contains (IsOfEvent c) txs b on_events has_b) on_b on_a apart)

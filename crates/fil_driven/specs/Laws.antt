@@ -3,7 +3,7 @@ use Rattle.std.specs.Prelude.{◌≡◌, ℕ, ◌+◌, ◌<◌, ◌≤◌, List,
 use Rattle.hw_bits.specs.Values.{widths_of}
 use Rattle.hw_names.specs.Name.{Text}
 use Rattle.hw_prims.specs.Row.{Trace}
-use Rattle.hw_prims.specs.Timed.{TimedPort, Transaction, Covers, IsLegal}
+use Rattle.hw_prims.specs.Timed.{TimedPort, Transaction, Covers, AreLegalTransactions}
 use Rattle.net_core.specs.NetRun.{NetRun, net_circuit}
 use Rattle.net_core.specs.Netlist.{Netlist}
 use Rattle.fil_ast.specs.Behaviours.{HasOwnValues, component_behaviour, event_named, transaction_on}
@@ -32,7 +32,7 @@ pub record IsTransactionOf (c : Component) (tx : Tx) : Type 0 where
 -- a stimulus's transactions are the component's, and a legal list
 pub record AreTransactionsOf (c : Component) (list : TxList) : Type 0 where
   pub each : All (IsTransactionOf c) list.txs.items
-  pub legal : holds.IsLegal c (starts_of c list.txs.items)
+  pub legal : holds.AreLegalStarts c (starts_of c list.txs.items)
 
 -- what fits a signature, as a simulation asks it
 pub record FitTheSignature (sig : Signature) (list : TxList) : Type 0 where
@@ -68,7 +68,7 @@ CarriedRowsAreMeant =
 
 -- a run of the netlist whose inputs carry these transactions of the design's top component, a legal list; other inputs are free
 pub record IsRunWith {comps : Design} {n : Netlist} (refines : Refines comps n) (txs : List Transaction) (height : ℕ) (trace : Trace) : Type 0 where
-  pub legal : IsLegal (component_behaviour (take refines.number comps) refines.c).sig txs
+  pub legal : AreLegalTransactions (component_behaviour (take refines.number comps) refines.c).sig txs
   pub own : All (HasOwnValues (component_behaviour (take refines.number comps) refines.c)) txs
   pub asked : ℕ
   pub inputs : Trace

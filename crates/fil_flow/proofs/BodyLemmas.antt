@@ -13,7 +13,7 @@ use Rattle.fil_ast.specs.Items.{scope_after}
 use Rattle.fil_ast.specs.Scope.{Instance, Invocation, Scope, input_of, instance_named, invocation_named, result_of, signature_in}
 use Rattle.fil_ast.specs.Signature.{SigPort, sig_port}
 use Rattle.fil_ast.specs.Tree.{Component, Design, ValueTree, InputValue, OutputValue}
-use Rattle.fil_flow.specs.Body.{Calls, IsBody, IsEarlier, IsCalleeOf, data_names, outputs_from, outputs_of, plus_instance, plus_invocation}
+use Rattle.fil_flow.specs.inside.Body.{Calls, IsBody, IsEarlier, IsCalleeOf, data_names, outputs_from, outputs_of, plus_instance, plus_invocation}
 use Rattle.fil_flow.specs.declared.body.Body.{Body}
 use Rattle.fil_flow.specs.declared.body.Invoked.{Invoked}
 use Rattle.fil_flow.specs.declared.earlier.Earlier.{Earlier}

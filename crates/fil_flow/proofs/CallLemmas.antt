@@ -14,8 +14,8 @@ use Rattle.fil_ast.specs.Scope.{Instance, Invocation, Result, Scope, instance_na
 use Rattle.fil_ast.specs.Signature.{SigPort, Signature, sig_port}
 use Rattle.fil_ast.specs.Tree.{Component, DataPort, Design, ValueTree, InputValue, OutputValue, Literal}
 use Rattle.fil_ast.specs.Typing.{value_width}
-use Rattle.fil_flow.specs.Body.{Calls, IsEarlier, IsCalleeOf, IsSourceOf, data_names, outputs_from, outputs_of, plus_instance, plus_invocation}
-use Rattle.fil_flow.specs.Planning.{CanInvoke, ShowsCalls, outcomes_in}
+use Rattle.fil_flow.specs.inside.Body.{Calls, IsEarlier, IsCalleeOf, IsSourceOf, data_names, outputs_from, outputs_of, plus_instance, plus_invocation}
+use Rattle.fil_flow.specs.inside.Planning.{CanInvoke, ShowsCalls, outcomes_in}
 use Rattle.fil_flow.specs.Plans.{HaveWidths, callee_values, source_value, source_width, values_after}
 use Rattle.fil_flow.specs.Shown.{component_shape, flow_at, port_widths}
 use Rattle.fil_flow.specs.declared.body.Invoked.{Invoked}

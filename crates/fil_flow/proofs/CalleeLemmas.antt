@@ -16,8 +16,8 @@ use Rattle.fil_ast.specs.Primitives.{Timing, filament_primitive, input_port, is_
 use Rattle.fil_ast.specs.Scope.{Instance, bare_signature, component_named, signature_in}
 use Rattle.fil_ast.specs.Signature.{SigPort, Signature, component_signature, sig_port}
 use Rattle.fil_ast.specs.Tree.{Component, Design}
-use Rattle.fil_flow.specs.Body.{IsEarlier, IsCalleeOf, data_names, output_names}
-use Rattle.fil_flow.specs.Body as bodies
+use Rattle.fil_flow.specs.inside.Body.{IsEarlier, IsCalleeOf, data_names, output_names}
+use Rattle.fil_flow.specs.inside.Body as bodies
 use Rattle.fil_flow.specs.Plans.{HasShape, Shape, callee_values, primitive_shape}
 use Rattle.fil_flow.specs.Shown.{component_shape, flow_at}
 use Rattle.fil_flow.specs.declared.earlier.Earlier.{Earlier}

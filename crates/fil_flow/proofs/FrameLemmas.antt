@@ -8,7 +8,7 @@ use Rattle.hw_bits.specs.Values.{values_of, widths_of}
 use Rattle.hw_bits.specs.declared.bits.Bits.{Bits}
 use Rattle.hw_prims.specs.Filament.{primitive_flow}
 use Rattle.hw_prims.specs.declared.prim.Primitive.{Primitive}
-use Rattle.fil_flow.specs.Frames.{AreFrom, StandsOn, WaitFor, frame_cost, given_on, given_over, steps_left, value_of_run, waiting_cost}
+use Rattle.fil_flow.specs.inside.Frames.{AreFrom, StandsOn, WaitFor, frame_cost, given_on, given_over, steps_left, value_of_run, waiting_cost}
 use Rattle.fil_flow.specs.Plans.{Shape, Fit, HasShape, HaveWidths, PlansFit, IsFlow, callee_cost, callee_values, calls_cost, cost_of, primitive_shape, source_value, values_by}
 use Rattle.fil_flow.specs.declared.machine.Frame.{Frame}
 use Rattle.fil_flow.specs.declared.machine.Progress.TheVariants.{Under}

@@ -8,8 +8,8 @@ use Rattle.hw_names.specs.Name.{Text}
 use Rattle.fil_ast.specs.Flow.{Named, Outcome, made_flow, outcome_of, outcomes_after, outputs_in, value_in}
 use Rattle.fil_ast.specs.Naming.{invocation_names}
 use Rattle.fil_ast.specs.Scope.{Instance, Invocation, instance_named}
-use Rattle.fil_flow.specs.Body.{Calls}
-use Rattle.fil_flow.specs.Planning.{CallsFit}
+use Rattle.fil_flow.specs.inside.Body.{Calls}
+use Rattle.fil_flow.specs.inside.Planning.{CallsFit}
 use Rattle.fil_flow.specs.Plans.{Fit, HasShape, HaveWidths, Shape, callee_values, source_value, values_after}
 use Rattle.fil_flow.specs.declared.body.Invoked.{Invoked}
 use Rattle.fil_flow.specs.declared.earlier.Earlier.{Earlier}

@@ -19,8 +19,8 @@ use Rattle.fil_ast.specs.Scope.{Instance, Invocation, Result, Scope, input_of, i
 use Rattle.fil_ast.specs.Signature.{SigPort, Signature, sig_port}
 use Rattle.fil_ast.specs.Tree.{Component, DataPort, Design, Giving, Statement, New, Call, Both, Connect, ValueTree, InputValue, OutputValue, Literal}
 use Rattle.fil_ast.specs.Typing.{GivesEach, GivesWidths, value_width}
-use Rattle.fil_flow.specs.Body.{IsBody, IsCalleeOf, IsSourceOf, data_names, outputs_from, outputs_of, plus_instance, plus_invocation}
-use Rattle.fil_flow.specs.Planning.{CanInvoke, IsPlanning, KeepsStatement, ShowsCalls, ShowsOutput, connected_or_zero, grown, outcomes_in}
+use Rattle.fil_flow.specs.inside.Body.{IsBody, IsCalleeOf, IsSourceOf, data_names, outputs_from, outputs_of, plus_instance, plus_invocation}
+use Rattle.fil_flow.specs.inside.Planning.{CanInvoke, IsPlanning, KeepsStatement, ShowsCalls, ShowsOutput, connected_or_zero, grown, outcomes_in}
 use Rattle.fil_flow.specs.Plans.{HaveWidths, source_value, source_width, values_after}
 use Rattle.fil_flow.specs.Shown.{ShowsPlan, component_shape, flow_at, port_widths}
 use Rattle.fil_flow.specs.declared.body.Body.{Body}

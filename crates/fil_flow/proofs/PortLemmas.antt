@@ -9,7 +9,7 @@ use Rattle.fil_ast.specs.Naming.{HasNewNames, component_names}
 use Rattle.fil_ast.specs.Tree.{Component, DataPort, Design, Interface, port_tree}
 use Rattle.fil_ast.specs.declared.tree.FilPort.{FilPort}
 use Rattle.fil_sig.proofs.ListLemmas.{comes_twice, map_at, map_more}
-use Rattle.fil_flow.specs.Body.{IsEarlier, data_names, output_names}
+use Rattle.fil_flow.specs.inside.Body.{IsEarlier, data_names, output_names}
 use Rattle.fil_flow.specs.declared.earlier.Earlier.{Earlier}
 
 -- a name that was not there is put last

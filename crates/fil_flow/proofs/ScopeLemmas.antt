@@ -7,7 +7,7 @@ use Rattle.fil_ast.specs.Scope.{Instance, Invocation, Result, Scope, instance_na
 use Rattle.fil_ast.specs.Signature.{SigPort, Signature}
 use Rattle.fil_ast.specs.Tree.{Component, Design, ValueTree, InputValue, OutputValue, Literal}
 use Rattle.fil_ast.specs.Typing.{value_width}
-use Rattle.fil_flow.specs.Body.{plus_instance, plus_invocation}
+use Rattle.fil_flow.specs.inside.Body.{plus_instance, plus_invocation}
 use Rattle.fil_flow.proofs.Lookups.{find_kept}
 
 pub some_of : {X : Type 0} (o : Option X) → IsSome o → (x : X) × (o ≡ Some x)

@@ -16,7 +16,7 @@ use Rattle.hw_prims.specs.declared.prim.PrimEnd.TheVariants.{UnknownPrim, BadPar
 use Rattle.hw_prims.specs.declared.prim.Primitive.{Primitive}
 use Rattle.hw_prims.specs.declared.prim.Primitive.TheVariants.{StdMemD1, StdMemD2, StdMultPipe}
 use Rattle.fil_ast.specs.Primitives.{filament_primitive, table_name}
-use Rattle.fil_sig.specs.Kinds.{table_name_in}
+use Rattle.fil_sig.specs.inside.Kinds.{table_name_in}
 use Rattle.fil_flow.specs.Plans.{has_flow}
 
 -- the primitives of a name have a flow

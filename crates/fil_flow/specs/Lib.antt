@@ -1,6 +1,4 @@
+pub mod inside
 pub mod Plans
-pub mod Frames
 pub mod Shown
-pub mod Body
-pub mod Planning
 pub mod Dataflow

@@ -7,7 +7,7 @@ ghost use Rattle.fil_ast.specs.Numbers.{ComponentHasNumbers, ValueHasNumbers};
 ghost use Rattle.fil_ast.specs.Scope.{Instance, Invocation, Scope, input_of, instance_named, invocation_named, result_of, signature_in};
 ghost use Rattle.fil_ast.specs.Tree.{Design, ValueTree, InputValue, OutputValue, component_tree, value_tree};
 ghost use Rattle.fil_ast.specs.Typing.{LiteralFits};
-ghost use Rattle.fil_flow.specs.Body.{Calls, IsBody, IsEarlier, IsCalleeOf, IsSourceOf, data_names, outputs_from, outputs_of, plus_instance, plus_invocation};
+ghost use Rattle.fil_flow.specs.inside.Body.{Calls, IsBody, IsEarlier, IsCalleeOf, IsSourceOf, data_names, outputs_from, outputs_of, plus_instance, plus_invocation};
 ghost use Rattle.fil_flow.specs.declared.earlier.Earlier.{Earlier};
 
 use crate::earlier::{Earlier, port_names};

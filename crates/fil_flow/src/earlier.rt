@@ -6,7 +6,7 @@ ghost use Rattle.fil_ast.specs.Numbers.{ComponentHasNumbers, PortHasNumbers};
 ghost use Rattle.fil_ast.specs.Rules.{KeepsComponent, all_rules};
 ghost use Rattle.fil_ast.specs.Scope.{signature_in};
 ghost use Rattle.fil_ast.specs.Tree.{Design, component_tree, port_tree};
-ghost use Rattle.fil_flow.specs.Body.{IsCallee, IsEarlier, data_names, outputs_of};
+ghost use Rattle.fil_flow.specs.inside.Body.{IsCallee, IsEarlier, data_names, outputs_of};
 
 use crate::plan::Callee;
 use fil_ast::{FilComp, FilPort};

@@ -1,7 +1,7 @@
 //! Runs a plan. Components that wait for another's outputs stand in a list, so that no depth of components takes stack.
 ghost use Rattle.std.specs.Prelude.{◌≡◌, ◌<◌, ◌≤◌, ℕ, List, [], ◌∷◌, ◌++◌, Some, map, reverse, slice_get, IsSome, IfOk};
 ghost use Rattle.hw_bits.specs.Values.{values_of, widths_of};
-ghost use Rattle.fil_flow.specs.Frames.{AreFrom, CanRun, RunStands, StandsOn, WaitFor, given_over, steps_left, value_of_run, waiting_cost};
+ghost use Rattle.fil_flow.specs.inside.Frames.{AreFrom, CanRun, RunStands, StandsOn, WaitFor, given_over, steps_left, value_of_run, waiting_cost};
 ghost use Rattle.fil_flow.specs.Plans.{HaveWidths, IsFlow, PlansFit, Shape, source_value, source_width};
 
 use crate::plan::{Call, Callee, Plan, Source};

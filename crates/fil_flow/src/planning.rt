@@ -10,8 +10,8 @@ ghost use Rattle.fil_ast.specs.Scope.{Instance, Invocation, Scope, signature_in}
 ghost use Rattle.fil_ast.specs.Tree.{Connect, Design, Literal, Statement, component_tree, statement_tree, value_tree};
 ghost use Rattle.fil_ast.specs.Typing.{HasWidths, IsWidth};
 ghost use Rattle.fil_ast.specs.declared.tree.FilPort.{FilPort};
-ghost use Rattle.fil_flow.specs.Body.{IsEarlier, IsSourceOf, plus_instance, plus_invocation};
-ghost use Rattle.fil_flow.specs.Planning.{CanInvoke, Invokes, IsPlanning, KeepsStatement, grown};
+ghost use Rattle.fil_flow.specs.inside.Body.{IsEarlier, IsSourceOf, plus_instance, plus_invocation};
+ghost use Rattle.fil_flow.specs.inside.Planning.{CanInvoke, Invokes, IsPlanning, KeepsStatement, grown};
 ghost use Rattle.fil_flow.specs.Shown.{ShowsPlan};
 ghost use Rattle.fil_flow.specs.declared.earlier.Earlier.{Earlier};
 

@@ -4,7 +4,7 @@ use Rattle.std.specs.Prelude.{◌≡◌, ◌⊎◌, ℕ, ◌<◌, false, List, [
 use Rattle.hw_names.specs.Name.{Text, Path, dotted, full_name, IsPlainPath}
 use Rattle.hw_prims.specs.Row.{Trace}
 use Rattle.hw_prims.specs.Table.{Pin, pin}
-use Rattle.hw_prims.specs.Timed.{Behaviour, Transaction, IsLegal, CarriesInputs, CarriesOutputs}
+use Rattle.hw_prims.specs.Timed.{Behaviour, Transaction, AreLegalTransactions, CarriesInputs, CarriesOutputs}
 use Rattle.net_core.specs.Circuit.{Circuit, HasConflict, IsRun}
 use Rattle.net_core.specs.Graph.{HasNoLoop}
 use Rattle.net_core.specs.NetRun.{net_circuit}
@@ -76,7 +76,7 @@ pub record CarriesList (comps : Design) (number : ℕ) (circuit : Circuit) (txs 
 -- so does each run of the circuit whose inputs carry a legal list of transactions of component `number`
 abbrev pub CarriesLists : Design → ℕ → Component → Circuit → Type 0
 CarriesLists comps number c circuit =
-    (txs : List Transaction) → IsLegal (component_behaviour (take number comps) c).sig txs →
+    (txs : List Transaction) → AreLegalTransactions (component_behaviour (take number comps) c).sig txs →
     All (HasOwnValues (component_behaviour (take number comps) c)) txs →
     (asked : ℕ) (inputs : Trace) (loads : Text → List ℕ) (height : ℕ) (trace : Trace) → IsRun circuit asked inputs loads height trace →
     GiveInputs (component_behaviour (take number comps) c) asked inputs txs → CarriesList comps number circuit txs asked height trace

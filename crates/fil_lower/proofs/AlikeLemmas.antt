@@ -3,7 +3,7 @@ use Rattle.std.proofs.Common.{◌≡◌, ℕ, zero, suc, ◌+◌, ◌<◌, ◌�
 use Rattle.std.specs.List.{AllZip}
 use Rattle.std.specs.Prelude.{Contains, slice_get}
 use Rattle.hw_prims.specs.Row.{Row, Text}
-use Rattle.hw_prims.specs.Timed.{AreApart, Behaviour, CarriesInputs, CarriesOutputs, Covers, HasDelay, IsLegal, TimedPort, Transaction, end_of}
+use Rattle.hw_prims.specs.Timed.{NeverOverlap, Behaviour, CarriesInputs, CarriesOutputs, Covers, HasDelay, AreLegalTransactions, TimedPort, Transaction, end_of}
 use Rattle.fil_lower.specs.Laws.{IsSeparate}
 use Rattle.fil_lower.specs.PlanLaws.{AreAlike}
 use Rattle.fil_lower.proofs.ListLemmas.{contains_none, first_or_later}
@@ -35,7 +35,7 @@ module _ (b : Behaviour) (xs ys : List Transaction) (zip : AllZip (AreAlike b.si
   abbrev Alike : Transaction → Transaction → Type 0
   Alike x y = AreAlike b.sig x y
 
-  apart_alike : (x u y v : Transaction) → Alike x y → Alike u v → AreApart x u → AreApart y v
+  apart_alike : (x u y v : Transaction) → Alike x y → Alike u v → NeverOverlap x u → NeverOverlap y v
   apart_alike x u y v first second apart same =
       let x_start : x.start ≡ y.start = first.start in
       let u_start : u.start ≡ v.start = second.start in
@@ -43,13 +43,13 @@ module _ (b : Behaviour) (xs ys : List Transaction) (zip : AllZip (AreAlike b.si
       let u_hold : u.hold ≡ v.hold = second.hold in
       elim (apart (first.event ∙ same ∙ sym second.event)) [ inl l ↦ inl (omega arith) | inr r ↦ inr (omega arith) ]
 
-  pub alike_legal : IsLegal b.sig xs → IsLegal b.sig ys
+  pub alike_legal : AreLegalTransactions b.sig xs → AreLegalTransactions b.sig ys
   alike_legal legal = record {
     held = λ y has.
         let m = zip_left Alike xs ys y zip has in
         let h = legal.held m.0 m.1 in
         (h.0, subst (λ (k : ℕ). slice_get b.sig.events k ≡ Some h.0) m.2.event h.1, subst (λ (k : ℕ). HasDelay h.0.delay k) m.2.hold h.2);
-    apart = zip_pairs Alike AreApart AreApart xs ys zip legal.apart apart_alike;
+    apart = zip_pairs Alike NeverOverlap NeverOverlap xs ys zip legal.apart apart_alike;
   }
 
   -- what covers the one covers the other

@@ -11,7 +11,7 @@ use Rattle.fil_ast.specs.Timeline.{interval_at}
 use Rattle.fil_ast.specs.Tree.{Statement}
 use Rattle.hw_names.specs.Name.{Text}
 use Rattle.fil_lower.specs.Lowering.{Lowering, wants_in}
-use Rattle.fil_lower.specs.Place.{greatest, wanted_by_ports}
+use Rattle.fil_lower.specs.inside.Place.{greatest, wanted_by_ports}
 
 -- an element that a loop reads is at its place in the list
 pub item_at : {X : Type 0} (xs items : List X) (i : ℕ) (x : X) → items ≡ xs → i < length items → x ≡ get_or items i x → slice_get xs i ≡ Some x

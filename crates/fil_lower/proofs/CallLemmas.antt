@@ -17,7 +17,7 @@ use Rattle.fil_ast.specs.Naming.{NamesEvent, component_names, instance_names}
 use Rattle.fil_ast.specs.Primitives.{filament_primitive, primitive_signature, signature_by, table_name, timing_of}
 use Rattle.fil_ast.specs.Rules.{F1, FilRules}
 use Rattle.fil_ast.specs.Scope.{Instance, Invocation, bare_signature, component_named, instance_named, instance_signature, instances_at, invocations_at, signature_in}
-use Rattle.fil_ast.specs.Sharing.{AreDisjoint, EndsInTime, HasInterface, IsEarlierUse, IsUseOf, IsWithin, KeepsApart, TriggersWithInterface}
+use Rattle.fil_ast.specs.Sharing.{AreDisjoint, EndsInTime, HasInterface, IsEarlierUse, IsUseOf, IsWithin, KeepsUsesApart, TriggersWithInterface}
 use Rattle.fil_ast.specs.Signature.{Signature, component_signature}
 use Rattle.fil_ast.specs.Timeline.{HoldsSome, IsUse, KeepsDelays, Use}
 use Rattle.fil_ast.specs.Tree.{Component, Design, Event, Giving, Statement, TimeAt, New, Call, Both, Connect}
@@ -222,7 +222,7 @@ module _ (comps : Design) (rules : FilRules comps) (n : ℕ) (c : Component) (he
       let has_v : Contains (flat_map invocations_at (take k c.body)) v = (i, below, get_or_default (flat_map invocations_at (take k c.body)) i v d below) in
       let earlier_use : IsEarlierUse (scope_with earlier c (take k c.body) s) x u = record { invocation = v; is_earlier = has_v; uses = used_u; same_instance = same_instance; same_event = same_event } in
       let keeps = at_statement comps rules n c here k s at in
-      let apart : All (KeepsApart (scope_with earlier c (take k c.body) s)) (invocations_at s) = keeps 10 F1 (omega arith) in
+      let apart : All (KeepsUsesApart (scope_with earlier c (take k c.body) s)) (invocations_at s) = keeps 10 F1 (omega arith) in
       let in_time : All (EndsInTime (scope_with earlier c (take k c.body) s)) (invocations_at s) = keeps 11 F1 (omega arith) in
       let triggers : All (TriggersWithInterface (scope_with earlier c (take k c.body) s)) (invocations_at s) = keeps 12 F1 (omega arith) in
       let kept = apart j e below' x u used_x earlier_use in

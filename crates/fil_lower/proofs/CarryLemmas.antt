@@ -4,7 +4,7 @@ use Rattle.std.specs.Prelude.{Contains}
 use Rattle.std.proofs.lemmas.Bool.{false≢true}
 use Rattle.hw_names.specs.Name.{Path, Text, full_name, port_at}
 use Rattle.hw_prims.specs.Table.{pin_names}
-use Rattle.hw_prims.specs.Timed.{Behaviour, CarriesInputs, IsLegal, Transaction}
+use Rattle.hw_prims.specs.Timed.{Behaviour, CarriesInputs, AreLegalTransactions, Transaction}
 use Rattle.net_core.specs.Circuit.{Drive, HasConflict}
 use Rattle.cal_ast.proofs.LocalLemmas.{drives_are_local}
 use Rattle.cal_ast.proofs.PlainLemmas.{plain_writable}
@@ -33,7 +33,7 @@ use Rattle.fil_lower.proofs.StandLemmas.{is_lowered_design, standing_of}
 use Rattle.fil_lower.proofs.TimedAsLemmas.{place_of}
 
 module _ (pair : LoweredPair) (from_top : TopRun pair) (c : Component) (here : slice_get pair.comps from_top.number ≡ Some c)
-    (txs : List Transaction) (legal : IsLegal (component_behaviour (take from_top.number pair.comps) c).sig txs) (give : GiveInputs (component_behaviour (take from_top.number pair.comps) c) from_top.asked from_top.inputs txs) where
+    (txs : List Transaction) (legal : AreLegalTransactions (component_behaviour (take from_top.number pair.comps) c).sig txs) (give : GiveInputs (component_behaviour (take from_top.number pair.comps) c) from_top.asked from_top.inputs txs) where
   open pair use {comps, rules, plain, design, lowered, plain_design}
   open from_top use {number, top, at_top, asked, inputs, loads, height, trace, run}
 

@@ -23,7 +23,7 @@ use Rattle.fil_fsm.specs.Refines.{inputs_of, outputs_of}
 use Rattle.fil_share.proofs.ListLemmas.{All-flat_map}
 use Rattle.fil_sig.proofs.ListLemmas.{All-mapped}
 use Rattle.fil_lower.specs.Lowering.{HasEnoughBits, HasNewRegisters, IsLoweredTo, Lowering, Registers, all_registers, lowered_cell, lowered_component, lowered_sets}
-use Rattle.fil_lower.specs.Place.{AreNew, ShowsBody}
+use Rattle.fil_lower.specs.inside.Place.{AreNew, ShowsBody}
 use Rattle.fil_lower.specs.declared.body.Body.{Body}
 use Rattle.fil_lower.proofs.KeptLemmas.{component_kept, component_numbers}
 

@@ -14,7 +14,7 @@ use Rattle.hw_prims.specs.Filament.{behaviour_of, data_inputs, data_outputs, giv
 use Rattle.hw_prims.specs.Filament as filament
 use Rattle.hw_prims.specs.Row.{Trace}
 use Rattle.hw_prims.specs.Table.{Pin, pin_names, prim_of}
-use Rattle.hw_prims.specs.Timed.{Behaviour, CarriesInputs, IsLegal, IsTimed, TimedPort, Transaction}
+use Rattle.hw_prims.specs.Timed.{Behaviour, CarriesInputs, AreLegalTransactions, IsTimed, TimedPort, Transaction}
 use Rattle.hw_prims.specs.declared.prim.Primitive.{Primitive}
 use Rattle.hw_prims.specs.declared.prim.Primitive.TheVariants.{StdReg}
 use Rattle.hw_prims.proofs.FilamentLemmas as primitives
@@ -239,7 +239,7 @@ module _ (comps : Design) (rules : FilRules comps) (top height : ℕ) (trace : T
 
   abbrev CarriesIn : ℕ → Path → Component → List Transaction → Type 0
   CarriesIn n path c txs =
-      IsLegal (component_behaviour (take n comps) c).sig txs × ((r : ℕ) → r < height → CarriesInputs (component_behaviour (take n comps) c).sig (full_name path) (trace r) txs r)
+      AreLegalTransactions (component_behaviour (take n comps) c).sig txs × ((r : ℕ) → r < height → CarriesInputs (component_behaviour (take n comps) c).sig (full_name path) (trace r) txs r)
 
   -- a component itself
   itself_carries : (n : ℕ) (path : Path) (c : Component) → Stands comps top n path → slice_get comps n ≡ Some c → (txs : List Transaction) → CarriesIn n path c txs →

@@ -4,7 +4,7 @@ use Rattle.std.proofs.lemmas.List.Elements.{All-contains}
 use Rattle.std.proofs.lemmas.Slice.Eq.{bytes_eq-Decides}
 use Rattle.std.specs.Prelude.{◌&&◌, AllPairs, Contains, bytes_eq, if◌then◌else◌}
 use Rattle.hw_prims.specs.Row.{Text}
-use Rattle.hw_prims.specs.Timed.{AreApart, CarriesStarts, Covers, IsLegal, TimedEvent, TimedPort, Transaction, end_of}
+use Rattle.hw_prims.specs.Timed.{NeverOverlap, CarriesStarts, Covers, AreLegalTransactions, TimedEvent, TimedPort, Transaction, end_of}
 use Rattle.fil_share.proofs.ListLemmas.{two_of, AllPairs-head, AllPairs-tail}
 use Rattle.net_core.specs.Circuit.{settled}
 use Rattle.fil_lower.specs.Laws.{ArgumentsDoNotClash}
@@ -63,7 +63,7 @@ few_where test value (x ∷ xs) pairs = by (test x) refl (few_where test value x
         omega (arith, none)
     by false fails rest = rest
 
-module _ (plan : Plan) (well : IsWellTimed plan) (run : LoweredRun) (low : IsLowered plan run) (txs : List Transaction) (legal : IsLegal plan.sig txs)
+module _ (plan : Plan) (well : IsWellTimed plan) (run : LoweredRun) (low : IsLowered plan run) (txs : List Transaction) (legal : AreLegalTransactions plan.sig txs)
     (r : ℕ) (below : r < run.height) (starts : (s : ℕ) → s ≤ r → CarriesStarts plan.sig run.own (run.trace s) txs s) where
   -- a start up to row r is a transaction's
   pub start_of : (n u : ℕ) → u ≤ r → StartsIn plan run n u → (tx : Transaction) × Contains txs tx × (tx.event ≡ n) × (tx.start ≡ u)
@@ -121,7 +121,7 @@ module _ (plan : Plan) (well : IsWellTimed plan) (run : LoweredRun) (low : IsLow
       let one_event : ta.0.event ≡ tb.0.event = ta.2 ∙ s.event ∙ sym tb.2 in
       let far = λ (x : (ta.0.start + ta.0.hold ≤ tb.0.start) ⊎ (tb.0.start + tb.0.hold ≤ ta.0.start)).
       let bad : ⊥ = elim x [ inl l ↦ omega arith | inr l ↦ omega arith ] in bad in
-      elim (two_of AreApart txs ta.0 tb.0 legal.apart ta.1 tb.1) [
+      elim (two_of NeverOverlap txs ta.0 tb.0 legal.apart ta.1 tb.1) [
         | inl same ↦
             let u : ta.0.start ≡ tb.0.start = ap (λ (z : Transaction). z.start) same in
             elim s.disjoint [ inl l ↦ omega arith | inr l ↦ omega arith ]

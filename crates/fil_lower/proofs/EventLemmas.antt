@@ -15,7 +15,7 @@ use Rattle.fil_fsm.specs.Chain.{IsShiftRegister, chain_bits, chain_sets}
 use Rattle.fil_fsm.specs.Registers.{PartsHaveNumbers}
 use Rattle.fil_fsm.specs.declared.shift.FsmParts.{FsmParts}
 use Rattle.fil_lower.specs.Lowering.{wanted_by}
-use Rattle.fil_lower.specs.Place.{ShowsEvent, greatest, unregistered}
+use Rattle.fil_lower.specs.inside.Place.{ShowsEvent, greatest, unregistered}
 
 module _ (old new : List Text) (scope : Scope) (event : Text) (parts : FsmParts) where
   pub with_register : (go : CalPort) (name : Text) (last : ℕ) → interface_of scope.comp.interfaces event ≡ Some name → port_tree new go ≡ own name

@@ -11,7 +11,7 @@ use Rattle.std.proofs.lemmas.Simd.{map-map}
 use Rattle.std.proofs.lemmas.Slice.Eq.{bytes_eq-Decides}
 use Rattle.hw_names.specs.Name.{Text, AreDistinct, full_name}
 use Rattle.hw_prims.specs.Table.{Pin, pin_names}
-use Rattle.hw_prims.specs.Timed.{CarriesStarts, IsLegal, Transaction}
+use Rattle.hw_prims.specs.Timed.{CarriesStarts, AreLegalTransactions, Transaction}
 use Rattle.net_core.specs.Guard.{guard_holds, source_value}
 use Rattle.net_core.specs.declared.net.Src.TheVariants.{Port, Lit}
 use Rattle.cal_ast.proofs.LocalLemmas.{is_port, is_port-same}
@@ -179,7 +179,7 @@ module _ (comp : LoweredComp) where
   -- ---- in a run
 
   module _ (standing : StandingComp comp)
-      (txs : List Transaction) (legal : IsLegal (plan_of (take n comps) c).sig txs) (r : ℕ) (below : r < standing.below_top.height)
+      (txs : List Transaction) (legal : AreLegalTransactions (plan_of (take n comps) c).sig txs) (r : ℕ) (below : r < standing.below_top.height)
       (starts : (s : ℕ) → s ≤ r → CarriesStarts (plan_of (take n comps) c).sig (full_name standing.path) (standing.below_top.trace s) txs s) where
     open standing use {below_top, below_top.{top, asked, inputs, loads, height, trace, run}, path, at, plain_sets}
 

@@ -4,7 +4,7 @@ use Rattle.std.proofs.lemmas.Bool.Decides.{Decides-eqb}
 use Rattle.std.proofs.lemmas.Slice.Eq.{bytes_eq-Decides}
 use Rattle.std.specs.Prelude.{◌==◌, AllPairs, Contains, bytes_eq, flat_map}
 use Rattle.hw_prims.specs.Row.{Text}
-use Rattle.hw_prims.specs.Timed.{AreApart, Chosen, Delay, Fixed, HasDelay, IsLegal, TimedEvent, TimedSignature, Transaction}
+use Rattle.hw_prims.specs.Timed.{NeverOverlap, Chosen, Delay, Fixed, HasDelay, AreLegalTransactions, TimedEvent, TimedSignature, Transaction}
 use Rattle.fil_share.proofs.ListLemmas.{two_of}
 use Rattle.fil_lower.specs.Laws.{InnerListsAreLegal}
 use Rattle.fil_lower.specs.Plan.{Plan, Slot, Use}
@@ -64,7 +64,7 @@ fixed_hold : (delay : Delay) (hold rows : ℕ) → HasDelay delay hold → delay
 fixed_hold (Fixed d) hold rows held fixed = held ∙ fixed_rows d rows fixed
 fixed_hold Chosen hold rows held fixed = absurd (cc)
 
-module _ (plan : Plan) (well : IsWellTimed plan) (txs : List Transaction) (legal : IsLegal plan.sig txs) where
+module _ (plan : Plan) (well : IsWellTimed plan) (txs : List Transaction) (legal : AreLegalTransactions plan.sig txs) where
   -- a transaction holds its event for the event's delay
   pub held_for : (tx : Transaction) → Contains txs tx → (own : TimedEvent) (delay : ℕ) → IsEvent plan.sig tx.event own → own.delay ≡ Fixed delay → tx.hold ≡ delay
   held_for tx of_tx own delay is fixed =
@@ -112,7 +112,7 @@ module _ (plan : Plan) (well : IsWellTimed plan) (txs : List Transaction) (legal
       ]
 
   -- what one transaction gives is apart from what another one gives
-  apart_transactions : (inst : Text) (a b : Transaction) → Contains txs a → Contains txs b → AreApart a b → (x y : Transaction) → Contains (flat_map (given_by_use plan inst a) plan.uses) x → Contains (flat_map (given_by_use plan inst b) plan.uses) y → AreApart x y
+  apart_transactions : (inst : Text) (a b : Transaction) → Contains txs a → Contains txs b → NeverOverlap a b → (x y : Transaction) → Contains (flat_map (given_by_use plan inst a) plan.uses) x → Contains (flat_map (given_by_use plan inst b) plan.uses) y → NeverOverlap x y
   apart_transactions inst a b of_a of_b apart x y has_x has_y same =
       let m = from_flat (given_by_use plan inst a) plan.uses x has_x in
       let n = from_flat (given_by_use plan inst b) plan.uses y has_y in
@@ -135,7 +135,7 @@ module _ (plan : Plan) (well : IsWellTimed plan) (txs : List Transaction) (legal
       ]
 
   -- of one transaction, what two invocations give
-  apart_uses : (inst : Text) (tx : Transaction) (a b : Use) → AreShared plan a b → (x y : Transaction) → Contains (given_by_use plan inst tx a) x → Contains (given_by_use plan inst tx b) y → AreApart x y
+  apart_uses : (inst : Text) (tx : Transaction) (a b : Use) → AreShared plan a b → (x y : Transaction) → Contains (given_by_use plan inst tx a) x → Contains (given_by_use plan inst tx b) y → NeverOverlap x y
   apart_uses inst tx a b shared x y has_x has_y same =
       let s = from_use plan inst tx a x has_x in
       let t = from_use plan inst tx b y has_y in
@@ -149,31 +149,31 @@ module _ (plan : Plan) (well : IsWellTimed plan) (txs : List Transaction) (legal
       elim e.disjoint [ inl l ↦ inl (omega arith) | inr r ↦ inr (omega arith) ]
 
   -- of one invocation, what two of its slots give
-  apart_slots : (tx : Transaction) (call : Use) (s t : Slot) → (s.target ≡ t.target → ⊥) → (x y : Transaction) → Contains (given_by_slot plan tx call s) x → Contains (given_by_slot plan tx call t) y → AreApart x y
+  apart_slots : (tx : Transaction) (call : Use) (s t : Slot) → (s.target ≡ t.target → ⊥) → (x y : Transaction) → Contains (given_by_slot plan tx call s) x → Contains (given_by_slot plan tx call t) y → NeverOverlap x y
   apart_slots tx call s t differ x y has_x has_y same =
       let xe : s.target ≡ x.event = ap (λ (z : Transaction). z.event) (from_slot plan tx call s x has_x).1 in
       let ye : t.target ≡ y.event = ap (λ (z : Transaction). z.event) (from_slot plan tx call t y has_y).1 in
       absurd (differ (xe ∙ same ∙ sym ye))
 
-  use_apart : (inst : Text) (tx : Transaction) (call : Use) → Contains plan.uses call → AllPairs AreApart (given_by_use plan inst tx call)
+  use_apart : (inst : Text) (tx : Transaction) (call : Use) → Contains plan.uses call → AllPairs NeverOverlap (given_by_use plan inst tx call)
   use_apart inst tx call of_use =
-      pairs_if AreApart (bytes_eq call.inst inst) (flat_map (given_by_slot plan tx call) call.slots)
-      (pairs_flat AreApart (given_by_slot plan tx call) call.slots (λ s of_slot. pairs_if AreApart (s.event == tx.event) (given_by plan tx call s ∷ []) (pairs_of_one AreApart (given_by plan tx call s)))
-      (pairs_more (λ (s t : Slot). s.target ≡ t.target → ⊥) (λ (s t : Slot). (x y : Transaction) → Contains (given_by_slot plan tx call s) x → Contains (given_by_slot plan tx call t) y → AreApart x y) call.slots
+      pairs_if NeverOverlap (bytes_eq call.inst inst) (flat_map (given_by_slot plan tx call) call.slots)
+      (pairs_flat NeverOverlap (given_by_slot plan tx call) call.slots (λ s of_slot. pairs_if NeverOverlap (s.event == tx.event) (given_by plan tx call s ∷ []) (pairs_of_one NeverOverlap (given_by plan tx call s)))
+      (pairs_more (λ (s t : Slot). s.target ≡ t.target → ⊥) (λ (s t : Slot). (x y : Transaction) → Contains (given_by_slot plan tx call s) x → Contains (given_by_slot plan tx call t) y → NeverOverlap x y) call.slots
       (λ s t of_s of_t differ. apart_slots tx call s t differ) (well.once call of_use)))
 
-  pub given_legal : (inst : Text) → IsLegal (plan.callee inst).sig (given_transactions plan txs inst)
+  pub given_legal : (inst : Text) → AreLegalTransactions (plan.callee inst).sig (given_transactions plan txs inst)
   given_legal inst = record {
     held = λ x has.
         let f = comes_from plan txs inst x has in
         let g = well.triggered f.call f.of_use f.slot f.of_slot in
         subst (λ (z : Transaction). (event : TimedEvent) × IsEvent (plan.callee inst).sig z.event event × HasDelay event.delay z.hold) f.is
         (g.theirs, subst (λ name. IsEvent (plan.callee name).sig f.slot.target g.theirs) f.by g.is_theirs, g.held);
-    apart = pairs_flat AreApart (λ (tx : Transaction). flat_map (given_by_use plan inst tx) plan.uses) txs
-        (λ tx of_tx. pairs_flat AreApart (given_by_use plan inst tx) plan.uses (λ u of_use. use_apart inst tx u of_use)
-        (pairs_more (AreShared plan) (λ (a b : Use). (x y : Transaction) → Contains (given_by_use plan inst tx a) x → Contains (given_by_use plan inst tx b) y → AreApart x y) plan.uses
+    apart = pairs_flat NeverOverlap (λ (tx : Transaction). flat_map (given_by_use plan inst tx) plan.uses) txs
+        (λ tx of_tx. pairs_flat NeverOverlap (given_by_use plan inst tx) plan.uses (λ u of_use. use_apart inst tx u of_use)
+        (pairs_more (AreShared plan) (λ (a b : Use). (x y : Transaction) → Contains (given_by_use plan inst tx a) x → Contains (given_by_use plan inst tx b) y → NeverOverlap x y) plan.uses
         (λ a b of_a of_b shared. apart_uses inst tx a b shared) well.shared))
-        (pairs_more AreApart (λ (a b : Transaction). (x y : Transaction) → Contains (flat_map (given_by_use plan inst a) plan.uses) x → Contains (flat_map (given_by_use plan inst b) plan.uses) y → AreApart x y) txs
+        (pairs_more NeverOverlap (λ (a b : Transaction). (x y : Transaction) → Contains (flat_map (given_by_use plan inst a) plan.uses) x → Contains (flat_map (given_by_use plan inst b) plan.uses) y → NeverOverlap x y) txs
         (λ a b of_a of_b apart. apart_transactions inst a b of_a of_b apart) legal.apart);
   }
 

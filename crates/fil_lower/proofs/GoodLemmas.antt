@@ -22,8 +22,8 @@ use Rattle.fil_ast.specs.declared.tree.TheConstants.{MOST_OFFSET}
 use Rattle.fil_share.proofs.CalleeLemmas.{named_among}
 use Rattle.fil_share.specs.Instances.{signature_of}
 use Rattle.fil_sig.proofs.ListLemmas.{All-mapped}
-use Rattle.fil_lower.specs.Parts.{IsGoodPort}
-use Rattle.fil_lower.specs.Place.{HasGoodPorts}
+use Rattle.fil_lower.specs.inside.Parts.{IsGoodPort}
+use Rattle.fil_lower.specs.inside.Place.{HasGoodPorts}
 
 abbrev IsSmallPort : DataPort → Type 0
 IsSmallPort p = p.to.plus ≤ MOST_OFFSET

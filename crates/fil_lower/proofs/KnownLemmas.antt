@@ -22,7 +22,7 @@ use Rattle.fil_share.proofs.ListLemmas.{All-flat_map, Contains-at, Contains-here
 use Rattle.fil_share.proofs.OwnLemmas.{names_of}
 use Rattle.cal_ast.specs.Tree.{PortName, own}
 use Rattle.fil_lower.specs.Lowering.{HasEnoughBits, Lowering, argument_set, argument_sets, bits_of, go_of, inputs_of_callee, last_bit, registers_of, wanted_by, wants_in}
-use Rattle.fil_lower.specs.Place.{NamesInvocation, ShowsBody, Starts, greatest}
+use Rattle.fil_lower.specs.inside.Place.{NamesInvocation, ShowsBody, Starts, greatest}
 use Rattle.fil_lower.specs.declared.body.Body.{Body}
 use Rattle.fil_lower.proofs.CallLemmas.{IsCalled, all_called}
 use Rattle.fil_lower.proofs.ListLemmas.{contains_in_flat, contains_none, first_or_later}

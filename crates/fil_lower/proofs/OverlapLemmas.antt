@@ -3,7 +3,7 @@ use Rattle.std.proofs.Common.{◌≡◌, ℕ, zero, suc, ◌+◌, ◌-◌, ◌<�
 use Rattle.std.proofs.lemmas.Bool.{cases_lt}
 use Rattle.std.specs.Prelude.{Contains, if◌then◌else◌}
 use Rattle.hw_prims.specs.Row.{Text}
-use Rattle.hw_prims.specs.Timed.{CarriesInputs, CarriesStarts, Covers, HasInputs, IsLegal, IsTimed, TimedEvent, TimedPort, Transaction, end_of}
+use Rattle.hw_prims.specs.Timed.{CarriesInputs, CarriesStarts, Covers, HasInputs, AreLegalTransactions, IsTimed, TimedEvent, TimedPort, Transaction, end_of}
 use Rattle.fil_lower.specs.Laws.{AreTimed, InstancesCarry, LoweredComponentsAreTimed}
 use Rattle.fil_lower.specs.Lowered.{IsLowered, LoweredRun, StartsIn, source_in}
 use Rattle.fil_lower.specs.Plan.{Input, Literal, Output, Plan, Slot, Source, Use, value_of}
@@ -14,7 +14,7 @@ use Rattle.fil_lower.proofs.GivenLemmas.{comes_from, given_legal, is_given, same
 fixed_end : (p : TimedPort) (hold : ℕ) → p.stays ≡ false → end_of p hold ≡ p.to
 fixed_end p hold fixed = ap (λ b. p.to + (if b then hold else 0)) fixed ∙ omega arith
 
-module _ (plan : Plan) (well : IsWellTimed plan) (run : LoweredRun) (low : IsLowered plan run) (txs : List Transaction) (legal : IsLegal plan.sig txs) where
+module _ (plan : Plan) (well : IsWellTimed plan) (run : LoweredRun) (low : IsLowered plan run) (txs : List Transaction) (legal : AreLegalTransactions plan.sig txs) where
   -- an instance starts exactly where it is given a transaction
   inner_starts : (r : ℕ) → r < run.height → ((s : ℕ) → s ≤ r → CarriesStarts plan.sig run.own (run.trace s) txs s) → (inst : Text) →
       CarriesStarts (plan.callee inst).sig (run.cell inst) (run.trace r) (given_transactions plan txs inst) r

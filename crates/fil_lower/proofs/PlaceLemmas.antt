@@ -26,7 +26,7 @@ use Rattle.fil_ast.specs.declared.tree.Value.{Value}
 use Rattle.fil_ast.specs.Typing.{HasShape}
 use Rattle.fil_fsm.specs.Chain.{chain_bits}
 use Rattle.fil_lower.specs.Lowering.{Lowering, bit_at, bits_from, bits_of, connection_set, go_of, registers_of}
-use Rattle.fil_lower.specs.Place.{ShowsBody, ShowsPlace, bits_shown}
+use Rattle.fil_lower.specs.inside.Place.{ShowsBody, ShowsPlace, bits_shown}
 use Rattle.fil_lower.specs.declared.body.Body.{Body}
 use Rattle.fil_lower.specs.declared.place.Place.{Place}
 use Rattle.fil_lower.proofs.TimedAsLemmas.{number_of}

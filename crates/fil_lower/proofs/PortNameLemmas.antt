@@ -5,7 +5,7 @@ use Rattle.std.proofs.lemmas.List.Elements.{All-weaker}
 use Rattle.hw_names.specs.Name.{KeepsTexts, Text}
 use Rattle.fil_ast.specs.Signature.{Signature, SigEvent}
 use Rattle.fil_fsm.proofs.FreshLemmas.{Contains-KeepsTexts}
-use Rattle.fil_lower.specs.Parts.{IsNamedEvent, IsNamedPort, NamesPorts}
+use Rattle.fil_lower.specs.inside.Parts.{IsNamedEvent, IsNamedPort, NamesPorts}
 
 pub still_named : (old new : List Text) → KeepsTexts old new → (e : SigEvent) → IsNamedEvent old e → IsNamedEvent new e
 still_named old new kept e named = by e.go named

@@ -23,7 +23,7 @@ use Rattle.fil_share.proofs.ListLemmas.{AllPairs-append, Contains-at}
 use Rattle.fil_share.proofs.MakesLemmas.{take_next}
 use Rattle.fil_sig.proofs.ListLemmas.{All-mapped}
 use Rattle.fil_lower.specs.Lowering.{Lowering, Registers, last_bit, registers_of}
-use Rattle.fil_lower.specs.Place.{AreNew, ShowsEvent, ShowsRegisters, bits_shown, event_bits, event_sets, unregistered}
+use Rattle.fil_lower.specs.inside.Place.{AreNew, ShowsEvent, ShowsRegisters, bits_shown, event_bits, event_sets, unregistered}
 use Rattle.fil_lower.specs.declared.bits.EventBits.{EventBits}
 use Rattle.fil_lower.proofs.KeptLemmas.{cell_numbers, cells_kept, map_kept, port_numbers, ports_kept, set_numbers, sets_kept}
 use Rattle.fil_lower.proofs.NameLemmas.{first_differs, later_distinct, other_name, same_name}

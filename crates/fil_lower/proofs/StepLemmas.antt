@@ -14,7 +14,7 @@ use Rattle.hw_names.specs.Name.{Text, AreDistinct}
 use Rattle.fil_share.proofs.ListLemmas.{Contains-at, slice_get-take}
 use Rattle.fil_share.proofs.MakesLemmas.{flat_next, take_next}
 use Rattle.fil_share.specs.Uses.{Held, is_on}
-use Rattle.fil_lower.specs.Place.{greatest, wanted_by_uses}
+use Rattle.fil_lower.specs.inside.Place.{greatest, wanted_by_uses}
 
 -- past the last element all are taken
 pub whole_taken : {X Y : Type 0} (f : X → Y) (xs ys : List X) (i : ℕ) → ys ≡ xs → length ys ≤ i → take i (map f xs) ≡ map f xs

@@ -15,7 +15,7 @@ use Rattle.hw_prims.specs.declared.name.PrimName.TheVariants as name
 use Rattle.hw_prims.specs.declared.prim.Primitive.{Primitive}
 use Rattle.hw_prims.specs.declared.prim.Primitive.TheVariants.{StdReg}
 use Rattle.fil_ast.specs.Primitives.{Timing, filament_primitive, register_timing, table_name, timing, timing_of}
-use Rattle.fil_sig.specs.Kinds.{table_name_in}
+use Rattle.fil_sig.specs.inside.Kinds.{table_name_in}
 
 -- how a Filament name times the primitive that it means: by one event of fixed delay, or as a register
 pub data IsTiming : Timing → Primitive → Type 0 where

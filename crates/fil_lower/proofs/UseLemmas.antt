@@ -6,7 +6,7 @@ use Rattle.std.proofs.lemmas.List.Elements.{All-cons, All-weaker, Contains-appen
 use Rattle.std.proofs.lemmas.List.Kept.{AllPairs-cons}
 use Rattle.std.proofs.lemmas.Option.{none-some, same_Some}
 use Rattle.hw_names.specs.Name.{Text}
-use Rattle.fil_ast.specs.Holds.{listed, use_of, uses_by, uses_from, uses_of}
+use Rattle.fil_ast.specs.Holds.{uses_listed, use_of, uses_by, uses_from, uses_of}
 use Rattle.fil_ast.specs.Scope.{Invocation, Scope, instance_signature}
 use Rattle.fil_ast.specs.Signature.{Fixed, SigEvent, Signature}
 use Rattle.fil_ast.specs.Timeline.{IsUse, Use, hold_of}
@@ -44,7 +44,7 @@ module _ (sig : Signature) (inst : Text) (times : List TimeAt) where
       later j = let shift : k + suc j ≡ suc k + j = omega arith in same (suc j) ∙ ap (slice_get sig.events) shift
 
       by : (o : Option Use) → use_of k e inst times ≡ o → All (IsFrom (suc k)) (uses_from (suc k) es inst times) × AllPairs (λ (u w : Use). u.event < w.event) (uses_from (suc k) es inst times)
-          → All (IsFrom k) (listed o ++ uses_from (suc k) es inst times) × AllPairs (λ (u w : Use). u.event < w.event) (listed o ++ uses_from (suc k) es inst times)
+          → All (IsFrom k) (uses_listed o ++ uses_from (suc k) es inst times) × AllPairs (λ (u w : Use). u.event < w.event) (uses_listed o ++ uses_from (suc k) es inst times)
       by None is known =
           (All-weaker (IsFrom (suc k)) (IsFrom k) (λ u f. (f.0, let over = f.1 in omega arith)) (uses_from (suc k) es inst times) known.0, known.1)
       by (Some u) is known =
@@ -67,16 +67,16 @@ module _ (sig : Signature) (inst : Text) (times : List TimeAt) where
       ∙ ap (option_map (made u.at)) is.held
       ∙ ap₂ (λ (i : Text) (g : Option Text). Some (record { inst = i; event = u.event; go = g; at = u.at; hold = u.hold })) (sym is.named) (sym (is.go ∙ ap (λ (x : SigEvent). x.go) same))
 
-  -- and each is listed
+  -- and each is uses_listed
   use_among : (k : ℕ) (es : List SigEvent) → ((j : ℕ) → slice_get es j ≡ slice_get sig.events (k + j)) → (u : Use) → IsUse sig inst times u → (j : ℕ) → u.event ≡ k + j → Contains (uses_from k es inst times) u
   use_among k [] same u is j at = absurd (none-some is.event (same j ∙ ap (slice_get sig.events) (sym at) ∙ is.of))
   use_among k (e ∷ es) same u is zero at =
       let here : u.event ≡ k = omega (arith, at) in
       let use_at : use_of k e inst times ≡ Some u = ap (λ (n : ℕ). use_of n e inst times) (sym here) ∙ use_is u is e (ap (slice_get sig.events) at ∙ sym (same 0)) in
-      Contains-append_left (listed (use_of k e inst times)) (uses_from (suc k) es inst times) u
-      (subst (λ (o : Option Use). Contains (listed o) u) (sym use_at) (0, omega arith, refl))
+      Contains-append_left (uses_listed (use_of k e inst times)) (uses_from (suc k) es inst times) u
+      (subst (λ (o : Option Use). Contains (uses_listed o) u) (sym use_at) (0, omega arith, refl))
   use_among k (e ∷ es) same u is (suc j) at =
-      Contains-append_right (listed (use_of k e inst times)) (uses_from (suc k) es inst times) u
+      Contains-append_right (uses_listed (use_of k e inst times)) (uses_from (suc k) es inst times) u
       (use_among (suc k) es (λ i. let shift : k + suc i ≡ suc k + i = omega arith in same (suc i) ∙ ap (slice_get sig.events) shift) u is j (omega (arith, at)))
 
   -- an event of fixed delay is used where it has a time

@@ -23,7 +23,7 @@ use Rattle.fil_share.proofs.MakesLemmas.{take_next}
 use Rattle.fil_share.specs.Uses.{Held, held, held_by, shown_use}
 use Rattle.fil_share.specs.declared.uses.Use.{Use}
 use Rattle.fil_lower.specs.Lowering.{Lowering, any_of, bit_at, bits_of, start_set, start_sets_from, starting_bits, starts_of}
-use Rattle.fil_lower.specs.Place.{Starts, is_of}
+use Rattle.fil_lower.specs.inside.Place.{Starts, is_of}
 use Rattle.fil_lower.proofs.KnownLemmas.{among_map}
 use Rattle.fil_lower.proofs.ListLemmas.{from_flat}
 use Rattle.fil_lower.proofs.NameLemmas.{from_map, other_name, same_name}

@@ -8,7 +8,7 @@ use Rattle.fil_ast.specs.Scope.{Invocation}
 use Rattle.fil_ast.specs.Timeline.{Use}
 use Rattle.fil_share.specs.Uses.{Held, held, held_by, is_on}
 use Rattle.fil_lower.specs.Lowering.{Lowering, wanted_by}
-use Rattle.fil_lower.specs.Place.{greatest, wanted_by_ports, wanted_by_uses}
+use Rattle.fil_lower.specs.inside.Place.{greatest, wanted_by_ports, wanted_by_uses}
 use Rattle.fil_lower.proofs.StepLemmas.{greatest-append}
 
 wanted_by_held : (name event : Text) (us : List Use) → wanted_by_uses event (map (held name) us) ≡ map (λ (u : Use). u.at.plus) (filter (λ (u : Use). bytes_eq u.at.event event) us)

@@ -1,7 +1,7 @@
 -- The laws of overlap: a lowered component carries every legal list of transactions. Filament, PLDI 2023; the laws are this project's.
 use Rattle.std.specs.Prelude.{◌≡◌, ℕ, ◌≤◌, ◌<◌, List, length, Contains}
 use Rattle.hw_prims.specs.Row.{Text}
-use Rattle.hw_prims.specs.Timed.{Behaviour, CarriesInputs, CarriesOutputs, CarriesStarts, HasDelay, IsLegal, IsTimed, TimedEvent, TimedPort, TimedSignature}
+use Rattle.hw_prims.specs.Timed.{Behaviour, CarriesInputs, CarriesOutputs, CarriesStarts, HasDelay, AreLegalTransactions, IsTimed, TimedEvent, TimedPort, TimedSignature}
 use Rattle.hw_prims.specs.Timed.{Transaction, Values, end_of}
 use Rattle.fil_lower.specs.Plan.{Use, Plan, behaviour_of_plan}
 use Rattle.fil_lower.specs.PlanRules.{IsEvent, IsWellTimed, given_transactions}
@@ -10,8 +10,8 @@ use Rattle.fil_lower.specs.Lowered.{LoweredRun, IsLowered, drives, values_where}
 -- what a legal list gives an instance is legal for the instance: no two holds of one of its events meet
 abbrev pub InnerListsAreLegal : Type 0
 InnerListsAreLegal =
-    (plan : Plan) → IsWellTimed plan → (txs : List Transaction) → IsLegal plan.sig txs → (inst : Text) →
-    IsLegal (plan.callee inst).sig (given_transactions plan txs inst)
+    (plan : Plan) → IsWellTimed plan → (txs : List Transaction) → AreLegalTransactions plan.sig txs → (inst : Text) →
+    AreLegalTransactions (plan.callee inst).sig (given_transactions plan txs inst)
 
 -- each instance that the component uses keeps its promise
 abbrev pub AreTimed : Plan → LoweredRun → Type 0
@@ -26,7 +26,7 @@ LoweredComponentsAreTimed =
 -- where starts of a legal list are carried, no two arguments drive one port of an instance in one row
 abbrev pub ArgumentsDoNotClash : Type 0
 ArgumentsDoNotClash =
-    (plan : Plan) → IsWellTimed plan → (run : LoweredRun) → IsLowered plan run → (txs : List Transaction) → IsLegal plan.sig txs →
+    (plan : Plan) → IsWellTimed plan → (run : LoweredRun) → IsLowered plan run → (txs : List Transaction) → AreLegalTransactions plan.sig txs →
     (r : ℕ) → r < run.height → ((s : ℕ) → s ≤ r → CarriesStarts plan.sig run.own (run.trace s) txs s) →
     (inst : Text) (p : TimedPort) → Contains (plan.callee inst).sig.ins p → (value : Use → ℕ) →
     length (values_where (drives run inst p.name r) value plan.uses) < 2
@@ -35,7 +35,7 @@ ArgumentsDoNotClash =
 abbrev pub InstancesCarry : Type 0
 InstancesCarry =
     (plan : Plan) → IsWellTimed plan → (run : LoweredRun) → IsLowered plan run → AreTimed plan run →
-    (txs : List Transaction) → IsLegal plan.sig txs → ((r : ℕ) → r < run.height → CarriesInputs plan.sig run.own (run.trace r) txs r) →
+    (txs : List Transaction) → AreLegalTransactions plan.sig txs → ((r : ℕ) → r < run.height → CarriesInputs plan.sig run.own (run.trace r) txs r) →
     (inst : Text) (r : ℕ) → r < run.height →
     CarriesInputs (plan.callee inst).sig (run.cell inst) (run.trace r) (given_transactions plan txs inst) r
     × CarriesOutputs (plan.callee inst) (run.cell inst) (run.trace r) (given_transactions plan txs inst) r

@@ -1,3 +1,4 @@
+pub mod inside
 pub mod Plan
 pub mod PlanRules
 pub mod Lowered
@@ -6,6 +7,4 @@ pub mod PlanOf
 pub mod PlanLaws
 pub mod LoweredDesign
 pub mod Lowering
-pub mod Parts
-pub mod Place
 pub mod LoweringLaws

@@ -3,7 +3,7 @@ use Rattle.std.specs.Prelude.{◌≡◌, ℕ, ◌<◌, Bool, false, List, [], �
 use Rattle.hw_names.specs.Name.{Path, full_name}
 use Rattle.hw_prims.specs.Cell.{IsCell}
 use Rattle.hw_prims.specs.Row.{Text, Trace}
-use Rattle.hw_prims.specs.Timed.{Behaviour, CarriesInputs, CarriesOutputs, IsLegal, IsTimed, Transaction}
+use Rattle.hw_prims.specs.Timed.{Behaviour, CarriesInputs, CarriesOutputs, AreLegalTransactions, IsTimed, Transaction}
 use Rattle.hw_prims.specs.declared.prim.Primitive.{Primitive}
 use Rattle.fil_ast.specs.Behaviours.{IsGiven, component_behaviour}
 use Rattle.fil_ast.specs.Primitives.{filament_primitive, is_filament_primitive}
@@ -50,7 +50,7 @@ ComponentsStaySeparate =
 
 -- each row carries these transactions, in and out, and they are legal
 pub record CarriesAll (b : Behaviour) (at : Text → Text) (height : ℕ) (trace : Trace) (txs : List Transaction) : Type 0 where
-  pub legal : IsLegal b.sig txs
+  pub legal : AreLegalTransactions b.sig txs
   pub inputs : (r : ℕ) → r < height → CarriesInputs b.sig at (trace r) txs r
   pub outputs : (r : ℕ) → r < height → CarriesOutputs b at (trace r) txs r
 
@@ -58,6 +58,6 @@ pub record CarriesAll (b : Behaviour) (at : Text → Text) (height : ℕ) (trace
 abbrev pub EveryPathCarries : Type 0
 EveryPathCarries =
     (comps : Design) → FilRules comps → (top height : ℕ) (trace : Trace) → IsLoweredDesign comps top height trace →
-    (c : Component) → slice_get comps top ≡ Some c → (txs : List Transaction) → IsLegal (component_behaviour (take top comps) c).sig txs →
+    (c : Component) → slice_get comps top ≡ Some c → (txs : List Transaction) → AreLegalTransactions (component_behaviour (take top comps) c).sig txs →
     ((r : ℕ) → r < height → CarriesInputs (component_behaviour (take top comps) c).sig (full_name []) (trace r) txs r) →
     (b : Behaviour) (given : List Transaction) (path : Path) → IsGiven comps b given top txs path → CarriesAll b (full_name path) height trace given

@@ -11,8 +11,8 @@ ghost use Rattle.fil_ast.specs.Timeline.{interval_at};
 ghost use Rattle.fil_ast.specs.Tree.{statement_tree, value_tree};
 ghost use Rattle.fil_sig.specs.Seen.{seen_port};
 ghost use Rattle.fil_lower.specs.Lowering.{Lowering, argument_set, argument_sets, connection_set, during, inputs_of_callee, invocation_sets};
-ghost use Rattle.fil_lower.specs.Parts.{InvocationHasNumbers, invocation_shown};
-ghost use Rattle.fil_lower.specs.Place.{NamesInvocation, ShowsPlace};
+ghost use Rattle.fil_lower.specs.inside.Parts.{InvocationHasNumbers, invocation_shown};
+ghost use Rattle.fil_lower.specs.inside.Place.{NamesInvocation, ShowsPlace};
 
 use crate::interval::interval_at;
 use crate::names::number_of;

@@ -3,7 +3,7 @@ ghost use Rattle.std.specs.Prelude.{◌≡◌, [], ◌∷◌, ◌++◌, IfOk, On
 ghost use Rattle.hw_names.specs.Name.{KeepsTexts, text_of};
 ghost use Rattle.fil_ast.specs.Numbers.{IsNumberOf};
 ghost use Rattle.fil_ast.specs.Scope.{Scope};
-ghost use Rattle.fil_lower.specs.Place.{ShowsBody, ShowsEvent, ShowsRegisters};
+ghost use Rattle.fil_lower.specs.inside.Place.{ShowsBody, ShowsEvent, ShowsRegisters};
 
 use crate::body::Body;
 use cal_ast::{Assign, CalCell, CalPort};

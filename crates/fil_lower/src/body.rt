@@ -13,8 +13,8 @@ ghost use Rattle.fil_sig.specs.Seen.{seen_port};
 ghost use Rattle.fil_share.specs.Uses.{IsGoodUse, shown_use};
 ghost use Rattle.fil_fsm.specs.declared.shift.TheConstants.{MOST_BITS};
 ghost use Rattle.fil_lower.specs.Lowering.{Lowering, wanted_by, wants_in};
-ghost use Rattle.fil_lower.specs.Parts.{IsGoodPort};
-ghost use Rattle.fil_lower.specs.Place.{ShowsBody, greatest, wanted_by_ports, wanted_by_uses};
+ghost use Rattle.fil_lower.specs.inside.Parts.{IsGoodPort};
+ghost use Rattle.fil_lower.specs.inside.Place.{ShowsBody, greatest, wanted_by_ports, wanted_by_uses};
 
 use crate::calls::Calls;
 use crate::interval::interval_at;

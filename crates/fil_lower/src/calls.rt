@@ -8,7 +8,7 @@ ghost use Rattle.fil_ast.specs.Rules.{KeepsComponent, all_rules};
 ghost use Rattle.fil_ast.specs.Scope as tree;
 ghost use Rattle.fil_ast.specs.Scope.{invocation_named, invocations_at};
 ghost use Rattle.fil_ast.specs.Tree.{Design, component_tree};
-ghost use Rattle.fil_lower.specs.Place.{ShowsCalls};
+ghost use Rattle.fil_lower.specs.inside.Place.{ShowsCalls};
 
 use crate::parts::invoked;
 use fil_ast::FilComp;

@@ -9,7 +9,7 @@ ghost use Rattle.fil_ast.specs.Scope.{Scope};
 ghost use Rattle.fil_ast.specs.Tree as tree;
 ghost use Rattle.fil_fsm.specs.Refines.{inputs_of, outputs_of};
 ghost use Rattle.fil_lower.specs.Lowering.{IsLoweredTo, Lowering, connection_set, invocation_sets, start_sets};
-ghost use Rattle.fil_lower.specs.Place.{ShowsBody, ShowsPlace};
+ghost use Rattle.fil_lower.specs.inside.Place.{ShowsBody, ShowsPlace};
 
 use crate::arguments::{push_arguments, push_connections};
 use crate::bits::EventBits;

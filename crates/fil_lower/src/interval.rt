@@ -7,7 +7,7 @@ ghost use Rattle.fil_ast.specs.Timeline.{interval_at};
 ghost use Rattle.fil_ast.specs.Tree.{time_tree};
 ghost use Rattle.fil_sig.specs.Seen.{seen_port};
 ghost use Rattle.fil_fsm.specs.declared.shift.TheConstants.{MOST_BITS};
-ghost use Rattle.fil_lower.specs.Parts.{IsGoodPort, interval_shown};
+ghost use Rattle.fil_lower.specs.inside.Parts.{IsGoodPort, interval_shown};
 
 use fil_ast::Time;
 use fil_sig::SigPort;

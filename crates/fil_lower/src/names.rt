@@ -4,8 +4,8 @@ ghost use Rattle.hw_names.specs.Name.{KeepsTexts, text_of};
 ghost use Rattle.fil_ast.specs.Numbers.{IsNumberOf};
 ghost use Rattle.fil_ast.specs.Scope.{Scope};
 ghost use Rattle.fil_sig.specs.Seen.{seen};
-ghost use Rattle.fil_share.specs.Instances.{Shows};
-ghost use Rattle.fil_lower.specs.Parts.{IsNamedEvent, IsNamedPort, NamesAllPorts};
+ghost use Rattle.fil_share.specs.Instances.{ShowsScope};
+ghost use Rattle.fil_lower.specs.inside.Parts.{IsNamedEvent, IsNamedPort, NamesAllPorts};
 
 use fil_fsm::intern;
 use fil_share::Instances;
@@ -64,7 +64,7 @@ fn add_interfaces(names: &mut Names, sig: &TimeSig) -> Result<(), Memory>
 /// Adds the names of the ports at which instances are given something.
 pub(crate) fn add_port_names(names: &mut Names, instances: &Instances) -> Result<(), Memory>
     ensures kept { KeepsTexts names.old names.new }
-    ensures named { (scope : Scope) → Shows instances.now scope → OnOk result (NamesAllPorts names.new scope) }
+    ensures named { (scope : Scope) → ShowsScope instances.now scope → OnOk result (NamesAllPorts names.new scope) }
 {
     for sig in instances.sigs() {
         add_inputs(names, sig)?;

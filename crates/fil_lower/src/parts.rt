@@ -5,7 +5,7 @@ ghost use Rattle.fil_ast.specs.Limits.{KeepsStatementLimit, KeepsTimeLimit};
 ghost use Rattle.fil_ast.specs.Numbers.{StatementHasNumbers};
 ghost use Rattle.fil_ast.specs.Scope.{instances_at, invocations_at};
 ghost use Rattle.fil_ast.specs.Tree.{statement_tree};
-ghost use Rattle.fil_lower.specs.Parts.{InstanceHasNumbers, InvocationHasNumbers, at_most_one, instance_shown, invocation_shown};
+ghost use Rattle.fil_lower.specs.inside.Parts.{InstanceHasNumbers, InvocationHasNumbers, at_most_one, instance_shown, invocation_shown};
 
 use fil_ast::{Stmt, Time, Value};
 use hw_names::NameId;

@@ -12,7 +12,7 @@ use Rattle.hw_grammar.proofs.Closed.{any_word-exact, closed-exact, between-exact
 use Rattle.hw_grammar.proofs.Whole.{Judged, judge}
 use Rattle.fil_ast.specs.Tree.{ValueTree, Giving, Statement}
 use Rattle.fil_parse.specs.Grammar.{time_from, literal_from, giving_from, port_from, interface_from, Input, InterfacePort, DataInput, event_from, component_from, design_from, IsTime, IsValue, IsCall, AreParameters, IsStatement, IsPlacedPort, IsPort, IsNamedInterface, IsInput, IsEvent, AreEvents, AreInputs, AreOutputs, IsBody, IsComponent, IsImport, AreImports, IsFile}
-use Rattle.fil_parse.specs.Reading.{time_at, named_value, value_at, times_at, values_at, call_at, params_at, new_by, call_by, connect_by, new_at, called_at, connected_at, of_name, statement_at, placed_at, port_at, interface_at, input_at, event_at, events_at, inputs_at, outputs_at, body_at, component_at, import_at, imports_at, file_at}
+use Rattle.fil_parse.specs.inside.Reading.{time_at, named_value, value_at, times_at, values_at, call_at, params_at, new_by, call_by, connect_by, new_at, called_at, connected_at, of_name, statement_at, placed_at, port_at, interface_at, input_at, event_at, events_at, inputs_at, outputs_at, body_at, component_at, import_at, imports_at, file_at}
 
 module _ (names : List Text) where
   pub time-exact : Exact (IsTime names) (time_at names) (Name ∷ []) false (Plus ∷ [])

@@ -5,7 +5,7 @@ use Rattle.hw_grammar.specs.declared.terminal.Terminal.{Terminal}
 use Rattle.hw_grammar.specs.declared.end.ReadEnd.{ReadEnd}
 use Rattle.hw_grammar.specs.declared.end.ReadEnd.TheVariants as ends
 use Rattle.hw_grammar.specs.Reading.{◌>>=◌, times, many, with_front, Fails}
-use Rattle.fil_parse.specs.Reading.{import_at, imports_at}
+use Rattle.fil_parse.specs.inside.Reading.{import_at, imports_at}
 
 all_of : (r : Result (List (Unit {0}) × List Terminal) (List Terminal)) → with_front [] r ≡ r
 all_of (Ok x) = refl

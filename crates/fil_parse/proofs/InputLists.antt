@@ -7,7 +7,7 @@ use Rattle.fil_ast.specs.declared.tree.FilPort.{FilPort}
 use Rattle.fil_ast.specs.Tree.{Interface, DataPort, interface_tree, port_tree}
 use Rattle.fil_parse.specs.declared.input.InputPort.{InputPort}
 use Rattle.fil_parse.specs.Grammar.{Input, InterfacePort, DataInput, interfaces_of, data_of}
-use Rattle.fil_parse.specs.Inputs.{input_tree}
+use Rattle.fil_parse.specs.inside.Inputs.{input_tree}
 
 interfaces_push : (xs : List Input) (x : Input) → interfaces_of (xs ++ x ∷ []) ≡ interfaces_of xs ++ interfaces_of (x ∷ [])
 interfaces_push [] x = refl

@@ -10,7 +10,7 @@ use Rattle.fil_ast.specs.declared.tree.FilDesign.{FilDesign}
 use Rattle.fil_ast.specs.declared.tree.Stmt.{Stmt}
 use Rattle.fil_ast.specs.declared.tree.Stmt.TheVariants as stmts
 use Rattle.fil_ast.specs.Tree.{TimeAt, Event, time_tree, event_tree, port_tree, statement_tree, component_tree, design_of}
-use Rattle.fil_parse.specs.Offsets.{of_times, of_port, of_statement, of_events, of_component}
+use Rattle.fil_parse.specs.inside.Offsets.{of_times, of_port, of_statement, of_events, of_component}
 use Rattle.fil_parse.specs.Spelling.{time_offsets, port_offsets, statement_offsets, component_offsets, is_large, first_large}
 
 flat_same : {X Y Z : Type 0} (f : Y → List Z) (g : X → Y) (h : X → List Z) → ((x : X) → f (g x) ≡ h x) → (xs : List X) → flat_map f (map g xs) ≡ flat_map h xs

@@ -18,7 +18,7 @@ use Rattle.fil_parse.specs.declared.parse.TheConstants.{MOST_NESTING}
 use Rattle.fil_parse.specs.declared.parse.FilTextEnd.{FilTextEnd}
 use Rattle.fil_parse.specs.declared.parse.FilTextEnd.TheVariants as ends
 use Rattle.fil_parse.specs.Grammar.{IsFile}
-use Rattle.fil_parse.specs.Reading.{file_at}
+use Rattle.fil_parse.specs.inside.Reading.{file_at}
 use Rattle.fil_parse.specs.Spelling.{SpellsDesign, IsRefusedAt, KeepsNesting, GrammarEnds, EndsBy}
 use Rattle.fil_parse.proofs.Exactness.{file_judged}
 

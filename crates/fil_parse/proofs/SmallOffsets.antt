@@ -13,7 +13,7 @@ use Rattle.fil_ast.specs.declared.tree.FilDesign.{FilDesign}
 use Rattle.fil_ast.specs.declared.tree.FilPort.{FilPort}
 use Rattle.fil_ast.specs.declared.tree.Stmt.{Stmt}
 use Rattle.fil_ast.specs.declared.tree.Stmt.TheVariants as stmts
-use Rattle.fil_parse.specs.Offsets.{of_port, of_statement, of_events, of_component}
+use Rattle.fil_parse.specs.inside.Offsets.{of_port, of_statement, of_events, of_component}
 use Rattle.fil_parse.specs.Spelling.{is_large, first_large}
 use Rattle.fil_parse.proofs.OffsetLists.{design_same}
 

@@ -5,8 +5,8 @@ ghost use Rattle.hw_grammar.specs.declared.sort.Sort.TheVariants as Sort;
 ghost use Rattle.hw_grammar.specs.Reading.{Gives, with_front, many, whole};
 ghost use Rattle.fil_ast.specs.Tree.{interface_tree, port_tree, component_tree};
 ghost use Rattle.fil_parse.specs.Grammar.{interfaces_of, data_of};
-ghost use Rattle.fil_parse.specs.Inputs.{input_tree};
-ghost use Rattle.fil_parse.specs.Reading.{component_at, import_at, imports_at, file_at};
+ghost use Rattle.fil_parse.specs.inside.Inputs.{input_tree};
+ghost use Rattle.fil_parse.specs.inside.Reading.{component_at, import_at, imports_at, file_at};
 
 use crate::input::InputPort;
 use crate::port::{read_events, read_inputs, read_outputs};
@@ -44,7 +44,7 @@ fn data_of(alloc: Global, inputs: &[InputPort]) -> Result<Vec<FilPort>, AllocErr
 }
 
 /// A component.
-#[tactic(auto, unfolding(crate::specs::Reading::component_at))]
+#[tactic(auto, unfolding(crate::specs::inside::Reading::component_at))]
 fn read_component(alloc: Global, ts: &[Terminal]) -> Result<(FilComp, &[Terminal]), ReadEnd<'_>>
     ghost names: { List Text }
     ensures { Gives (λ x. (component_tree names x.0, x.1.now)) result (component_at names ts.now) }
@@ -68,7 +68,7 @@ fn read_component(alloc: Global, ts: &[Terminal]) -> Result<(FilComp, &[Terminal
 }
 
 /// What follows `"import" STRING ";"`.
-#[tactic(auto, unfolding(crate::specs::Reading::import_at))]
+#[tactic(auto, unfolding(crate::specs::inside::Reading::import_at))]
 fn after_import(ts: &[Terminal]) -> Result<&[Terminal], ReadEnd<'_>>
     ensures { Gives (λ x. (tt, x.now)) result (import_at ts.now) }
 {
@@ -126,7 +126,7 @@ fn more_components<'a>(
 }
 
 /// Imports, which are dropped, and components.
-#[tactic(auto, unfolding(crate::specs::Reading::file_at))]
+#[tactic(auto, unfolding(crate::specs::inside::Reading::file_at))]
 fn read_file(alloc: Global, ts: &[Terminal]) -> Result<(Vec<FilComp>, &[Terminal]), ReadEnd<'_>>
     ghost names: { List Text }
     ensures { Gives (λ x. (map (component_tree names) x.0.items, x.1.now)) result (file_at names ts.now) }

@@ -1,7 +1,7 @@
 //! Numbers after `+` and delays that are too large.
 ghost use Rattle.std.specs.Prelude.{◌≡◌, find, flat_map};
 ghost use Rattle.fil_ast.specs.Tree.{design_of};
-ghost use Rattle.fil_parse.specs.Offsets.{of_times, of_port, of_statement, of_events, of_component};
+ghost use Rattle.fil_parse.specs.inside.Offsets.{of_times, of_port, of_statement, of_events, of_component};
 ghost use Rattle.fil_parse.specs.Spelling.{is_large, first_large};
 
 use fil_ast::{EventDef, FilComp, FilDesign, FilPort, MOST_OFFSET, Stmt, Time};

@@ -7,7 +7,7 @@ ghost use Rattle.hw_grammar.specs.Reading.{Gives, whole};
 ghost use Rattle.fil_ast.specs.Limits.{HasSmallOffsets};
 ghost use Rattle.fil_ast.specs.Numbers.{HasNumbers};
 ghost use Rattle.fil_ast.specs.Tree.{Design, design_of};
-ghost use Rattle.fil_parse.specs.Reading.{file_at};
+ghost use Rattle.fil_parse.specs.inside.Reading.{file_at};
 ghost use Rattle.fil_parse.specs.Spelling.{SpellsDesign, KeepsNesting, GrammarEnds, EndsBy, first_large};
 ghost use Rattle.fil_parse.specs.Written.{DesignIsWritten};
 

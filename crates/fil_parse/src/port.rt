@@ -4,8 +4,8 @@ ghost use Rattle.hw_names.specs.Name.{Text};
 ghost use Rattle.hw_grammar.specs.declared.sort.Sort.TheVariants as Sort;
 ghost use Rattle.hw_grammar.specs.Reading.{Gives, with_front, many, separated, listed, list_tail};
 ghost use Rattle.fil_ast.specs.Tree.{event_tree, interface_tree, port_tree};
-ghost use Rattle.fil_parse.specs.Inputs.{input_tree};
-ghost use Rattle.fil_parse.specs.Reading.{placed_at, port_at, interface_at, input_at, event_at, more_event_at, events_at, inputs_at, outputs_at};
+ghost use Rattle.fil_parse.specs.inside.Inputs.{input_tree};
+ghost use Rattle.fil_parse.specs.inside.Reading.{placed_at, port_at, interface_at, input_at, event_at, more_event_at, events_at, inputs_at, outputs_at};
 
 use crate::input::InputPort;
 use crate::value::read_time;
@@ -14,7 +14,7 @@ use hw_grammar::{ReadEnd, Sort, Terminal, read_name, read_number, read_one, star
 use std::alloc::Global;
 
 /// What follows the `@` of a data port: `"[" time "," time "]" NAME ":" NUMBER`.
-#[tactic(auto, unfolding(crate::specs::Reading::placed_at))]
+#[tactic(auto, unfolding(crate::specs::inside::Reading::placed_at))]
 fn read_placed(ts: &[Terminal]) -> Result<(FilPort, &[Terminal]), ReadEnd<'_>>
     ghost names: { List Text }
     ensures { Gives (λ x. (port_tree names x.0, x.1.now)) result (placed_at names ts.now) }
@@ -37,7 +37,7 @@ fn read_placed(ts: &[Terminal]) -> Result<(FilPort, &[Terminal]), ReadEnd<'_>>
 }
 
 /// A data port.
-#[tactic(auto, unfolding(crate::specs::Reading::port_at))]
+#[tactic(auto, unfolding(crate::specs::inside::Reading::port_at))]
 fn read_port(ts: &[Terminal]) -> Result<(FilPort, &[Terminal]), ReadEnd<'_>>
     ghost names: { List Text }
     ensures { Gives (λ x. (port_tree names x.0, x.1.now)) result (port_at names ts.now) }
@@ -48,7 +48,7 @@ fn read_port(ts: &[Terminal]) -> Result<(FilPort, &[Terminal]), ReadEnd<'_>>
 }
 
 /// What follows `"@" "interface"`: `"[" NAME "]" NAME ":" NUMBER`.
-#[tactic(auto, unfolding(crate::specs::Reading::interface_at))]
+#[tactic(auto, unfolding(crate::specs::inside::Reading::interface_at))]
 fn read_interface(ts: &[Terminal]) -> Result<(GoPort, &[Terminal]), ReadEnd<'_>>
     ghost names: { List Text }
     ensures { Gives (λ x. (interface_tree names x.0, x.1.now)) result (interface_at names ts.now) }
@@ -63,7 +63,7 @@ fn read_interface(ts: &[Terminal]) -> Result<(GoPort, &[Terminal]), ReadEnd<'_>>
 }
 
 /// An interface port or a data input.
-#[tactic(auto, unfolding(crate::specs::Reading::input_at))]
+#[tactic(auto, unfolding(crate::specs::inside::Reading::input_at))]
 fn read_input(ts: &[Terminal]) -> Result<(InputPort, &[Terminal]), ReadEnd<'_>>
     ghost names: { List Text }
     ensures { Gives (λ x. (input_tree names x.0, x.1.now)) result (input_at names ts.now) }
@@ -129,7 +129,7 @@ fn listed_inputs(
 }
 
 /// `"(" [iport {"," iport} [","]] ")"`
-#[tactic(auto, unfolding(crate::specs::Reading::inputs_at))]
+#[tactic(auto, unfolding(crate::specs::inside::Reading::inputs_at))]
 pub fn read_inputs(
     alloc: Global,
     ts: &[Terminal],
@@ -190,7 +190,7 @@ fn listed_ports(alloc: Global, ts: &[Terminal]) -> Result<(Vec<FilPort>, &[Termi
 }
 
 /// `"(" [port {"," port} [","]] ")"`
-#[tactic(auto, unfolding(crate::specs::Reading::outputs_at))]
+#[tactic(auto, unfolding(crate::specs::inside::Reading::outputs_at))]
 pub fn read_outputs(
     alloc: Global,
     ts: &[Terminal],
@@ -205,7 +205,7 @@ pub fn read_outputs(
 }
 
 /// `NAME ":" NUMBER`
-#[tactic(auto, unfolding(crate::specs::Reading::event_at))]
+#[tactic(auto, unfolding(crate::specs::inside::Reading::event_at))]
 fn read_event(ts: &[Terminal]) -> Result<(EventDef, &[Terminal]), ReadEnd<'_>>
     ghost names: { List Text }
     ensures { Gives (λ x. (event_tree names x.0, x.1.now)) result (event_at names ts.now) }
@@ -217,7 +217,7 @@ fn read_event(ts: &[Terminal]) -> Result<(EventDef, &[Terminal]), ReadEnd<'_>>
 }
 
 /// `"," NAME ":" NUMBER`
-#[tactic(auto, unfolding(crate::specs::Reading::more_event_at))]
+#[tactic(auto, unfolding(crate::specs::inside::Reading::more_event_at))]
 fn read_more_event(ts: &[Terminal]) -> Result<(EventDef, &[Terminal]), ReadEnd<'_>>
     ghost names: { List Text }
     ensures { Gives (λ x. (event_tree names x.0, x.1.now)) result (more_event_at names ts.now) }
@@ -255,7 +255,7 @@ fn more_events<'a>(
 }
 
 /// `event {"," event}`
-#[tactic(auto, unfolding(crate::specs::Reading::more_event_at))]
+#[tactic(auto, unfolding(crate::specs::inside::Reading::more_event_at))]
 fn separated_events(
     alloc: Global,
     ts: &[Terminal],
@@ -270,7 +270,7 @@ fn separated_events(
 }
 
 /// `"<" event {"," event} ">"`
-#[tactic(auto, unfolding(crate::specs::Reading::events_at))]
+#[tactic(auto, unfolding(crate::specs::inside::Reading::events_at))]
 pub fn read_events(
     alloc: Global,
     ts: &[Terminal],

@@ -4,7 +4,7 @@ ghost use Rattle.hw_names.specs.Name.{Text, text_of};
 ghost use Rattle.hw_grammar.specs.declared.sort.Sort.TheVariants as Sort;
 ghost use Rattle.hw_grammar.specs.Reading.{Gives, mapped, many};
 ghost use Rattle.fil_ast.specs.Tree.{statement_tree};
-ghost use Rattle.fil_parse.specs.Reading.{new_at, called_at, connected_at, statement_at, body_at};
+ghost use Rattle.fil_parse.specs.inside.Reading.{new_at, called_at, connected_at, statement_at, body_at};
 
 use crate::value::{params_or_none, read_call, read_value};
 use fil_ast::Stmt;
@@ -13,7 +13,7 @@ use hw_names::NameId;
 use std::alloc::Global;
 
 /// What follows `NAME ":=" "new"`: an instance, and its invocation where there is one.
-#[tactic(auto, unfolding(crate::specs::Reading::new_at))]
+#[tactic(auto, unfolding(crate::specs::inside::Reading::new_at))]
 fn read_new(
     alloc: Global,
     name: NameId,
@@ -42,7 +42,7 @@ fn read_new(
 }
 
 /// What follows `NAME ":="` where no `new` is: an invocation.
-#[tactic(auto, unfolding(crate::specs::Reading::called_at))]
+#[tactic(auto, unfolding(crate::specs::inside::Reading::called_at))]
 fn read_called(
     alloc: Global,
     name: NameId,
@@ -64,7 +64,7 @@ fn read_called(
 }
 
 /// What follows `NAME "="`: a connection.
-#[tactic(auto, unfolding(crate::specs::Reading::connected_at))]
+#[tactic(auto, unfolding(crate::specs::inside::Reading::connected_at))]
 fn read_connected(dst: NameId, ts: &[Terminal]) -> Result<(Stmt, &[Terminal]), ReadEnd<'_>>
     ghost names: { List Text }
     ensures { Gives (λ x. (statement_tree names x.0, x.1.now)) result (mapped (λ f. f (text_of names dst)) (connected_at names) ts.now) }
@@ -75,7 +75,7 @@ fn read_connected(dst: NameId, ts: &[Terminal]) -> Result<(Stmt, &[Terminal]), R
 }
 
 /// A statement.
-#[tactic(auto, unfolding(crate::specs::Reading::statement_at))]
+#[tactic(auto, unfolding(crate::specs::inside::Reading::statement_at))]
 fn read_statement(alloc: Global, ts: &[Terminal]) -> Result<(Stmt, &[Terminal]), ReadEnd<'_>>
     ghost names: { List Text }
     ensures { Gives (λ x. (statement_tree names x.0, x.1.now)) result (statement_at names ts.now) }
@@ -119,7 +119,7 @@ fn read_statements(alloc: Global, ts: &[Terminal]) -> Result<(Vec<Stmt>, &[Termi
 }
 
 /// `"{" {stmt} "}"`
-#[tactic(auto, unfolding(crate::specs::Reading::body_at))]
+#[tactic(auto, unfolding(crate::specs::inside::Reading::body_at))]
 pub fn read_body(alloc: Global, ts: &[Terminal]) -> Result<(Vec<Stmt>, &[Terminal]), ReadEnd<'_>>
     ghost names: { List Text }
     ensures { Gives (λ x. (map (statement_tree names) x.0.items, x.1.now)) result (body_at names ts.now) }

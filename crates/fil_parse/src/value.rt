@@ -5,14 +5,14 @@ ghost use Rattle.hw_grammar.specs.declared.sort.Sort.TheVariants as Sort;
 ghost use Rattle.hw_grammar.specs.Sort.{has};
 ghost use Rattle.hw_grammar.specs.Reading.{Gives, with_front, many, any_number, separated, either, empty, listed, list_tail};
 ghost use Rattle.fil_ast.specs.Tree.{time_tree, value_tree, giving};
-ghost use Rattle.fil_parse.specs.Reading.{time_at, more_time_at, times_at, value_at, values_at, call_at, more_number_at, params_at};
+ghost use Rattle.fil_parse.specs.inside.Reading.{time_at, more_time_at, times_at, value_at, values_at, call_at, more_number_at, params_at};
 
 use fil_ast::{Time, Value};
 use hw_grammar::{ReadEnd, Sort, Terminal, read_name, read_number, read_one, starts, starts_any};
 use std::alloc::Global;
 
 /// `NAME ["+" NUMBER]`
-#[tactic(auto, unfolding(crate::specs::Reading::time_at))]
+#[tactic(auto, unfolding(crate::specs::inside::Reading::time_at))]
 pub fn read_time(ts: &[Terminal]) -> Result<(Time, &[Terminal]), ReadEnd<'_>>
     ghost names: { List Text }
     ensures { Gives (λ x. (time_tree names x.0, x.1.now)) result (time_at names ts.now) }
@@ -28,7 +28,7 @@ pub fn read_time(ts: &[Terminal]) -> Result<(Time, &[Terminal]), ReadEnd<'_>>
 }
 
 /// `"," NAME ["+" NUMBER]`
-#[tactic(auto, unfolding(crate::specs::Reading::more_time_at))]
+#[tactic(auto, unfolding(crate::specs::inside::Reading::more_time_at))]
 fn read_more_time(ts: &[Terminal]) -> Result<(Time, &[Terminal]), ReadEnd<'_>>
     ghost names: { List Text }
     ensures { Gives (λ x. (time_tree names x.0, x.1.now)) result (more_time_at names ts.now) }
@@ -66,7 +66,7 @@ fn more_times<'a>(
 }
 
 /// `time {"," time}`
-#[tactic(auto, unfolding(crate::specs::Reading::more_time_at))]
+#[tactic(auto, unfolding(crate::specs::inside::Reading::more_time_at))]
 fn separated_times(alloc: Global, ts: &[Terminal]) -> Result<(Vec<Time>, &[Terminal]), ReadEnd<'_>>
     ghost names: { List Text }
     ensures { Gives (λ x. (map (time_tree names) x.0.items, x.1.now)) result (separated Sort.Comma (time_at names) ts.now) }
@@ -78,7 +78,7 @@ fn separated_times(alloc: Global, ts: &[Terminal]) -> Result<(Vec<Time>, &[Termi
 }
 
 /// `"<" time {"," time} ">"`
-#[tactic(auto, unfolding(crate::specs::Reading::times_at))]
+#[tactic(auto, unfolding(crate::specs::inside::Reading::times_at))]
 fn read_times(alloc: Global, ts: &[Terminal]) -> Result<(Vec<Time>, &[Terminal]), ReadEnd<'_>>
     ghost names: { List Text }
     ensures { Gives (λ x. (map (time_tree names) x.0.items, x.1.now)) result (times_at names ts.now) }
@@ -90,7 +90,7 @@ fn read_times(alloc: Global, ts: &[Terminal]) -> Result<(Vec<Time>, &[Terminal])
 }
 
 /// `NAME | NAME "." NAME`, or a literal.
-#[tactic(auto, unfolding(crate::specs::Reading::value_at))]
+#[tactic(auto, unfolding(crate::specs::inside::Reading::value_at))]
 pub fn read_value(ts: &[Terminal]) -> Result<(Value, &[Terminal]), ReadEnd<'_>>
     ghost names: { List Text }
     ensures { Gives (λ x. (value_tree names x.0, x.1.now)) result (value_at names ts.now) }
@@ -171,7 +171,7 @@ fn listed_values(alloc: Global, ts: &[Terminal]) -> Result<(Vec<Value>, &[Termin
 }
 
 /// `"(" [value {"," value} [","]] ")"`
-#[tactic(auto, unfolding(crate::specs::Reading::values_at))]
+#[tactic(auto, unfolding(crate::specs::inside::Reading::values_at))]
 fn read_values(alloc: Global, ts: &[Terminal]) -> Result<(Vec<Value>, &[Terminal]), ReadEnd<'_>>
     ghost names: { List Text }
     ensures { Gives (λ x. (map (value_tree names) x.0.items, x.1.now)) result (values_at names ts.now) }
@@ -183,7 +183,7 @@ fn read_values(alloc: Global, ts: &[Terminal]) -> Result<(Vec<Value>, &[Terminal
 }
 
 /// Times and arguments of an invocation.
-#[tactic(auto, unfolding(crate::specs::Reading::call_at))]
+#[tactic(auto, unfolding(crate::specs::inside::Reading::call_at))]
 pub fn read_call(
     alloc: Global,
     ts: &[Terminal],
@@ -197,7 +197,7 @@ pub fn read_call(
 }
 
 /// `"," NUMBER`
-#[tactic(auto, unfolding(crate::specs::Reading::more_number_at))]
+#[tactic(auto, unfolding(crate::specs::inside::Reading::more_number_at))]
 fn read_more_number(ts: &[Terminal]) -> Result<(u128, &[Terminal]), ReadEnd<'_>>
     ensures { Gives (λ x. (x.0, x.1.now)) result (more_number_at ts.now) }
 {
@@ -233,7 +233,7 @@ fn more_numbers<'a>(
 }
 
 /// `"[" NUMBER {"," NUMBER} "]"`
-#[tactic(auto, unfolding(crate::specs::Reading::params_at, crate::specs::Reading::more_number_at))]
+#[tactic(auto, unfolding(crate::specs::inside::Reading::params_at, crate::specs::inside::Reading::more_number_at))]
 fn read_params(alloc: Global, ts: &[Terminal]) -> Result<(Vec<u128>, &[Terminal]), ReadEnd<'_>>
     ensures { Gives (λ x. (x.0.items, x.1.now)) result (params_at ts.now) }
 {

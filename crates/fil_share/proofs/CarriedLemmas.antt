@@ -59,7 +59,7 @@ starts_are c (tx ∷ txs) all =
 
 -- ---- legal transactions
 
-apart_two : (c : Component) (a b : Tx) → IsOfEvent c a → Follows c (start_on c a) (start_on c b) → timed.AreApart (transaction_on c a) (transaction_on c b)
+apart_two : (c : Component) (a b : Tx) → IsOfEvent c a → Follows c (start_on c a) (start_on c b) → timed.NeverOverlap (transaction_on c a) (transaction_on c b)
 apart_two c a b within follows same =
     let e = get_or c.events a.event no_event in
     let at = event_at c a within in
@@ -67,13 +67,13 @@ apart_two c a b within follows same =
     let held = delay_is c a.event e at in
     inl (omega (arith, rows, held))
 
-apart_pairs : (c : Component) (txs : List Tx) → All (IsOfEvent c) txs → AllPairs (Follows c) (map (start_on c) txs) → AllPairs timed.AreApart (map (transaction_on c) txs)
+apart_pairs : (c : Component) (txs : List Tx) → All (IsOfEvent c) txs → AllPairs (Follows c) (map (start_on c) txs) → AllPairs timed.NeverOverlap (map (transaction_on c) txs)
 apart_pairs c [] all pairs = λ i j d less within. absurd (omega arith)
 apart_pairs c (tx ∷ txs) all pairs =
     let here = transaction_on c tx in
     let follow = All-unmap (Follows c (start_on c tx)) (start_on c) txs (AllPairs-head (Follows c) (start_on c tx) (map (start_on c) txs) pairs) in
-    AllPairs-cons timed.AreApart here (map (transaction_on c) txs)
-    (All-map (timed.AreApart here) (transaction_on c) txs
+    AllPairs-cons timed.NeverOverlap here (map (transaction_on c) txs)
+    (All-map (timed.NeverOverlap here) (transaction_on c) txs
     (λ k d within. apart_two c tx (get_or txs k d) (All-head (IsOfEvent c) tx txs all) (follow k d within)))
     (apart_pairs c txs (All-tail (IsOfEvent c) tx txs all) (AllPairs-tail (Follows c) (start_on c tx) (map (start_on c) txs) pairs))
 

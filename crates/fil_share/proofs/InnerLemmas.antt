@@ -9,7 +9,7 @@ use Rattle.std.proofs.lemmas.List.Elements.{All-cons, All-contains, All-nil, All
 use Rattle.std.proofs.lemmas.Option.{same_Some, slice_get-get_or, slice_get-map, slice_get_within, get_or_from_slice_get}
 use Rattle.std.proofs.lemmas.Slice.Eq.{bytes_eq-Decides}
 use Rattle.hw_names.specs.Name.{Text, AreDistinct}
-use Rattle.fil_ast.specs.Holds.{Start, Hold, Follows, AreApart, holds_of}
+use Rattle.fil_ast.specs.Holds.{Start, Hold, Follows, NeverMeet, holds_of}
 use Rattle.fil_ast.specs.Items.{TheSignature}
 use Rattle.fil_ast.specs.Naming.{event_names}
 use Rattle.fil_ast.specs.Primitives.{is_filament_primitive, primitive_signature}
@@ -103,7 +103,7 @@ module _ (d : Component) (sound : IsSound d) where
   IsAsLong inst h = h.inst ≡ inst → (e : Event) → slice_get d.events h.event ≡ Some e → h.to ≡ h.from + e.delay
 
 module _ (d : Component) (sound : IsSound d) (inst : Text) where
-  spaced_by : (h k : Hold) → AreApart h k → IsAsLong d sound inst h → IsAsLong d sound inst k → (s t : Start) → IsStartBy d sound inst h s → IsStartBy d sound inst k t → AreSpaced d s t
+  spaced_by : (h k : Hold) → NeverMeet h k → IsAsLong d sound inst h → IsAsLong d sound inst k → (s t : Start) → IsStartBy d sound inst h s → IsStartBy d sound inst k t → AreSpaced d s t
   spaced_by h k apart long_h long_k s t by_h by_k = elim (same_or_not h.event k.event) [
     | inl same ↦
         (let length_h : h.to ≡ h.from + by_h.event.delay = long_h by_h.of by_h.event by_h.at in
@@ -119,7 +119,7 @@ module _ (d : Component) (sound : IsSound d) (inst : Text) where
         absurd (elim other [ inl less ↦ omega arith | inr more ↦ omega arith ])))
   ]
 
-  pub spaced_starts : (holds : List Hold) → AllPairs AreApart holds → All (IsAsLong d sound inst) holds → IsSpaced d (inner_starts d inst holds)
+  pub spaced_starts : (holds : List Hold) → AllPairs NeverMeet holds → All (IsAsLong d sound inst) holds → IsSpaced d (inner_starts d inst holds)
   spaced_starts holds apart long =
       AllPairs-flat (AreSpaced d) (starts_by d inst) holds (λ k g within. (starts_are d sound inst (get_or holds k g)).1)
       (λ i j g less within k f below l e below'.

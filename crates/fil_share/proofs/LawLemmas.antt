@@ -5,16 +5,16 @@ use Rattle.std.proofs.lemmas.Bool.{cases_lt}
 use native.Mathlib.Numerals.{unary_clauses}
 use Rattle.std.proofs.lemmas.List.{get_or_default, get_or-map, get_or_append_left, get_or-append-add, length-map, length-append}
 use Rattle.std.proofs.lemmas.List.Elements.{All-nil, All-cons, All-map, All-weaker}
-use Rattle.fil_share.specs.Sharing.{IsHeld, AreApart, KeepsApart, EndsInTime, KeepsRules}
-use Rattle.fil_share.specs.Laws.{IsLegal, IsShort, use_from, uses_from, RulesAreExact}
+use Rattle.fil_share.specs.Sharing.{IsHeld, AreApart, KeepsApart, EndsInTime, CanShare}
+use Rattle.fil_share.specs.Laws.{KeepDelay, IsShort, use_from, uses_from, RulesAreExact}
 use Rattle.fil_share.specs.declared.hold.Hold.{Hold}
 use Rattle.fil_share.proofs.ListLemmas.{AllPairs-append, AllPairs-map, All-flat_map}
 
-legal_tail : (delay start : ℕ) (starts : List ℕ) → IsLegal delay (start ∷ starts) → IsLegal delay starts
+legal_tail : (delay start : ℕ) (starts : List ℕ) → KeepDelay delay (start ∷ starts) → KeepDelay delay starts
 legal_tail delay start starts legal k d within = let h = legal (suc k) d (omega arith) in simp unary_clauses (simp unary_clauses at h)
 
 -- each later transaction starts the delay or more after the first
-later_starts : (delay start : ℕ) (starts : List ℕ) → IsLegal delay (start ∷ starts) → All (λ next. start + delay ≤ next) starts
+later_starts : (delay start : ℕ) (starts : List ℕ) → KeepDelay delay (start ∷ starts) → All (λ next. start + delay ≤ next) starts
 later_starts delay start [] legal = All-nil (λ next. start + delay ≤ next)
 later_starts delay start (next ∷ starts) legal =
     let P = λ (row : ℕ). start + delay ≤ row in
@@ -39,7 +39,7 @@ near : (delay : ℕ) (uses : List Hold) → EndsInTime delay uses → All (IsSho
 near delay uses ends short i j d e i_in j_in =
     subst (λ (h : Hold). (get_or uses i d).to ≤ h.from + delay) (get_or_default uses j d e j_in) (near_at delay uses ends short i j d i_in j_in)
 
-module _ (delay : ℕ) (uses : List Hold) (kept : KeepsRules delay uses) (short : All (IsShort delay) uses) where
+module _ (delay : ℕ) (uses : List Hold) (kept : CanShare delay uses) (short : All (IsShort delay) uses) where
   -- uses by one transaction
   apart_once : (start : ℕ) → KeepsApart (map (use_from start) uses)
   apart_once start =
@@ -52,7 +52,7 @@ module _ (delay : ℕ) (uses : List Hold) (kept : KeepsRules delay uses) (short 
       All-map (AreApart (use_from start (get_or uses i d))) (use_from next) uses
       (λ j e j_in. let h = near delay uses kept.1 short i j d e i_in j_in in inl (omega arith))
 
-  pub sharing_keeps_apart : (starts : List ℕ) → IsLegal delay starts → KeepsApart (uses_from uses starts)
+  pub sharing_keeps_apart : (starts : List ℕ) → KeepDelay delay starts → KeepsApart (uses_from uses starts)
   sharing_keeps_apart [] legal = λ i j d less within. absurd (omega arith)
   sharing_keeps_apart (start ∷ starts) legal =
       AllPairs-append AreApart (map (use_from start) uses) (uses_from uses starts) (apart_once start) (sharing_keeps_apart starts (legal_tail delay start starts legal))
@@ -62,10 +62,10 @@ module _ (delay : ℕ) (uses : List Hold) (kept : KeepsRules delay uses) (short 
       All-flat_map (AreApart first) (λ next. map (use_from next) uses) starts
       (All-weaker (λ next. start + delay ≤ next) (λ next. All (AreApart first) (map (use_from next) uses)) (λ next later. apart_later start next later i d i_in) starts (later_starts delay start starts legal))))
 
-legal_one : (delay : ℕ) → IsLegal delay (0 ∷ [])
+legal_one : (delay : ℕ) → KeepDelay delay (0 ∷ [])
 legal_one delay k d within = absurd (omega arith)
 
-pub legal_two : (delay gap : ℕ) → delay ≤ gap → IsLegal delay (0 ∷ gap ∷ [])
+pub legal_two : (delay gap : ℕ) → delay ≤ gap → KeepDelay delay (0 ∷ gap ∷ [])
 legal_two delay gap later zero d within = omega arith
 legal_two delay gap later (suc k) d within = absurd (omega arith)
 
@@ -74,7 +74,7 @@ placed_first : (start : ℕ) (uses rest : List Hold) (k : ℕ) (d : Hold) → k 
 placed_first start uses rest k d within =
     get_or_append_left (map (use_from start) uses) rest d k (omega (arith, length-map uses (use_from start))) ∙ get_or-map (use_from start) uses k d d within
 
-module _ (delay : ℕ) (uses : List Hold) (held : All IsHeld uses) (apart : (starts : List ℕ) → IsLegal delay starts → KeepsApart (uses_from uses starts)) where
+module _ (delay : ℕ) (uses : List Hold) (held : All IsHeld uses) (apart : (starts : List ℕ) → KeepDelay delay starts → KeepsApart (uses_from uses starts)) where
   apart_in_one : KeepsApart uses
   apart_in_one i j d less within =
       let block = map (use_from 0) uses in
@@ -112,7 +112,7 @@ module _ (delay : ℕ) (uses : List Hold) (held : All IsHeld uses) (apart : (sta
             ])
       ]
 
-  pub rules_are_needed : KeepsRules delay uses
+  pub rules_are_needed : CanShare delay uses
   rules_are_needed =
       (apart_in_one, λ i j d less within. let i_in : i < length uses = omega arith in (within_delay j i d within i_in, within_delay i j d i_in within))
 

@@ -13,12 +13,12 @@ use Rattle.std.proofs.lemmas.Option.{same_Some, slice_get-get_or}
 use Rattle.std.proofs.lemmas.Slice.Eq.{bytes_eq-Decides}
 use Rattle.std.proofs.Math.Seq.{take-length}
 use Rattle.hw_names.specs.Name.{Text}
-use Rattle.fil_ast.specs.Holds.{Start, Hold, Follows, AreApart, listed, use_of, uses_from, uses_by, uses_of, hold_from, holds_by, holds_from}
+use Rattle.fil_ast.specs.Holds.{Start, Hold, Follows, NeverMeet, uses_listed, use_of, uses_from, uses_by, uses_of, hold_from, holds_by, holds_from}
 use Rattle.fil_ast.specs.Items.{scope_after, scope_with}
 use Rattle.fil_ast.specs.Naming.{MakesNewNames, NamesEvent, UsesKnownNames, instance_names}
 use Rattle.fil_ast.specs.Rules.{F1, FilRules, OfInvocation}
 use Rattle.fil_ast.specs.Scope.{Scope, Instance, Invocation, instances_at, invocations_at, instance_named, instance_signature, signature_in}
-use Rattle.fil_ast.specs.Sharing.{IsUseOf, IsEarlierUse, AreDisjoint, IsWithin, KeepsApart, EndsInTime}
+use Rattle.fil_ast.specs.Sharing.{IsUseOf, IsEarlierUse, AreDisjoint, IsWithin, KeepsUsesApart, EndsInTime}
 use Rattle.fil_ast.specs.Signature.{SigEvent, Signature}
 use Rattle.fil_ast.specs.Timeline.{Use, IsUse, KeepsDelays, hold_of}
 use Rattle.fil_ast.specs.Tree.{TimeAt, Event, Giving, Component, Design, Statement, New, Call, Both, Connect}
@@ -105,7 +105,7 @@ module _ (sig : Signature) (inst : Text) (times : List TimeAt) where
       later j = let shift : k + suc j ≡ suc k + j = omega arith in same (suc j) ∙ ap (slice_get sig.events) shift
 
       by : (o : Option Use) → use_of k e inst times ≡ o → All (IsFrom (suc k)) (uses_from (suc k) es inst times) × AllPairs (λ (u w : Use). u.event < w.event) (uses_from (suc k) es inst times)
-          → All (IsFrom k) (listed o ++ uses_from (suc k) es inst times) × AllPairs (λ (u w : Use). u.event < w.event) (listed o ++ uses_from (suc k) es inst times)
+          → All (IsFrom k) (uses_listed o ++ uses_from (suc k) es inst times) × AllPairs (λ (u w : Use). u.event < w.event) (uses_listed o ++ uses_from (suc k) es inst times)
       by None is known =
           (All-weaker (IsFrom (suc k)) (IsFrom k) (λ u f. (f.0, let over = f.1 in omega arith)) (uses_from (suc k) es inst times) known.0, known.1)
       by (Some u) is known =
@@ -159,7 +159,7 @@ pub record KeepsNames (earlier : Design) (c : Component) : Type 0 where
 -- F10 to F12 there
 pub record KeepsShared (earlier : Design) (c : Component) : Type 0 where
   pub delays : (k : ℕ) (s : Statement) → slice_get c.body k ≡ Some s → OfInvocation (KeepsDelays (scope_after earlier c (take k c.body))) (scope_after earlier c (take k c.body)) s
-  pub apart : (k : ℕ) (s : Statement) → slice_get c.body k ≡ Some s → All (KeepsApart (scope_with earlier c (take k c.body) s)) (invocations_at s)
+  pub apart : (k : ℕ) (s : Statement) → slice_get c.body k ≡ Some s → All (KeepsUsesApart (scope_with earlier c (take k c.body) s)) (invocations_at s)
   pub in_time : (k : ℕ) (s : Statement) → slice_get c.body k ≡ Some s → All (EndsInTime (scope_with earlier c (take k c.body) s)) (invocations_at s)
 
 module _ (earlier : Design) (c : Component) (named : KeepsNames earlier c) where
@@ -350,14 +350,14 @@ module _ (earlier : Design) (c : Component) (named : KeepsNames earlier c) where
         All-weaker (IsHoldBy whole m s v) (IsHoldOf m s) (λ h by. (v, (k, within, get_or_default whole.invocations k v d within), by)) (holds_by whole m s v) (holds_of_call m s v))
 
     -- holds by one transaction
-    call_apart : (m : ℕ) (s : Start) (v : Invocation) → AllPairs AreApart (holds_by whole m s v)
+    call_apart : (m : ℕ) (s : Start) (v : Invocation) → AllPairs NeverMeet (holds_by whole m s v)
     call_apart m s v =
         let test = λ (u : Use). bytes_eq u.at.event s.event in
         let risen = AllPairs-filter (λ (u w : Use). u.event < w.event) test (uses_of whole v) (uses_of_call v).1 in
-        AllPairs-mapped AreApart (hold_from m s.row v.name) (filter test (uses_of whole v))
+        AllPairs-mapped NeverMeet (hold_from m s.row v.name) (filter test (uses_of whole v))
         (λ i j d less within same_instance same_event. let rise = risen i j d less within in absurd (omega arith))
 
-    same_apart : (m : ℕ) (s : Start) (v w : Invocation) → ShareWell v w → (h k : Hold) → IsHoldBy whole m s v h → IsHoldBy whole m s w k → AreApart h k
+    same_apart : (m : ℕ) (s : Start) (v w : Invocation) → ShareWell v w → (h k : Hold) → IsHoldBy whole m s v h → IsHoldBy whole m s w k → NeverMeet h k
     same_apart m s v w well h k of_h of_k same_instance same_event =
         let u = of_h.use_now in
         let x = of_k.use_now in
@@ -372,15 +372,15 @@ module _ (earlier : Design) (c : Component) (named : KeepsNames earlier c) where
           | inr second ↦ (let under : x.at.plus + x.hold ≤ u.at.plus = second in inr (omega arith))
         ]
 
-    calls_apart : (m : ℕ) (s : Start) → AllPairs (λ v w. All (λ h. All (AreApart h) (holds_by whole m s w)) (holds_by whole m s v)) whole.invocations
+    calls_apart : (m : ℕ) (s : Start) → AllPairs (λ v w. All (λ h. All (NeverMeet h) (holds_by whole m s w)) (holds_by whole m s v)) whole.invocations
     calls_apart m s i j d less within k g below l f below' =
         let v = get_or whole.invocations i d in
         let w = get_or whole.invocations j d in
         same_apart m s v w (share i j d less within) (get_or (holds_by whole m s v) k g) (get_or (holds_by whole m s w) l f) (holds_of_call m s v k g below) (holds_of_call m s w l f below')
 
-    block_apart : (m : ℕ) (s : Start) → AllPairs AreApart (block m s)
+    block_apart : (m : ℕ) (s : Start) → AllPairs NeverMeet (block m s)
     block_apart m s =
-        AllPairs-flat AreApart (holds_by whole m s) whole.invocations (λ k d within. call_apart m s (get_or whole.invocations k d)) (calls_apart m s)
+        AllPairs-flat NeverMeet (holds_by whole m s) whole.invocations (λ k d within. call_apart m s (get_or whole.invocations k d)) (calls_apart m s)
 
     -- a later transaction of the same event
     later_rows : (s t : Start) (u x : Use) (e : Event) → Follows c s t → u.at.event ≡ s.event → x.at.event ≡ t.event → u.at.event ≡ x.at.event → Contains c.events e → e.name ≡ u.at.event
@@ -388,7 +388,7 @@ module _ (earlier : Design) (c : Component) (named : KeepsNames earlier c) where
     later_rows s t u x e follows on_s on_t same has named within =
         let rows = (follows (sym on_s ∙ same ∙ on_t)).1 e has (named ∙ on_s) in omega arith
 
-    apart_later : (m m' : ℕ) (s t : Start) (h k : Hold) → Follows c s t → IsHoldOf m s h → IsHoldOf m' t k → AreApart h k
+    apart_later : (m m' : ℕ) (s t : Start) (h k : Hold) → Follows c s t → IsHoldOf m s h → IsHoldOf m' t k → NeverMeet h k
     apart_later m m' s t h k follows (v, has_v, of_h) (w, has_w, of_k) same_instance same_event =
         let u = of_h.use_now in
         let x = of_k.use_now in
@@ -417,23 +417,23 @@ module _ (earlier : Design) (c : Component) (named : KeepsNames earlier c) where
           ]
         ]
 
-    apart_spaced : (m m' : ℕ) (s t : Start) (h k : Hold) → AreSpaced c s t → IsHoldOf m s h → IsHoldOf m' t k → AreApart h k
+    apart_spaced : (m m' : ℕ) (s t : Start) (h k : Hold) → AreSpaced c s t → IsHoldOf m s h → IsHoldOf m' t k → NeverMeet h k
     apart_spaced m m' s t h k (inl follows) of_h of_k = apart_later m m' s t h k follows of_h of_k
     apart_spaced m m' s t h k (inr follows) of_h of_k = λ same_instance same_event.
         elim (apart_later m' m t s k h follows of_k of_h (sym same_instance) (sym same_event)) [ inl first ↦ inr first | inr second ↦ inl second ]
 
-    apart_after : (m m' : ℕ) (s : Start) (h : Hold) → IsHoldOf m s h → (starts : List Start) → All (AreSpaced c s) starts → All (AreApart h) (holds_from whole m' starts)
+    apart_after : (m m' : ℕ) (s : Start) (h : Hold) → IsHoldOf m s h → (starts : List Start) → All (AreSpaced c s) starts → All (NeverMeet h) (holds_from whole m' starts)
     apart_after m m' s h of_h [] spaced = All-nil _
     apart_after m m' s h of_h (t ∷ starts) spaced =
-        All-append (AreApart h) (block m' t) (holds_from whole (suc m') starts)
-        (All-weaker (IsHoldOf m' t) (AreApart h) (λ k of_k. apart_spaced m m' s t h k (All-head (AreSpaced c s) t starts spaced) of_h of_k) (block m' t) (block_holds m' t))
+        All-append (NeverMeet h) (block m' t) (holds_from whole (suc m') starts)
+        (All-weaker (IsHoldOf m' t) (NeverMeet h) (λ k of_k. apart_spaced m m' s t h k (All-head (AreSpaced c s) t starts spaced) of_h of_k) (block m' t) (block_holds m' t))
         (apart_after m (suc m') s h of_h starts (All-tail (AreSpaced c s) t starts spaced))
 
-    pub own_apart : (m : ℕ) (starts : List Start) → IsSpaced c starts → AllPairs AreApart (holds_from whole m starts)
+    pub own_apart : (m : ℕ) (starts : List Start) → IsSpaced c starts → AllPairs NeverMeet (holds_from whole m starts)
     own_apart m [] spaced = λ i j d less within. absurd (omega arith)
     own_apart m (s ∷ starts) spaced =
-        AllPairs-append AreApart (block m s) (holds_from whole (suc m) starts) (block_apart m s) (own_apart (suc m) starts (AllPairs-tail (AreSpaced c) s starts spaced))
-        (All-weaker (IsHoldOf m s) (λ h. All (AreApart h) (holds_from whole (suc m) starts)) (λ h of_h. apart_after m (suc m) s h of_h starts (AllPairs-head (AreSpaced c) s starts spaced)) (block m s) (block_holds m s))
+        AllPairs-append NeverMeet (block m s) (holds_from whole (suc m) starts) (block_apart m s) (own_apart (suc m) starts (AllPairs-tail (AreSpaced c) s starts spaced))
+        (All-weaker (IsHoldOf m s) (λ h. All (NeverMeet h) (holds_from whole (suc m) starts)) (λ h of_h. apart_after m (suc m) s h of_h starts (AllPairs-head (AreSpaced c) s starts spaced)) (block m s) (block_holds m s))
 
     -- a hold by one of the transactions
     abbrev pub IsOwnHold : Hold → Type 0

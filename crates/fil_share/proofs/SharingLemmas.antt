@@ -4,7 +4,7 @@ use Rattle.std.specs.Prelude.{Contains, take, ◌↔◌}
 use Rattle.std.proofs.lemmas.Bool.{cases_lt}
 use Rattle.std.proofs.lemmas.List.{take_more}
 use Rattle.std.proofs.lemmas.List.Elements.{All-contains, Contains-get_or}
-use Rattle.fil_share.specs.Sharing.{IsHeld, AreApart, IsWithin, KeepsApart, EndsInTime, KeepsRules, StartsFirst, StartsLast, SpansInTime}
+use Rattle.fil_share.specs.Sharing.{IsHeld, AreApart, IsWithin, KeepsApart, EndsInTime, CanShare, StartsFirst, StartsLast, SpansInTime}
 use Rattle.fil_share.specs.declared.hold.Hold.{Hold}
 use Rattle.fil_share.proofs.ListLemmas.{two_of, leader, leads_now, leads_still, AllPairs-take}
 
@@ -110,5 +110,5 @@ last_more xs i use_now last now within known choice =
       | inr old ↦ subst (StartsLast ((take i xs ++ hold ∷ []) ++ use_now ∷ [])) (sym old.0) (leads_still StartsAfter (take i xs) (use_now ∷ []) hold last known old.1)
     ])
 
-pub KeepsRules-take : (delay n : ℕ) (uses : List Hold) → KeepsRules delay uses → KeepsRules delay (take n uses)
-KeepsRules-take delay n uses kept = (AllPairs-take AreApart n uses kept.0, AllPairs-take (λ a b. IsWithin delay a b × IsWithin delay b a) n uses kept.1)
+pub CanShare-take : (delay n : ℕ) (uses : List Hold) → CanShare delay uses → CanShare delay (take n uses)
+CanShare-take delay n uses kept = (AllPairs-take AreApart n uses kept.0, AllPairs-take (λ a b. IsWithin delay a b × IsWithin delay b a) n uses kept.1)

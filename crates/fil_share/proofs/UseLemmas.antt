@@ -6,7 +6,7 @@ use Rattle.std.proofs.lemmas.List.{map-append}
 use Rattle.std.proofs.lemmas.Option.{slice_get-map}
 use Rattle.hw_names.specs.Name.{Text, text_of}
 use Rattle.hw_names.specs.declared.names.NameId.{NameId}
-use Rattle.fil_ast.specs.Holds.{listed, use_of, uses_from}
+use Rattle.fil_ast.specs.Holds.{uses_listed, use_of, uses_from}
 use Rattle.fil_ast.specs.Signature.{SigEvent}
 use Rattle.fil_ast.specs.Timeline as tree
 use Rattle.fil_ast.specs.Timeline.{hold_of}
@@ -45,10 +45,10 @@ module _ (names : List Text) (at : List Time) where
 
 -- one more event
 module _ (names : List Text) (call inst : Text) (times : List TimeAt) (events : List SigEvent) (i : ℕ) (e : SigEvent) (within : i < length events) (is : get_or events i e ≡ e) where
-  cut : uses_from i (drop i events) inst times ≡ listed (use_of i e inst times) ++ uses_from (i + 1) (drop (i + 1) events) inst times
+  cut : uses_from i (drop i events) inst times ≡ uses_listed (use_of i e inst times) ++ uses_from (i + 1) (drop (i + 1) events) inst times
   cut =
       ap (λ es. uses_from i es inst times) (from_place events i e within ∙ ap (λ x. x ∷ drop (i + 1) events) is)
-      ∙ ap (λ k. listed (use_of i e inst times) ++ uses_from k (drop (i + 1) events) inst times) (sym (add-one i))
+      ∙ ap (λ k. uses_listed (use_of i e inst times) ++ uses_from k (drop (i + 1) events) inst times) (sym (add-one i))
 
   -- the uses so far, and those that are left, are all
   abbrev AreAll : List Use → ℕ → List Held → Type 0
@@ -64,7 +64,7 @@ module _ (names : List Text) (call inst : Text) (times : List TimeAt) (events : 
           ap (λ hs. hs ++ map (held call) (uses_from (i + 1) (drop (i + 1) events) inst times)) (map-append (shown_use names) uses (u ∷ []))
           ∙ append_assoc (map (shown_use names) uses) (shown_use names u ∷ []) (map (held call) (uses_from (i + 1) (drop (i + 1) events) inst times))
           ∙ ap (λ h. map (shown_use names) uses ++ h ∷ map (held call) (uses_from (i + 1) (drop (i + 1) events) inst times)) same
-          ∙ ap (λ us. map (shown_use names) uses ++ map (held call) us) (sym (cut ∙ ap (λ o. listed o ++ uses_from (i + 1) (drop (i + 1) events) inst times) there))
+          ∙ ap (λ us. map (shown_use names) uses ++ map (held call) us) (sym (cut ∙ ap (λ o. uses_listed o ++ uses_from (i + 1) (drop (i + 1) events) inst times) there))
           ∙ so_far
 
   pub use_skipped : (uses : List Use) (all : List Held) → ◌≡◌ {A = Option Held} None (option_map (held call) (use_of i e inst times)) → AreAll uses i all → AreAll uses (i + 1) all
@@ -72,5 +72,5 @@ module _ (names : List Text) (call inst : Text) (times : List TimeAt) (events : 
     where
       by : (o : Option tree.Use) → use_of i e inst times ≡ o → ◌≡◌ {A = Option Held} None (option_map (held call) o) → AreAll uses (i + 1) all
       by None there e' =
-          ap (λ us. map (shown_use names) uses ++ map (held call) us) (sym (cut ∙ ap (λ o. listed o ++ uses_from (i + 1) (drop (i + 1) events) inst times) there)) ∙ so_far
+          ap (λ us. map (shown_use names) uses ++ map (held call) us) (sym (cut ∙ ap (λ o. uses_listed o ++ uses_from (i + 1) (drop (i + 1) events) inst times) there)) ∙ so_far
       by (Some x) there e' = absurd (cc)

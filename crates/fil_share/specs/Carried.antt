@@ -4,7 +4,7 @@ use Rattle.hw_bits.specs.Values.{values_of}
 use Rattle.hw_prims.specs.Timed as timed
 use Rattle.fil_ast.specs.Behaviours.{HasOwnValues, component_behaviour, transaction_on}
 use Rattle.fil_ast.specs.Flow.{Named}
-use Rattle.fil_ast.specs.Holds.{IsLegal}
+use Rattle.fil_ast.specs.Holds.{AreLegalStarts}
 use Rattle.fil_ast.specs.Rules.{FilRules}
 use Rattle.fil_ast.specs.Transactions.{is_of_event, transaction_flow}
 use Rattle.fil_ast.specs.Tree.{Event, DataPort, Component, Design}
@@ -18,8 +18,8 @@ IsOfEvent c tx = tx.event < length c.events
 -- transactions whose starts are legal are legal at the ports
 abbrev pub TransactionsAreLegal : Type 0
 TransactionsAreLegal =
-    (earlier : Design) (c : Component) (txs : List Tx) → All (IsOfEvent c) txs → IsLegal c (starts_of c txs) →
-    timed.IsLegal (component_behaviour earlier c).sig (map (transaction_on c) txs)
+    (earlier : Design) (c : Component) (txs : List Tx) → All (IsOfEvent c) txs → AreLegalStarts c (starts_of c txs) →
+    timed.AreLegalTransactions (component_behaviour earlier c).sig (map (transaction_on c) txs)
 
 -- a transaction has no values for inputs of other events
 abbrev pub TransactionsHaveOwnValues : Type 0

@@ -1,7 +1,7 @@
 -- Starts that are far enough apart, in whatever order they are listed, and those that an instance gets. Filament, PLDI 2023.
 use Rattle.std.specs.Prelude.{◌≡◌, ◌⊎◌, ℕ, List, [], flat_map, take, slice_get, if◌then◌else◌, bytes_eq, Option, Some, option_map, AllPairs}
 use Rattle.hw_names.specs.Name.{Text}
-use Rattle.fil_ast.specs.Holds.{Start, Hold, Follows, AreApart, holds_of}
+use Rattle.fil_ast.specs.Holds.{Start, Hold, Follows, NeverMeet, holds_of}
 use Rattle.fil_ast.specs.Rules.{FilRules}
 use Rattle.fil_ast.specs.Scope.{Instance, component_named, instance_named}
 use Rattle.fil_ast.specs.Tree.{Event, Component, Design}
@@ -30,7 +30,7 @@ inner_starts d inst holds = flat_map (starts_by d inst) holds
 abbrev pub SpacedHoldsAreApart : Type 0
 SpacedHoldsAreApart =
     (comps : Design) (n : ℕ) (c : Component) (starts : List Start) → FilRules comps → slice_get comps n ≡ Some c → IsSpaced c starts →
-    AllPairs AreApart (holds_of (whole_scope (take n comps) c) starts)
+    AllPairs NeverMeet (holds_of (whole_scope (take n comps) c) starts)
 
 -- and give each instance that is made of a component starts that are spaced
 abbrev pub InnerStartsAreSpaced : Type 0

@@ -44,8 +44,8 @@ pub record ShowsInstances (table : Instances) (comps : Design) (instances : List
   pub sigs : map known_signature table.sigs.items ≡ map (signature_of comps) instances
   pub small : All IsSmall table.sigs.items
 
-abbrev pub Shows : Instances → Scope → Type 0
-Shows table scope = ShowsInstances table scope.comps scope.instances
+abbrev pub ShowsScope : Instances → Scope → Type 0
+ShowsScope table scope = ShowsInstances table scope.comps scope.instances
 
 -- an instance can be made of these components or of a primitive
 abbrev pub CanBeMade : Design → Instance → Type 0

@@ -1,13 +1,13 @@
 -- What the rules of sharing are for: holds of a unit by legal transactions never meet. Filament, PLDI 2023; the laws are this project's.
 use Rattle.std.specs.Prelude.{◌≡◌, ◌⊎◌, ◌↔◌, ℕ, ◌+◌, ◌<◌, ◌≤◌, List, [], ◌∷◌, map, flat_map, length, All, Contains, Some, slice_get}
 use Rattle.std.specs.List.{AllAdjacentBelow}
-use Rattle.fil_share.specs.Sharing.{IsHeld, IsWithin, KeepsApart, EndsInTime, KeepsRules, SpansInTime, IsFirstMeet}
+use Rattle.fil_share.specs.Sharing.{IsHeld, IsWithin, KeepsApart, EndsInTime, CanShare, SpansInTime, IsFirstMeet}
 use Rattle.fil_share.specs.declared.hold.Hold.{Hold}
 use Rattle.fil_share.specs.declared.hold.Meet.{Meet}
 
 -- transactions of one event, by their starts, are legal where each starts the delay or more after the one before it
-abbrev pub IsLegal : ℕ → List ℕ → Type 0
-IsLegal delay starts = AllAdjacentBelow (λ start next. start + delay ≤ next) starts (length starts)
+abbrev pub KeepDelay : ℕ → List ℕ → Type 0
+KeepDelay delay starts = AllAdjacentBelow (λ start next. start + delay ≤ next) starts (length starts)
 
 -- a use as the transaction that starts at this row makes it
 abbrev pub use_from : ℕ → Hold → Hold
@@ -31,7 +31,7 @@ FormsAgree = (delay : ℕ) (uses : List Hold) → All IsHeld uses → KeepsApart
 
 abbrev pub SharingKeepsApart : Type 0
 SharingKeepsApart =
-    (delay : ℕ) (uses : List Hold) → KeepsRules delay uses → All (IsShort delay) uses → (starts : List ℕ) → IsLegal delay starts →
+    (delay : ℕ) (uses : List Hold) → CanShare delay uses → All (IsShort delay) uses → (starts : List ℕ) → KeepDelay delay starts →
     KeepsApart (uses_from uses starts)
 
 -- one transaction holds the unit by two uses in the row
@@ -49,7 +49,7 @@ pub record MeetsItself (uses : List Hold) (row : ℕ) : Type 0 where
 -- legal transactions that start at row 0 and so many rows later both hold the unit in the row
 pub record MeetsNext (delay : ℕ) (uses : List Hold) (gap row : ℕ) : Type 0 where
   pub later : 0 < gap
-  pub legal : IsLegal delay (0 ∷ gap ∷ [])
+  pub legal : KeepDelay delay (0 ∷ gap ∷ [])
   pub one : Hold
   pub other : Hold
   pub has_one : Contains uses one
@@ -66,4 +66,4 @@ MeetIsReal =
 abbrev pub RulesAreExact : Type 0
 RulesAreExact =
     (delay : ℕ) (uses : List Hold) → All IsHeld uses → All (IsShort delay) uses →
-    KeepsRules delay uses ↔ ((starts : List ℕ) → IsLegal delay starts → KeepsApart (uses_from uses starts))
+    CanShare delay uses ↔ ((starts : List ℕ) → KeepDelay delay starts → KeepsApart (uses_from uses starts))

@@ -8,8 +8,8 @@ use Rattle.fil_share.specs.declared.hold.Meet.{Meet}
 abbrev pub IsHeld : Hold → Type 0
 IsHeld hold = hold.from < hold.to
 
-abbrev pub EndsBy : ℕ → Hold → Type 0
-EndsBy row hold = hold.to ≤ row
+abbrev pub EndsWithin : ℕ → Hold → Type 0
+EndsWithin row hold = hold.to ≤ row
 
 -- the first ends before or where the second starts, or the other way round
 abbrev pub AreApart : Hold → Hold → Type 0
@@ -28,8 +28,8 @@ abbrev pub EndsInTime : ℕ → List Hold → Type 0
 EndsInTime delay uses = AllPairs (λ first second. IsWithin delay first second × IsWithin delay second first) uses
 
 -- F11 and F12
-abbrev pub KeepsRules : ℕ → List Hold → Type 0
-KeepsRules delay uses = KeepsApart uses × EndsInTime delay uses
+abbrev pub CanShare : ℕ → List Hold → Type 0
+CanShare delay uses = KeepsApart uses × EndsInTime delay uses
 
 -- it is one of the uses, and none starts before it, or none after it
 abbrev pub StartsFirst : List Hold → Hold → Type 0
@@ -78,5 +78,5 @@ pub record IsFirstMeet (delay : ℕ) (uses : List Hold) (meet : Meet) : Type 0 w
   pub number : ℕ
   pub use_now : Hold
   pub at : slice_get uses number ≡ Some use_now
-  pub kept : KeepsRules delay (take number uses)
+  pub kept : CanShare delay (take number uses)
   pub broken : BreaksRule delay (take number uses) use_now meet

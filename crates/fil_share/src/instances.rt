@@ -9,7 +9,7 @@ ghost use Rattle.fil_ast.specs.Signature.{Signature};
 ghost use Rattle.fil_ast.specs.Tree.{Component, Design, component_tree, design_of, statement_tree};
 ghost use Rattle.fil_ast.specs.Wires.{whole_scope};
 ghost use Rattle.fil_sig.specs.Seen.{seen};
-ghost use Rattle.fil_share.specs.Instances.{CanBeMade, IsNew, IsSmall, MakesInstances, Shows, ShowsInstances};
+ghost use Rattle.fil_share.specs.Instances.{CanBeMade, IsNew, IsSmall, MakesInstances, ShowsScope, ShowsInstances};
 
 use crate::callees::callee;
 use fil_ast::{FilComp, FilOk, Stmt};
@@ -31,7 +31,7 @@ impl Instances {
         requires comp { comp < length ok.now.comps.items }
         requires known { known.now ≡ component_names (take comp (design_of ok.now)) }
         ensures { (c : Component) → slice_get (design_of ok.now) comp ≡ Some c
-            → IfOk result (λ instances. Shows instances (whole_scope (take comp (design_of ok.now)) c)) }
+            → IfOk result (λ instances. ShowsScope instances (whole_scope (take comp (design_of ok.now)) c)) }
     {
         let design = ok.design();
         Instances::of_body(
@@ -56,7 +56,7 @@ impl Instances {
         requires known { known.now ≡ component_names (map (component_tree names.now) earlier.now) }
         requires own_numbers { ComponentHasNumbers names.now comp.now }
         requires makes { MakesInstances (map (component_tree names.now) earlier.now) (component_tree names.now comp.now).body }
-        ensures { IfOk result (λ instances. Shows instances (whole_scope (map (component_tree names.now) earlier.now) (component_tree names.now comp.now))) }
+        ensures { IfOk result (λ instances. ShowsScope instances (whole_scope (map (component_tree names.now) earlier.now) (component_tree names.now comp.now))) }
     {
         let mut instances = Instances {
             names: Names::new(alloc),
@@ -117,22 +117,22 @@ impl Instances {
 
     /// How many instances there are.
     pub fn len(&self) -> usize
-        ensures { (scope : Scope) → Shows self.now scope → result ≡ length scope.instances }
+        ensures { (scope : Scope) → ShowsScope self.now scope → result ≡ length scope.instances }
     {
         self.names.len()
     }
 
     /// The number of the instance of this name, counted from 0 in their order.
     pub fn number(&self, name: &[u8]) -> Option<usize>
-        ensures at { (scope : Scope) → Shows self.now scope → IfSome result (λ number. slice_get (instance_names scope.instances) number ≡ Some name.now) }
-        ensures present { (scope : Scope) → Shows self.now scope → IsSome result ↔ Contains (instance_names scope.instances) name.now }
+        ensures at { (scope : Scope) → ShowsScope self.now scope → IfSome result (λ number. slice_get (instance_names scope.instances) number ≡ Some name.now) }
+        ensures present { (scope : Scope) → ShowsScope self.now scope → IsSome result ↔ Contains (instance_names scope.instances) name.now }
     {
         Some(self.names.find(name)?.0 as usize)
     }
 
     /// The signatures of what the instances are made of, in their order.
     pub fn sigs(&self) -> &[TimeSig]
-        ensures { (scope : Scope) (name : Text) (sig : Signature) → Shows self.now scope → instance_signature scope name ≡ Some sig
+        ensures { (scope : Scope) (name : Text) (sig : Signature) → ShowsScope self.now scope → instance_signature scope name ≡ Some sig
             → Contains (map seen result.now) sig }
     {
         self.sigs.as_slice()
@@ -140,8 +140,8 @@ impl Instances {
 
     /// The signature of the instance of this name.
     pub fn sig(&self, name: &[u8]) -> Option<&TimeSig>
-        ensures meaning { (scope : Scope) → Shows self.now scope → option_map (λ sig. seen sig.now) result ≡ instance_signature scope name.now }
-        ensures small { (scope : Scope) → Shows self.now scope → IfSome result (λ sig. IsSmall sig.now) }
+        ensures meaning { (scope : Scope) → ShowsScope self.now scope → option_map (λ sig. seen sig.now) result ≡ instance_signature scope name.now }
+        ensures small { (scope : Scope) → ShowsScope self.now scope → IfSome result (λ sig. IsSmall sig.now) }
     {
         let number = self.names.find(name)?;
         self.sigs.get(number.0 as usize)

@@ -1,6 +1,6 @@
 //! Whether the uses of a unit meet, and the evidence where they do.
 ghost use Rattle.std.specs.Prelude.{◌≤◌, ◌↔◌, [], ◌∷◌, ◌++◌, All, IsNone, IfSome};
-ghost use Rattle.fil_share.specs.Sharing.{IsHeld, EndsBy, KeepsRules, BreaksRule, IsFirstMeet};
+ghost use Rattle.fil_share.specs.Sharing.{IsHeld, EndsWithin, CanShare, BreaksRule, IsFirstMeet};
 
 use crate::hold::{Hold, MOST_ROWS, Meet, first_overlap};
 use crate::span::overrun;
@@ -9,10 +9,10 @@ use crate::span::overrun;
 /// event of the same unit by the same transaction, which starts at row 0. It takes no memory.
 fn meets(earlier: &[Hold], use_now: &Hold, delay: u64) -> Option<Meet>
     requires held { All IsHeld (earlier.now ++ use_now.now ∷ []) }
-    requires small { All (EndsBy MOST_ROWS) (earlier.now ++ use_now.now ∷ []) }
+    requires small { All (EndsWithin MOST_ROWS) (earlier.now ++ use_now.now ∷ []) }
     requires delay { delay ≤ MOST_ROWS }
-    requires kept { KeepsRules delay earlier.now }
-    ensures none { IsNone result ↔ KeepsRules delay (earlier.now ++ use_now.now ∷ []) }
+    requires kept { CanShare delay earlier.now }
+    ensures none { IsNone result ↔ CanShare delay (earlier.now ++ use_now.now ∷ []) }
     ensures met { IfSome result (BreaksRule delay earlier.now use_now.now) }
 {
     match first_overlap(earlier, use_now) {
@@ -29,9 +29,9 @@ fn meets(earlier: &[Hold], use_now: &Hold, delay: u64) -> Option<Meet>
 /// are as many as the delay has rows, or fewer.
 pub fn meeting(uses: &[Hold], delay: u64) -> Option<Meet>
     requires held { All IsHeld uses.now }
-    requires small { All (EndsBy MOST_ROWS) uses.now }
+    requires small { All (EndsWithin MOST_ROWS) uses.now }
     requires delay { delay ≤ MOST_ROWS }
-    ensures none { IsNone result ↔ KeepsRules delay uses.now }
+    ensures none { IsNone result ↔ CanShare delay uses.now }
     ensures met { IfSome result (IsFirstMeet delay uses.now) }
 {
     for (number, use_now) in uses.iter().enumerate() {

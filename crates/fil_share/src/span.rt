@@ -1,6 +1,6 @@
 //! The first and the last of several uses, and whether they end in time.
 ghost use Rattle.std.specs.Prelude.{◌≤◌, ◌↔◌, [], ◌∷◌, ◌++◌, All, IsNone, IfSome};
-ghost use Rattle.fil_share.specs.Sharing.{IsHeld, EndsBy, KeepsApart, EndsInTime, StartsFirst, StartsLast, BreaksInTime};
+ghost use Rattle.fil_share.specs.Sharing.{IsHeld, EndsWithin, KeepsApart, EndsInTime, StartsFirst, StartsLast, BreaksInTime};
 
 use crate::hold::{Hold, MOST_ROWS, Meet};
 
@@ -33,7 +33,7 @@ fn last_of(earlier: &[Hold], use_now: &Hold) -> Hold
 /// What breaks F12 at a use that overlaps none of those before it. A use alone breaks nothing, however long it is.
 pub(crate) fn overrun(earlier: &[Hold], use_now: &Hold, delay: u64) -> Option<Meet>
     requires held { All IsHeld (earlier.now ++ use_now.now ∷ []) }
-    requires small { All (EndsBy MOST_ROWS) (earlier.now ++ use_now.now ∷ []) }
+    requires small { All (EndsWithin MOST_ROWS) (earlier.now ++ use_now.now ∷ []) }
     requires delay { delay ≤ MOST_ROWS }
     requires apart { KeepsApart (earlier.now ++ use_now.now ∷ []) }
     ensures none { IsNone result ↔ EndsInTime delay (earlier.now ++ use_now.now ∷ []) }

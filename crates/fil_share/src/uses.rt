@@ -11,7 +11,7 @@ ghost use Rattle.fil_ast.specs.Tree.{TimeAt, ValueTree, component_tree, statemen
 ghost use Rattle.fil_ast.specs.declared.tree.TheConstants.{MOST_OFFSET};
 ghost use Rattle.fil_sig.specs.Seen.{seen_delay, seen_event};
 ghost use Rattle.fil_sig.specs.declared.time_sig.SigEvent.{SigEvent};
-ghost use Rattle.fil_share.specs.Instances.{IsSmallDelay, Shows};
+ghost use Rattle.fil_share.specs.Instances.{IsSmallDelay, ShowsScope};
 ghost use Rattle.fil_share.specs.Uses.{IsGoodUse, held, held_by, shown_use};
 
 use crate::instances::Instances;
@@ -113,8 +113,8 @@ fn push_uses(
     requires inst { IsNumberOf names.now inst }
     requires numbers { All (TimeHasNumber names.now) at.now }
     requires times { All KeepsTimeLimit at.now }
-    requires shown { (scope : Scope) × Shows instances.now scope }
-    ensures meaning { (scope : Scope) (args : List ValueTree) → Shows instances.now scope → OnOk result (map (shown_use names.now) uses.new.items
+    requires shown { (scope : Scope) × ShowsScope instances.now scope }
+    ensures meaning { (scope : Scope) (args : List ValueTree) → ShowsScope instances.now scope → OnOk result (map (shown_use names.now) uses.new.items
         ≡ map (shown_use names.now) uses.old.items
         ++ held_by scope (record { name = text_of names.now call; inst = text_of names.now inst; gives = record { times = map (time_tree names.now) at.now; args = args } })) }
     ensures good { All (IsGoodUse names.now) uses.old.items → All (IsGoodUse names.now) uses.new.items }
@@ -134,8 +134,8 @@ fn push_statement(
 ) -> Result<(), Memory>
     requires numbers { StatementHasNumbers names.now stmt.now }
     requires small { KeepsStatementLimit stmt.now }
-    requires shown { (scope : Scope) × Shows instances.now scope }
-    ensures meaning { (scope : Scope) → Shows instances.now scope → OnOk result (map (shown_use names.now) uses.new.items
+    requires shown { (scope : Scope) × ShowsScope instances.now scope }
+    ensures meaning { (scope : Scope) → ShowsScope instances.now scope → OnOk result (map (shown_use names.now) uses.new.items
         ≡ map (shown_use names.now) uses.old.items ++ flat_map (held_by scope) (invocations_at (statement_tree names.now stmt.now))) }
     ensures good { All (IsGoodUse names.now) uses.old.items → All (IsGoodUse names.now) uses.new.items }
 {
@@ -155,8 +155,8 @@ pub fn component_uses(
 ) -> Result<Vec<Use>, Memory>
     requires numbers { ComponentHasNumbers names.now comp.now }
     requires small { KeepsLimits comp.now }
-    requires shown { (scope : Scope) × Shows instances.now scope }
-    ensures meaning { (scope : Scope) → Shows instances.now scope → IfOk result (λ uses. map (shown_use names.now) uses.items
+    requires shown { (scope : Scope) × ShowsScope instances.now scope }
+    ensures meaning { (scope : Scope) → ShowsScope instances.now scope → IfOk result (λ uses. map (shown_use names.now) uses.items
         ≡ flat_map (held_by scope) (flat_map invocations_at (component_tree names.now comp.now).body)) }
     ensures good { IfOk result (λ uses. All (IsGoodUse names.now) uses.items) }
 {

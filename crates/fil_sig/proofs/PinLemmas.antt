@@ -12,7 +12,7 @@ use Rattle.hw_prims.specs.declared.prim.PrimEnd.{PrimEnd}
 use Rattle.hw_prims.specs.declared.prim.PrimEnd.TheVariants.{UnknownPrim, BadParams}
 use Rattle.hw_prims.specs.declared.prim.Primitive.{Primitive}
 use Rattle.hw_prims.specs.declared.prim.Primitive.TheVariants.{StdConst, StdWire, StdAdd, StdSub, StdAnd, StdOr, StdXor, StdNot, StdEq, StdNeq, StdLt, StdGt, StdLe, StdGe, StdLsh, StdRsh, StdSlice, StdPad, FilMux, FilSlice, FilConcat, StdReg, StdMemD1, StdMemD2, StdMultPipe, FilDelay, FilFastMult, FilSeqMult}
-use Rattle.fil_sig.specs.Kinds.{port_in}
+use Rattle.fil_sig.specs.inside.Kinds.{port_in}
 use Rattle.fil_sig.specs.Seen.{seen_port}
 use Rattle.fil_sig.specs.declared.time_sig.SigPort.{SigPort}
 use Rattle.fil_sig.proofs.ListLemmas.{slice_get-drop}

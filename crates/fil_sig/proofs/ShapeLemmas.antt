@@ -7,7 +7,7 @@ use Rattle.fil_ast.specs.Tree.{Event, Interface, DataPort, component_tree, event
 use Rattle.fil_ast.specs.Typing.{HasShape, HasWidths, IsInterval, IsWidth}
 use Rattle.fil_ast.specs.declared.tree.FilComp.{FilComp}
 use Rattle.fil_ast.specs.declared.tree.FilPort.{FilPort}
-use Rattle.fil_sig.specs.Shape.{event_of, HasPlainShape, HasIntervals}
+use Rattle.fil_sig.specs.inside.Shape.{event_of, HasPlainShape, HasIntervals}
 use Rattle.fil_sig.proofs.ListLemmas.{All-mapped, All-unmap}
 
 abbrev WidePort : DataPort → Type 0

@@ -1,5 +1,4 @@
+pub mod inside
 pub use Rattle.fil_ast.specs.Signature
 pub mod Seen
-pub mod Kinds
-pub mod Shape
 pub mod Refusals

@@ -3,7 +3,7 @@ ghost use Rattle.std.specs.Prelude.{◌≡◌, ℕ, ◌+◌, ◌≤◌, map, fil
 ghost use Rattle.hw_prims.specs.Filament.{is_data_pin};
 ghost use Rattle.fil_ast.specs.Primitives.{event, signature_by, table_name, timing_of};
 ghost use Rattle.hw_prims.specs.Table.{IsMade, pin, pins_of};
-ghost use Rattle.fil_sig.specs.Kinds.{names_listed, port_in, table_name_in, timing_by};
+ghost use Rattle.fil_sig.specs.inside.Kinds.{names_listed, port_in, table_name_in, timing_by};
 ghost use Rattle.fil_sig.specs.Seen.{seen, seen_delay, seen_event, seen_offset, seen_port};
 
 use crate::time_sig::{Delay, Off, SigEvent, SigPort, TimeSig};

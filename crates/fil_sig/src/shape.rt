@@ -4,7 +4,7 @@ ghost use Rattle.hw_names.specs.Name.{Text, AreDistinct};
 ghost use Rattle.fil_ast.specs.Numbers.{InterfaceHasNumbers, PortHasNumbers, ComponentHasNumbers};
 ghost use Rattle.fil_ast.specs.Tree.{component_tree, port_tree, interface_tree};
 ghost use Rattle.fil_ast.specs.Typing.{HasWidths, HasShape, IsInterval, IsWidth};
-ghost use Rattle.fil_sig.specs.Shape.{event_of, HasPlainShape, HasIntervals};
+ghost use Rattle.fil_sig.specs.inside.Shape.{event_of, HasPlainShape, HasIntervals};
 
 use crate::names::add_name;
 use fil_ast::{FilComp, FilPort, GoPort};

@@ -21,7 +21,7 @@ use Rattle.hw_grammar.specs.declared.sort.Sort.TheVariants as sorts
 use Rattle.hw_grammar.specs.declared.terminal.Terminal.{Terminal}
 use Rattle.hw_grammar.specs.Grammar.{AnyWord, AnyNumber, AnyLiteral}
 use Rattle.hw_grammar.specs.Sort.{same_sort}
-use Rattle.hw_grammar.specs.Terminals.{keywords, row_of, sort_of, special_of, width_at, value_at, IsNumbered, IsTerminal, AreTerminals}
+use Rattle.hw_grammar.specs.Terminals.{keywords, entry_of, sort_of, special_of, width_at, value_at, IsNumbered, IsTerminal, AreTerminals}
 use Rattle.hw_grammar.specs.TextPlace.{IsLexed}
 use Rattle.hw_grammar.specs.Words.{IsNameOf, IsWritten}
 use Rattle.hw_grammar.proofs.TerminalLemmas.{mark_no_name}
@@ -36,16 +36,16 @@ pub record IsAlike (dialect : Dialect) (old new : List Text) (t u : Terminal) : 
   pub width : IsWritten t.width × (t.width ≡ u.width)
   pub value : IsWritten t.value × (t.value ≡ u.value)
 
-row_none : (table : List (Text × Sort)) (word : Text) → list_all (λ row. not (same_sort row.1 sorts.Name)) table ≡ true → unwrap_or (row_of table word) sorts.Name ≡ sorts.Name → row_of table word ≡ None
+row_none : (table : List (Text × Sort)) (word : Text) → list_all (λ row. not (same_sort row.1 sorts.Name)) table ≡ true → unwrap_or (entry_of table word) sorts.Name ≡ sorts.Name → entry_of table word ≡ None
 row_none [] word h e = refl
 row_none (row ∷ table) word h e =
     let t = and_true (not (same_sort row.1 sorts.Name)) (list_all (λ row. not (same_sort row.1 sorts.Name)) table) h in
-    by_test (λ v. unwrap_or (cond v (Some row.1) (row_of table word)) sorts.Name ≡ sorts.Name → cond v (Some row.1) (row_of table word) ≡ None) (bytes_eq row.0 word)
+    by_test (λ v. unwrap_or (cond v (Some row.1) (entry_of table word)) sorts.Name ≡ sorts.Name → cond v (Some row.1) (entry_of table word) ≡ None) (bytes_eq row.0 word)
     (λ _ e. let same : same_sort row.1 sorts.Name ≡ true = ap (λ (s : Sort). same_sort s sorts.Name) e in absurd (false≢true (ap not (sym same) ∙ t.0)))
     (λ _ e. row_none table word t.1 e)
     e
 
-no_keyword : (dialect : Dialect) (word : Text) → unwrap_or (row_of (keywords dialect) word) sorts.Name ≡ sorts.Name → row_of (keywords dialect) word ≡ None
+no_keyword : (dialect : Dialect) (word : Text) → unwrap_or (entry_of (keywords dialect) word) sorts.Name ≡ sorts.Name → entry_of (keywords dialect) word ≡ None
 no_keyword Fil word h = row_none (keywords Fil) word refl h
 no_keyword Cal word h = row_none (keywords Cal) word refl h
 

@@ -23,7 +23,7 @@ use Rattle.hw_grammar.specs.declared.sort.Sort.{Sort}
 use Rattle.hw_grammar.specs.declared.sort.Sort.TheVariants as sorts
 use Rattle.hw_grammar.specs.declared.terminal.Terminal.{Terminal}
 use Rattle.hw_grammar.specs.Sort.{same_sort}
-use Rattle.hw_grammar.specs.Renaming.{index_of, renumbered, renamed}
+use Rattle.hw_grammar.specs.inside.Renaming.{index_of, renumbered, renamed}
 use Rattle.hw_grammar.specs.Grammar.{Lang, AnyName, AnyNumber, AnyLiteral, One, Empty, Then, ThenBy, Either, Mapped, Optional, After, Many, Separated, ListTail, Listed}
 
 -- where names get other numbers, the value is seen by f

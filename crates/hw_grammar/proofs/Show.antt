@@ -7,7 +7,7 @@ use Rattle.hw_grammar.specs.declared.sort.Sort.{Sort}
 use Rattle.hw_grammar.specs.declared.terminal.Terminal.{Terminal}
 use Rattle.hw_grammar.specs.Grammar.{One, Then, Mapped, Many, Separated, Listed}
 use Rattle.hw_grammar.specs.Place.{Spells}
-use Rattle.hw_grammar.specs.Showing.{show_all, marked, show_separated}
+use Rattle.hw_grammar.specs.inside.Showing.{show_all, marked, show_separated}
 use Rattle.hw_grammar.proofs.Exact.{IsLang}
 
 -- what is spelled alone is spelled before anything

@@ -15,14 +15,14 @@ use Rattle.hw_grammar.specs.declared.sort.Sort.{Sort}
 use Rattle.hw_grammar.specs.declared.sort.Sort.TheVariants as sorts
 use Rattle.hw_grammar.specs.declared.terminal.Terminal.{Terminal}
 use Rattle.hw_grammar.specs.Sort.{same_sort}
-use Rattle.hw_grammar.specs.Terminals.{marks, row_of, IsTerminal, AreTerminals}
+use Rattle.hw_grammar.specs.Terminals.{marks, entry_of, IsTerminal, AreTerminals}
 
 -- what holds in each row of a table and by default holds of what the table says
-row_all : {A : Type 0} (p : A → Bool) (table : List (Text × A)) (word : Text) (default : A) → list_all (λ row. p row.1) table ≡ true → p default ≡ true → p (unwrap_or (row_of table word) default) ≡ true
+row_all : {A : Type 0} (p : A → Bool) (table : List (Text × A)) (word : Text) (default : A) → list_all (λ row. p row.1) table ≡ true → p default ≡ true → p (unwrap_or (entry_of table word) default) ≡ true
 row_all p [] word default h d = d
 row_all p (row ∷ table) word default h d =
     let t = and_true (p row.1) (list_all (λ row. p row.1) table) h in
-    by_test (λ v. p (unwrap_or (cond v (Some row.1) (row_of table word)) default) ≡ true) (bytes_eq row.0 word)
+    by_test (λ v. p (unwrap_or (cond v (Some row.1) (entry_of table word)) default) ≡ true) (bytes_eq row.0 word)
     (λ _. t.0)
     (λ _. row_all p table word default t.1 d)
 
@@ -32,7 +32,7 @@ is_no_name sort = cond (same_sort sort sorts.Name) false true
 no_name : (sort : Sort) → is_no_name sort ≡ true → same_sort sort sorts.Name ≡ false
 no_name sort h = by_test (λ v. cond v false true ≡ true → v ≡ false) (same_sort sort sorts.Name) (λ _ h. absurd cc) (λ _ h. refl) h
 
-pub mark_no_name : (word : Text) → same_sort (unwrap_or (row_of marks word) sorts.Text) sorts.Name ≡ false
+pub mark_no_name : (word : Text) → same_sort (unwrap_or (entry_of marks word) sorts.Text) sorts.Name ≡ false
 mark_no_name word = no_name _ (row_all is_no_name marks word sorts.Text refl refl)
 
 -- a terminal of the token with a number is that of the token which is found there

@@ -8,7 +8,7 @@ use Rattle.hw_grammar.specs.Place.{Spells, Place}
 use Rattle.std.specs.Prelude.{IfOk, IfErr}
 use Rattle.hw_grammar.specs.declared.end.ReadEnd.{ReadEnd}
 use Rattle.hw_grammar.specs.declared.end.ReadEnd.TheVariants as errors
-use Rattle.hw_grammar.specs.Ends.{RefusedAt}
+use Rattle.hw_grammar.specs.inside.Ends.{RefusedAt}
 use Rattle.hw_grammar.specs.Reading.{whole, Gives}
 use Rattle.hw_grammar.proofs.Exact.{Exact, SameHead, Shares, here, there, Begins, start, next, IsLang, Reads, Begins-front}
 

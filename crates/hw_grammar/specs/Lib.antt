@@ -1,10 +1,8 @@
+pub mod inside
 pub mod Sort
 pub mod Terminals
 pub mod Grammar
 pub mod Place
 pub mod Reading
-pub mod Ends
-pub mod Showing
 pub mod TextPlace
-pub mod Renaming
 pub mod Words

@@ -45,16 +45,16 @@ marks =
     ∷ (codes "==", EqualsEquals) ∷ (codes "!=", NotEquals) ∷ (codes "<=", AtMost) ∷ (codes ">=", AtLeast) ∷ []
 
 -- what a table says of a word
-abbrev pub row_of : {A : Type 0} → List (Text × A) → Text → Option A
-row_of table word = lookup (λ text. bytes_eq text word) table
+abbrev pub entry_of : {A : Type 0} → List (Text × A) → Text → Option A
+entry_of table word = lookup (λ text. bytes_eq text word) table
 
 -- the sort of a token; each mark of either language is in the table
 abbrev pub sort_of : Dialect → Kind → Text → Sort
-sort_of dialect kinds.Name word = unwrap_or (row_of (keywords dialect) word) Name
+sort_of dialect kinds.Name word = unwrap_or (entry_of (keywords dialect) word) Name
 sort_of dialect kinds.Number word = Number
 sort_of dialect kinds.Literal word = Literal
 sort_of dialect kinds.Text word = sorts.Text
-sort_of dialect kinds.Mark word = unwrap_or (row_of marks word) sorts.Text
+sort_of dialect kinds.Mark word = unwrap_or (entry_of marks word) sorts.Text
 
 -- the names that have a meaning beside the grammar
 abbrev pub special_names : List (Text × Special)
@@ -66,8 +66,8 @@ special_texts = (34 ∷ (codes "external" ++ 34 ∷ []), External) ∷ []
 
 -- what the word of a token means beside the grammar
 abbrev pub special_of : Kind → Text → Special
-special_of kinds.Name word = unwrap_or (row_of special_names word) Plain
-special_of kinds.Text word = unwrap_or (row_of special_texts word) Plain
+special_of kinds.Name word = unwrap_or (entry_of special_names word) Plain
+special_of kinds.Text word = unwrap_or (entry_of special_texts word) Plain
 special_of _ word = Plain
 
 -- the width that a token has, and 0 at one that has none

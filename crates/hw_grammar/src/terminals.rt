@@ -6,7 +6,7 @@ ghost use Rattle.hw_lex.specs.declared.token.Token.{Token};
 ghost use Rattle.hw_lex.specs.Word.{IsName};
 ghost use Rattle.hw_lex.specs.Cut.{token_text};
 ghost use Rattle.hw_grammar.specs.declared.sort.Sort.TheVariants as Sort;
-ghost use Rattle.hw_grammar.specs.Terminals.{keywords, marks, row_of, special_of, IsTerminal, AreTerminals};
+ghost use Rattle.hw_grammar.specs.Terminals.{keywords, marks, entry_of, special_of, IsTerminal, AreTerminals};
 
 use crate::sort::Sort;
 use crate::terminal::{Special, Terminal};
@@ -16,8 +16,8 @@ use hw_names::{NameId, Names};
 use std::alloc::Global;
 
 /// What a table says of a word.
-fn row_of<T: Copy>(table: &[(&str, T)], word: &[u8]) -> Option<T>
-    ensures { result ≡ row_of (map (λ row. (row.0.now, row.1)) table.now) word.now }
+fn entry_of<T: Copy>(table: &[(&str, T)], word: &[u8]) -> Option<T>
+    ensures { result ≡ entry_of (map (λ row. (row.0.now, row.1)) table.now) word.now }
 {
     let mut rest = table;
     while let [(text, value), others @ ..] = rest {
@@ -31,10 +31,10 @@ fn row_of<T: Copy>(table: &[(&str, T)], word: &[u8]) -> Option<T>
 
 /// The sort of a keyword.
 fn keyword(dialect: Dialect, word: &[u8]) -> Option<Sort>
-    ensures { result ≡ row_of (keywords dialect) word.now }
+    ensures { result ≡ entry_of (keywords dialect) word.now }
 {
     match dialect {
-        Dialect::Fil => row_of(
+        Dialect::Fil => entry_of(
             &[
                 ("comp", Sort::Comp),
                 ("new", Sort::New),
@@ -43,7 +43,7 @@ fn keyword(dialect: Dialect, word: &[u8]) -> Option<Sort>
             ],
             word,
         ),
-        Dialect::Cal => row_of(
+        Dialect::Cal => entry_of(
             &[
                 ("component", Sort::Component),
                 ("cells", Sort::Cells),
@@ -73,9 +73,9 @@ fn keyword(dialect: Dialect, word: &[u8]) -> Option<Sort>
 
 /// The sort of a mark.
 fn mark(word: &[u8]) -> Sort
-    ensures { result ≡ unwrap_or (row_of marks word.now) Sort.Text }
+    ensures { result ≡ unwrap_or (entry_of marks word.now) Sort.Text }
 {
-    let row = row_of(
+    let row = entry_of(
         &[
             ("@", Sort::At),
             ("[", Sort::LeftBracket),
@@ -112,7 +112,7 @@ fn mark(word: &[u8]) -> Sort
 fn special_name(word: &[u8]) -> Special
     ensures { result ≡ special_of Kind.Name word.now }
 {
-    let row = row_of(
+    let row = entry_of(
         &[
             ("external", Special::External),
             ("clk", Special::Clock),
@@ -128,7 +128,7 @@ fn special_name(word: &[u8]) -> Special
 fn special_text(word: &[u8]) -> Special
     ensures { result ≡ special_of Kind.Text word.now }
 {
-    row_of(&[("\"external\"", Special::External)], word).unwrap_or(Special::Plain)
+    entry_of(&[("\"external\"", Special::External)], word).unwrap_or(Special::Plain)
 }
 
 /// A terminal of this sort without a name and without numbers.

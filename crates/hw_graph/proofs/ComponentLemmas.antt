@@ -6,7 +6,7 @@ use Rattle.std.proofs.lemmas.List.{get_or_past}
 use Rattle.std.proofs.lemmas.List.Elements.{All-contains, All-push, Contains-get_or}
 use Rattle.std.proofs.lemmas.Option.{get_or_from_slice_get}
 use Rattle.hw_graph.proofs.MemberLemmas.{in_of, contains_of, from_map, from_filter}
-use Rattle.hw_graph.specs.Components.{AreBelow}
+use Rattle.hw_graph.specs.inside.Components.{AreBelow}
 use Rattle.hw_graph.specs.Groups.{IsGathered, with_key, has_key}
 use Rattle.hw_graph.specs.Graph.{HasRead, AreInRange}
 use Rattle.hw_graph.specs.declared.groups.Entry.{Entry}

@@ -10,9 +10,9 @@ use Rattle.hw_names.specs.Name.{Text}
 use Rattle.hw_graph.proofs.SearchLemmas.{taken_read, contained_at, pushed, pushed_last}
 use Rattle.hw_graph.proofs.WalkLemmas.{last_on, cases_looked, reached_more, seen_stays, seen_set, seen_within, all_looked, reads_seen}
 use Rattle.hw_graph.specs.ByName.{IsAtMost, IsLeastMarked}
-use Rattle.hw_graph.specs.Components.{NeverRises, LeavesNoCycle}
+use Rattle.hw_graph.specs.inside.Components.{NeverRises, LeavesNoCycle}
 use Rattle.hw_graph.specs.Graph.{HasRead, AreInRange, IsCycle, IsCycleFrom, IsLeastCycle, Reaches, Directly, Through, IsOffCycles}
-use Rattle.hw_graph.specs.Unread.{AreUnread, TakesRead}
+use Rattle.hw_graph.specs.inside.Unread.{AreUnread, TakesRead}
 use Rattle.hw_graph.specs.Walk.{is_seen, IsWalk, IsStep}
 use Rattle.hw_graph.specs.declared.walk.Walk.{Walk}
 

@@ -5,8 +5,8 @@ use Rattle.std.proofs.lemmas.Bool.{cases_eq, cases_lt}
 use Rattle.std.proofs.lemmas.List.{get_or_append_left, get_or_push, length_push, get_or-take, get_or-drop, length-take, length-drop, take-append-le, get_or_default, get_or_read, get_or_past, get_or-replicate, length-replicate, take_all}
 use Rattle.std.proofs.lemmas.List.Elements.{Contains-append_left, Contains-push}
 use Rattle.hw_graph.specs.Graph.{HasRead, AreInRange, IsReadOrder, IsTrail, IsCycle}
-use Rattle.hw_graph.specs.Search.{mark_of, IsNext, IsPath, AreDone, AreLooked, IsSearch, IsSeen, KeepsSeen, IsTail}
-use Rattle.hw_graph.specs.Unread.{AreUnread, TakesRead}
+use Rattle.hw_graph.specs.inside.Search.{mark_of, IsNext, IsPath, AreDone, AreLooked, IsSearch, IsSeen, KeepsSeen, IsTail}
+use Rattle.hw_graph.specs.inside.Unread.{AreUnread, TakesRead}
 use Rattle.hw_graph.specs.declared.search.Mark.{Mark}
 use Rattle.hw_graph.specs.declared.search.Search.{Search}
 use Rattle.hw_graph.specs.declared.search.Mark.TheVariants.{Unseen, Open, Done}

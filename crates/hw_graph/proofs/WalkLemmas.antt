@@ -6,7 +6,7 @@ use Rattle.std.proofs.lemmas.List.{get_or_read, get_or-take, length-take, length
 use Rattle.std.proofs.lemmas.List.Elements.{Contains-append_left, Contains-push}
 use Rattle.hw_graph.proofs.SearchLemmas.{contained_at, contains_at, pushed, pushed_last, trail_none, trail_less, trail_more}
 use Rattle.hw_graph.specs.Graph.{HasRead}
-use Rattle.hw_graph.specs.Unread.{AreUnread}
+use Rattle.hw_graph.specs.inside.Unread.{AreUnread}
 use Rattle.hw_graph.specs.Walk.{is_seen, HasReached}
 
 pub seen_stays : (seen : List Bool) (q port : ℕ) → q < length seen → is_seen seen port ≡ true → is_seen (set seen q true) port ≡ true

@@ -1,10 +1,8 @@
+pub mod inside
 pub mod Cuts
 pub mod Groups
 pub mod ByName
 pub mod Graph
 pub mod Loop
-pub mod Unread
-pub mod Search
 pub mod Walk
-pub mod Components
 pub mod Reach

@@ -2,7 +2,7 @@
 use Rattle.std.specs.Prelude.{◌≡◌, ℕ, ◌+◌, ◌-◌, ◌*◌, ◌<◌, ◌≤◌, ◌⊎◌, Bool, true, false, List, [], ◌∷◌, ◌++◌, length, take, sum, Option, Some, None, Contains}
 use Rattle.std.specs.Prelude.{MatchBool, slice_index, slice_index_or, slice_set}
 use Rattle.hw_graph.specs.Graph.{IsTrail}
-use Rattle.hw_graph.specs.Unread.{TakesRead}
+use Rattle.hw_graph.specs.inside.Unread.{TakesRead}
 use Rattle.hw_graph.specs.declared.walk.Walk.{Walk}
 
 -- the port was reached

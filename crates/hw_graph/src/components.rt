@@ -1,6 +1,6 @@
 //! Numbers of a graph's ports by their strongly connected components.
 ghost use Rattle.std.specs.Prelude.{◌≡◌, ℕ, ◌<◌, ◌≤◌, ◌^◌, ◌↔◌, length, slice_index, All, IfOk, IsTrue};
-ghost use Rattle.hw_graph.specs.Components.{NeverRises, AreBelow};
+ghost use Rattle.hw_graph.specs.inside.Components.{NeverRises, AreBelow};
 ghost use Rattle.hw_graph.specs.Graph.{AreInRange};
 
 use crate::groups::{Entry, Groups, gather};

@@ -1,6 +1,6 @@
 //! The least loop of a graph: the one that starts with the least port, by its name, that lies on any.
 ghost use Rattle.std.specs.Prelude.{◌≡◌, ℕ, ◌<◌, ◌^◌, ◌↔◌, length, slice_index, All, Any, IfOk, IfNone, IfSome, IsTrue};
-ghost use Rattle.hw_graph.specs.Components.{NeverRises, LeavesNoCycle};
+ghost use Rattle.hw_graph.specs.inside.Components.{NeverRises, LeavesNoCycle};
 ghost use Rattle.hw_graph.specs.Loop.{IfLoop};
 ghost use Rattle.hw_graph.specs.Graph.{AreInRange, IsReadOrder, IsCycleFrom, IsLeastCycle, IsOffCycles};
 

@@ -2,7 +2,7 @@
 ghost use Rattle.std.specs.Prelude.{◌≡◌, ℕ, ◌+◌, ◌-◌, ◌<◌, ◌≤◌, [], ◌∷◌, ◌++◌, length, take, slice_get, slice_set, slice_index, slice_index_or, Some, Contains, IfOk, IfNone, IfSome};
 ghost use Rattle.hw_graph.specs.Graph.{AreInRange, IsReadOrder, IsCycle};
 ghost use Rattle.hw_graph.specs.Loop.{IfLoop};
-ghost use Rattle.hw_graph.specs.Search.{mark_of, IsSearch, IsTail, IsSeen, KeepsSeen, work_of};
+ghost use Rattle.hw_graph.specs.inside.Search.{mark_of, IsSearch, IsTail, IsSeen, KeepsSeen, work_of};
 
 use crate::groups::Groups;
 use crate::order_end::OrderEnd;

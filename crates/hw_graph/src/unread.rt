@@ -1,6 +1,6 @@
 //! How many of each port's reads a search has not looked at.
 ghost use Rattle.std.specs.Prelude.{◌≡◌, ℕ, ◌<◌, ◌≤◌, [], length, slice_index, slice_index_or, IfOk, IfNone, IfSome};
-ghost use Rattle.hw_graph.specs.Unread.{AreUnread, TakesRead};
+ghost use Rattle.hw_graph.specs.inside.Unread.{AreUnread, TakesRead};
 
 use crate::groups::Groups;
 use hw_bits::Memory;

@@ -1,7 +1,7 @@
 //! A walk through a graph, depth first, that goes on where a read closes a loop.
 ghost use Rattle.std.specs.Prelude.{◌≡◌, ℕ, ◌-◌, ◌<◌, [], ◌∷◌, ◌++◌, length, slice_set, slice_index, All, IfOk, true};
 ghost use Rattle.hw_graph.specs.Graph.{AreInRange};
-ghost use Rattle.hw_graph.specs.Unread.{AreUnread};
+ghost use Rattle.hw_graph.specs.inside.Unread.{AreUnread};
 ghost use Rattle.hw_graph.specs.Walk.{IsWalk, IsStep, work_left};
 
 use crate::groups::Groups;

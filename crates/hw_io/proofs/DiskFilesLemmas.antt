@@ -4,7 +4,7 @@ use Rattle.std.proofs.lemmas.Grind.{common_steps}
 use Rattle.std.proofs.lemmas.List.{take_more}
 use Rattle.std.specs.Option.{option_map_or}
 use Rattle.hw_io.specs.declared.disk_files.DiskFile.{DiskFile}
-use Rattle.hw_io.specs.DiskFiles.{has_name, names_in, faults_in}
+use Rattle.hw_io.specs.inside.DiskFiles.{has_name, names_in, faults_in}
 
 abbrev pub name_in : DiskFile → List ℕ
 name_in file = string_bytes file.name

@@ -1,4 +1,4 @@
-pub mod DiskFiles
+pub mod inside
 pub mod Faults
 pub mod MemFiles
 pub mod MemSink

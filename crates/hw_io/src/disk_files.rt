@@ -1,6 +1,6 @@
 //! Files of the system. What a real file holds is told by no contract.
 ghost use Rattle.std.specs.Prelude.{◌≡◌, ℕ, ◌≤◌, List, length, map, position, None, IfOk};
-ghost use Rattle.hw_io.specs.DiskFiles.{has_name, names_in, faults_in};
+ghost use Rattle.hw_io.specs.inside.DiskFiles.{has_name, names_in, faults_in};
 
 use crate::faults::{Failed, raised};
 use crate::reading::Files;

@@ -6,7 +6,7 @@ use Rattle.std.proofs.lemmas.List.{take-append-drop, length-append}
 use Rattle.std.proofs.Math.Seq.{drop-append_seam}
 use Rattle.hw_lex.specs.Byte.{is_blank}
 use Rattle.hw_lex.specs.Gap.{is_in_line, EndsLine, is_closing, is_open, Space, blank, line, block, Gap, none, more}
-use Rattle.hw_lex.specs.Front.{after_close, after_slash, after_space}
+use Rattle.hw_lex.specs.inside.Front.{after_close, after_slash, after_space}
 use Rattle.hw_lex.proofs.Fronts.{by_test, and_true, not_true, not_false, Ends, run_passes, run_ends, run_stops}
 
 -- whether `*/` begins somewhere depends on two bytes

@@ -16,7 +16,7 @@ use Rattle.hw_lex.specs.Byte.{is_between, is_letter, is_blank, is_name_byte, sin
 use Rattle.hw_lex.specs.Number.{is_digit, base_letter, base_of, value_in, value_by, quoted_value, width_of, value_of, Fits}
 use Rattle.hw_lex.specs.Word.{IsDigits, IsName, IsLiteral, is_text_byte, IsText, is_mark, IsWord, Stands}
 use Rattle.hw_lex.specs.Gap.{Space, blank, line, block}
-use Rattle.hw_lex.specs.Front.{based_len, literal_tail, numeral, closed_len, text_len, mark_len, if_any, front_word}
+use Rattle.hw_lex.specs.inside.Front.{based_len, literal_tail, numeral, closed_len, text_len, mark_len, if_any, front_word}
 use Rattle.hw_lex.proofs.Fronts.{clash, Ends, by_test, and_true, or_true, not_true, run_passes, run_longest, run_ends, any_of}
 
 -- ---- the first byte of a token

@@ -3,7 +3,7 @@ ghost use Rattle.std.specs.Prelude.{◌≡◌, ◌≤◌, ℕ, List, length};
 ghost use Rattle.std.specs.List.{prefix_len};
 ghost use Rattle.std.specs.Option.{option_copied};
 ghost use Rattle.hw_lex.specs.Gap.{Space, Gap, is_in_line};
-ghost use Rattle.hw_lex.specs.Front.{after_close, after_space};
+ghost use Rattle.hw_lex.specs.inside.Front.{after_close, after_space};
 
 use crate::byte::is_blank;
 

@@ -5,7 +5,7 @@ ghost use Rattle.hw_lex.specs.declared.token.Kind.{Kind};
 ghost use Rattle.hw_lex.specs.Byte.{is_name_byte};
 ghost use Rattle.hw_lex.specs.Number.{Fits};
 ghost use Rattle.hw_lex.specs.Word.{is_text_byte, Stands};
-ghost use Rattle.hw_lex.specs.Front.{literal_tail, numeral, text_len, mark_len, front_word};
+ghost use Rattle.hw_lex.specs.inside.Front.{literal_tail, numeral, text_len, mark_len, front_word};
 
 use crate::byte::{is_double_mark, is_letter, is_name_byte, is_single_mark};
 use crate::number::{Base, read_literal, read_number};

@@ -13,7 +13,7 @@ use Rattle.hw_bits.proofs.WidthLemmas.{low_bits-lt, sum_bits-lt, difference_bits
 use Rattle.hw_prims.specs.Laws.{OutputsFollowThrough, StatesKeepWidths, IsStateOf, IsRegister, IsMemory, IsMultPipe, IsDelay, IsFastMult, IsSeqMult, AreValuesOf}
 use Rattle.hw_prims.specs.Meaning.{opening_state, output_values, next_state, is_through, seq_mult_out, bit, next_mult_pipe, next_seq_mult}
 use Rattle.hw_prims.specs.Memory.{padded_words, place_of, word_at, words_with}
-use Rattle.hw_prims.specs.State.{out_of, done_of, words_of, kept_of, first_of, second_of, phase_of}
+use Rattle.hw_prims.specs.State.{out_of, done_of, memory_words, kept_of, first_of, second_of, phase_of}
 use Rattle.hw_prims.specs.Row.{Text, Row, values_at}
 use Rattle.hw_prims.specs.State.{State, Register, Memory, MultPipe, Delay, FastMult, SeqMult}
 use Rattle.hw_prims.specs.Table.{Pin, inputs_of, outputs_of, pin_names, pin_widths, is_made, IsMade}
@@ -39,13 +39,13 @@ through_alone (FilSeqMult w) state row other k output is same = refl
 through_alone (StdMemD1 w size idx) state row other zero output is same =
     let read : output ≡ codes "read_data" = cc in
     let addr0 = same (codes "addr0") (0, lit< tt, refl) (rw read refl) in
-    ap (λ (a : ℕ). word_at (words_of state) (if nat_lt a size then Some a else None)) addr0
+    ap (λ (a : ℕ). word_at (memory_words state) (if nat_lt a size then Some a else None)) addr0
 through_alone (StdMemD1 w size idx) state row other (suc k) output is same = refl
 through_alone (StdMemD2 w size0 size1 idx0 idx1) state row other zero output is same =
     let read : output ≡ codes "read_data" = cc in
     let addr0 = same (codes "addr0") (0, lit< tt, refl) (rw read refl) in
     let addr1 = same (codes "addr1") (1, lit< tt, refl) (rw read refl) in
-    ap₂ (λ (a b : ℕ). word_at (words_of state) (if nat_lt a size0 && nat_lt b size1 then Some (a * size1 + b) else None)) addr0 addr1
+    ap₂ (λ (a b : ℕ). word_at (memory_words state) (if nat_lt a size0 && nat_lt b size1 then Some (a * size1 + b) else None)) addr0 addr1
 through_alone (StdMemD2 w size0 size1 idx0 idx1) state row other (suc k) output is same = refl
 through_alone prim state row other k output is same =
     ap (λ (ins : List ℕ). slice_index (output_values prim state ins) k) (values_agree (pin_names (inputs_of prim)) row other (λ input has. same input has refl))
@@ -105,7 +105,7 @@ register_fits : (w : ℕ) (state : State) → IsRegister w state → (out_of sta
 register_fits w (Register out done) is = is
 register_fits w state is = absurd is
 
-memory_fits : (count w : ℕ) (state : State) → IsMemory count w state → (length (words_of state) ≡ count) × All (λ (word : ℕ). word < 2 ^ w) (words_of state) × (done_of state < 2)
+memory_fits : (count w : ℕ) (state : State) → IsMemory count w state → (length (memory_words state) ≡ count) × All (λ (word : ℕ). word < 2 ^ w) (memory_words state) × (done_of state < 2)
 memory_fits count w (Memory words done) is = is
 memory_fits count w state is = absurd is
 
@@ -186,10 +186,10 @@ outputs_fit (FilConcat a b) state ins made is fit =
 outputs_fit (StdReg w) state ins made is fit = let f = register_fits w state is in (f.0, (f.1, tt))
 outputs_fit (StdMemD1 w size idx) state ins made is fit =
     let f = memory_fits size w state is in
-    (word_fits w (words_of state) (place_of (StdMemD1 w size idx) ins) f.1, (f.2, tt))
+    (word_fits w (memory_words state) (place_of (StdMemD1 w size idx) ins) f.1, (f.2, tt))
 outputs_fit (StdMemD2 w size0 size1 idx0 idx1) state ins made is fit =
     let f = memory_fits (size0 * size1) w state is in
-    (word_fits w (words_of state) (place_of (StdMemD2 w size0 size1 idx0 idx1) ins) f.1, (f.2, tt))
+    (word_fits w (memory_words state) (place_of (StdMemD2 w size0 size1 idx0 idx1) ins) f.1, (f.2, tt))
 outputs_fit (StdMultPipe w) state ins made is fit = let f = mult_pipe_fits w state is in (f.1, (f.2, tt))
 outputs_fit (FilDelay w) state ins made is fit = (delay_fits w state is, tt)
 outputs_fit (FilFastMult w) state ins made is fit = ((fast_mult_fits w state is).1, tt)
@@ -225,11 +225,11 @@ next_fits (StdReg w) state ins is fit =
     next_register_fits w (slice_index ins 0) (out_of state) (slice_index ins 1 == 1) (input_fits (StdReg w) ins fit 0 (lit< tt)) (register_fits w state is).0
 next_fits (StdMemD1 w size idx) state ins is fit =
     let f = memory_fits size w state is in
-    next_memory_fits size w (words_of state) (place_of (StdMemD1 w size idx) ins) (slice_index ins 1) (slice_index ins 2 == 1) (input_fits (StdMemD1 w size idx) ins fit 1 (lit< tt)) (f.0, f.1)
+    next_memory_fits size w (memory_words state) (place_of (StdMemD1 w size idx) ins) (slice_index ins 1) (slice_index ins 2 == 1) (input_fits (StdMemD1 w size idx) ins fit 1 (lit< tt)) (f.0, f.1)
 next_fits (StdMemD2 w size0 size1 idx0 idx1) state ins is fit =
     let prim : Primitive = StdMemD2 w size0 size1 idx0 idx1 in
     let f = memory_fits (size0 * size1) w state is in
-    next_memory_fits (size0 * size1) w (words_of state) (place_of prim ins) (slice_index ins 2) (slice_index ins 3 == 1) (input_fits prim ins fit 2 (lit< tt)) (f.0, f.1)
+    next_memory_fits (size0 * size1) w (memory_words state) (place_of prim ins) (slice_index ins 2) (slice_index ins 3 == 1) (input_fits prim ins fit 2 (lit< tt)) (f.0, f.1)
 next_fits (StdMultPipe w) state ins is fit =
     let f = mult_pipe_fits w state is in
     next_mult_pipe_fits w (phase_of state) (kept_of state) (out_of state) (product_bits w (slice_index ins 1) (slice_index ins 2)) (slice_index ins 0 == 1) f.0 f.1 (product_bits-lt w (slice_index ins 1) (slice_index ins 2))

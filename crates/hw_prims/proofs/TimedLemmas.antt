@@ -9,7 +9,7 @@ use Rattle.hw_prims.specs.Meaning.{opening_state}
 use Rattle.hw_prims.specs.Row.{Row, Text, Trace, values_at}
 use Rattle.hw_prims.specs.State.{State}
 use Rattle.hw_prims.specs.Table.{Pin, pin_names}
-use Rattle.hw_prims.specs.Timed.{AreApart, CarriesInputs, Chosen, Delay, Fixed, HasDelay, HasInputs, IsLegal, TimedEvent, TimedSignature, Transaction}
+use Rattle.hw_prims.specs.Timed.{NeverOverlap, CarriesInputs, Chosen, Delay, Fixed, HasDelay, HasInputs, AreLegalTransactions, TimedEvent, TimedSignature, Transaction}
 use Rattle.hw_prims.specs.declared.prim.Primitive.{Primitive}
 
 -- row r of a cell of the primitive, after rows that carry a legal list, and one of its transactions
@@ -19,7 +19,7 @@ pub record TimedRow (prim : Primitive) : Type 0 where
   pub trace : Trace
   pub cell : IsCell prim at height trace
   pub txs : List Transaction
-  pub legal : IsLegal (timed_signature prim) txs
+  pub legal : AreLegalTransactions (timed_signature prim) txs
   pub r : ℕ
   pub within : r < height
   pub carried : (s : ℕ) → s < r → CarriesInputs (timed_signature prim) at (trace s) txs s
@@ -50,10 +50,10 @@ in_order R xs a b pairs (i, below_i, is_a) (j, below_j, is_b) =
     ]
 
 -- two transactions of one event are one, or apart
-pub apart_or_one : (sig : TimedSignature) (txs : List Transaction) → IsLegal sig txs → (a b : Transaction) → Contains txs a → Contains txs b → a.event ≡ b.event →
+pub apart_or_one : (sig : TimedSignature) (txs : List Transaction) → AreLegalTransactions sig txs → (a b : Transaction) → Contains txs a → Contains txs b → a.event ≡ b.event →
     (a ≡ b) ⊎ ((a.start + a.hold ≤ b.start) ⊎ (b.start + b.hold ≤ a.start))
 apart_or_one sig txs legal a b has_a has_b same =
-    elim (in_order AreApart txs a b legal.apart has_a has_b) [
+    elim (in_order NeverOverlap txs a b legal.apart has_a has_b) [
       | inl one ↦ inl one
       | inr (inl apart) ↦ inr (apart same)
       | inr (inr apart) ↦ elim (apart (sym same)) [ inl later ↦ inr (inr later) | inr earlier ↦ inr (inl earlier) ]
@@ -68,7 +68,7 @@ fixed_hold rows hold (Fixed n) is held = let same : n ≡ rows = cc in held ∙ 
 fixed_hold rows hold Chosen is held = absurd (cc)
 
 -- a transaction holds a primitive of fixed delay for so many rows
-pub held_for : (prim : Primitive) (txs : List Transaction) (rows : ℕ) → IsLegal (timed_signature prim) txs → delay_of prim ≡ Fixed rows → (tx : Transaction) → Contains txs tx →
+pub held_for : (prim : Primitive) (txs : List Transaction) (rows : ℕ) → AreLegalTransactions (timed_signature prim) txs → delay_of prim ≡ Fixed rows → (tx : Transaction) → Contains txs tx →
     (tx.event ≡ 0) × (tx.hold ≡ rows)
 held_for prim txs rows legal fixed tx has =
     let held = legal.held tx has in

@@ -1,7 +1,6 @@
+pub mod inside
 pub mod Row
 pub mod Table
-pub mod Port
-pub mod Pinout
 pub mod State
 pub mod Memory
 pub mod Meaning

@@ -6,7 +6,8 @@ use Rattle.hw_bits.specs.Width.{low_bits, sum_bits, difference_bits, product_bit
 use Rattle.hw_bits.specs.Width.{joined_bits}
 use Rattle.hw_prims.specs.Memory.{keeps_words, padded_words, place_of, word_at, words_with}
 use Rattle.hw_prims.specs.Row.{Text}
-use Rattle.hw_prims.specs.State.{State, Stateless, Register, Memory, MultPipe, Delay, FastMult, SeqMult, out_of, done_of, words_of, phase_of, kept_of, first_of}
+use Rattle.hw_prims.specs.State.{State, Stateless, Register, Memory, MultPipe, Delay, FastMult}
+use Rattle.hw_prims.specs.State.{SeqMult, out_of, done_of, memory_words, phase_of, kept_of, first_of}
 use Rattle.hw_prims.specs.State.{second_of}
 use Rattle.hw_prims.specs.declared.phase.Phase.{Phase}
 use Rattle.hw_prims.specs.declared.phase.Phase.TheVariants.{Idle, First, Second, Third}
@@ -67,9 +68,9 @@ output_values (FilMux w) state ins = (if slice_index ins 0 == 1 then slice_index
 output_values (FilSlice w hi lo) state ins = bits_between (slice_index ins 0) hi lo ∷ []
 output_values (FilConcat a b) state ins = joined_bits b (slice_index ins 0) (slice_index ins 1) ∷ []
 output_values (StdReg w) state ins = out_of state ∷ done_of state ∷ []
-output_values (StdMemD1 w size idx) state ins = word_at (words_of state) (place_of (StdMemD1 w size idx) ins) ∷ done_of state ∷ []
+output_values (StdMemD1 w size idx) state ins = word_at (memory_words state) (place_of (StdMemD1 w size idx) ins) ∷ done_of state ∷ []
 output_values (StdMemD2 w size0 size1 idx0 idx1) state ins =
-    word_at (words_of state) (place_of (StdMemD2 w size0 size1 idx0 idx1) ins) ∷ done_of state ∷ []
+    word_at (memory_words state) (place_of (StdMemD2 w size0 size1 idx0 idx1) ins) ∷ done_of state ∷ []
 output_values (StdMultPipe w) state ins = out_of state ∷ done_of state ∷ []
 output_values (FilDelay w) state ins = kept_of state ∷ []
 output_values (FilFastMult w) state ins = second_of state ∷ []
@@ -94,12 +95,12 @@ next_state (StdReg w) state ins =
     if slice_index ins 1 == 1 then Register (slice_index ins 0) 1 else Register (out_of state) 0
 next_state (StdMemD1 w size idx) state ins =
     if slice_index ins 2 == 1
-    then Memory (words_with (words_of state) (place_of (StdMemD1 w size idx) ins) (slice_index ins 1)) 1
-    else Memory (words_of state) 0
+    then Memory (words_with (memory_words state) (place_of (StdMemD1 w size idx) ins) (slice_index ins 1)) 1
+    else Memory (memory_words state) 0
 next_state (StdMemD2 w size0 size1 idx0 idx1) state ins =
     if slice_index ins 3 == 1
-    then Memory (words_with (words_of state) (place_of (StdMemD2 w size0 size1 idx0 idx1) ins) (slice_index ins 2)) 1
-    else Memory (words_of state) 0
+    then Memory (words_with (memory_words state) (place_of (StdMemD2 w size0 size1 idx0 idx1) ins) (slice_index ins 2)) 1
+    else Memory (memory_words state) 0
 next_state (StdMultPipe w) state ins =
     next_mult_pipe (phase_of state) (kept_of state) (out_of state) (product_bits w (slice_index ins 1) (slice_index ins 2)) (slice_index ins 0 == 1)
 next_state (FilDelay w) state ins = Delay (slice_index ins 0)

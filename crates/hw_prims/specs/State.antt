@@ -31,9 +31,9 @@ done_of (Memory words done) = done
 done_of (MultPipe Third kept out) = 1
 done_of state = 0
 
-abbrev pub words_of : State → List ℕ
-words_of (Memory words done) = words
-words_of state = []
+abbrev pub memory_words : State → List ℕ
+memory_words (Memory words done) = words
+memory_words state = []
 
 abbrev pub phase_of : State → Phase
 phase_of (MultPipe phase kept out) = phase

@@ -53,13 +53,13 @@ HasDelay (Fixed rows) hold = hold ≡ rows
 HasDelay Chosen hold = 1 ≤ hold
 
 -- of one event, one is held no longer where the other starts
-abbrev pub AreApart : Transaction → Transaction → Type 0
-AreApart a b = a.event ≡ b.event → (a.start + a.hold ≤ b.start) ⊎ (b.start + b.hold ≤ a.start)
+abbrev pub NeverOverlap : Transaction → Transaction → Type 0
+NeverOverlap a b = a.event ≡ b.event → (a.start + a.hold ≤ b.start) ⊎ (b.start + b.hold ≤ a.start)
 
 -- a legal list, in whatever order: each transaction holds an event as long as it must, and no two hold one event in one row
-pub record IsLegal (sig : TimedSignature) (txs : List Transaction) : Type 0 where
+pub record AreLegalTransactions (sig : TimedSignature) (txs : List Transaction) : Type 0 where
   pub held : (tx : Transaction) → Contains txs tx → (e : TimedEvent) × (slice_get sig.events tx.event ≡ Some e) × HasDelay e.delay tx.hold
-  pub apart : AllPairs AreApart txs
+  pub apart : AllPairs NeverOverlap txs
 
 -- in row r each input of these that is valid for the transaction has its value, where `at` gives the full names of ports
 abbrev pub HasInputs : List TimedPort → (Text → Text) → Row → Transaction → ℕ → Type 0
@@ -87,14 +87,14 @@ CarriesOutputs b at row txs r = (tx : Transaction) → Contains txs tx → HasOu
 -- transaction's inputs have its values, its outputs have those of the flow
 abbrev pub IsTimed : Behaviour → (Text → Text) → ℕ → Trace → Type 0
 IsTimed b at height trace =
-    (txs : List Transaction) → IsLegal b.sig txs → (r : ℕ) → r < height →
+    (txs : List Transaction) → AreLegalTransactions b.sig txs → (r : ℕ) → r < height →
     ((s : ℕ) → s < r → CarriesInputs b.sig at (trace s) txs s) → CarriesStarts b.sig at (trace r) txs r →
     (tx : Transaction) → Contains txs tx → HasInputs b.sig.ins at (trace r) tx r → HasOutputs b at (trace r) tx r
 
 -- the same, output by output, where in row r only those inputs matter on which the output depends within a row
 abbrev pub IsTimedThrough : Behaviour → (Text → Text → Bool) → (Text → Text) → ℕ → Trace → Type 0
 IsTimedThrough b through at height trace =
-    (txs : List Transaction) → IsLegal b.sig txs → (r : ℕ) → r < height →
+    (txs : List Transaction) → AreLegalTransactions b.sig txs → (r : ℕ) → r < height →
     ((s : ℕ) → s < r → CarriesInputs b.sig at (trace s) txs s) →
     (tx : Transaction) → Contains txs tx → (o : TimedPort) → Contains b.sig.outs o → Covers o tx r →
     ((p : TimedPort) → Contains b.sig.ins p → through p.name o.name ≡ true → Covers p tx r → trace r (at p.name) ≡ tx.values p.name) →

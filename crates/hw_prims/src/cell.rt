@@ -4,7 +4,7 @@ ghost use Rattle.hw_bits.specs.Values.{values_of};
 ghost use Rattle.hw_prims.specs.Cell.{AreInputs};
 ghost use Rattle.hw_prims.specs.Meaning.{output_values, next_state, opening_state};
 ghost use Rattle.hw_prims.specs.Memory.{word_count, word_width, state_with_word};
-ghost use Rattle.hw_prims.specs.State.{State, words_of};
+ghost use Rattle.hw_prims.specs.State.{State, memory_words};
 ghost use Rattle.hw_prims.specs.Table.{IsMade, outputs_of, pin_widths};
 ghost use Rattle.hw_prims.specs.declared.prim.Primitive.{Primitive};
 
@@ -81,7 +81,7 @@ impl CellState {
     /// A word of a memory; words are counted from 0. Takes no memory.
     pub fn word(&self, at: usize) -> Bits
         requires { at < word_count self.now.prim }
-        ensures value { result.value ≡ slice_index (words_of self.now.state) at }
+        ensures value { result.value ≡ slice_index (memory_words self.now.state) at }
         ensures width { result.width ≡ word_width self.now.prim }
     {
         self.kept.word(self.prim, at)
@@ -90,7 +90,7 @@ impl CellState {
     /// The number of a memory's words; 0 for what isn't a memory. Takes no memory.
     pub fn word_count(&self) -> usize
         ensures prim { result ≡ word_count self.now.prim }
-        ensures state { result ≡ length (words_of self.now.state) }
+        ensures state { result ≡ length (memory_words self.now.state) }
     {
         self.kept.word_count(self.prim)
     }

@@ -6,7 +6,7 @@ ghost use Rattle.hw_prims.specs.Cell.{AreInputs};
 ghost use Rattle.hw_prims.specs.Kept.{state_of, IsKept};
 ghost use Rattle.hw_prims.specs.Meaning.{bit, output_values, next_state, opening_state, next_mult_pipe, next_seq_mult};
 ghost use Rattle.hw_prims.specs.Memory.{word_count, word_width, state_with_word};
-ghost use Rattle.hw_prims.specs.State.{words_of};
+ghost use Rattle.hw_prims.specs.State.{memory_words};
 ghost use Rattle.hw_prims.specs.State as state;
 ghost use Rattle.hw_prims.specs.Table.{IsMade, outputs_of, pin_widths};
 
@@ -200,7 +200,7 @@ impl Kept {
     pub fn word(&self, prim: Primitive, at: usize) -> Bits
         requires kept { IsKept prim self.now }
         requires at { at < word_count prim }
-        ensures value { result.value ≡ slice_index (words_of (state_of self.now)) at }
+        ensures value { result.value ≡ slice_index (memory_words (state_of self.now)) at }
         ensures width { result.width ≡ word_width prim }
     {
         match self {
@@ -213,7 +213,7 @@ impl Kept {
     pub fn word_count(&self, prim: Primitive) -> usize
         requires { IsKept prim self.now }
         ensures prim { result ≡ word_count prim }
-        ensures state { result ≡ length (words_of (state_of self.now)) }
+        ensures state { result ≡ length (memory_words (state_of self.now)) }
     {
         match self {
             Kept::Memory { words, .. } => words.len(),

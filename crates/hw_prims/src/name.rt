@@ -1,6 +1,6 @@
 //! The names of the table, and the parameters that each takes.
 ghost use Rattle.std.specs.Prelude.{◌≡◌, [], ◌∷◌, ◌<◌, ◌^◌, None, Some, SomeIff, MatchOption, map, option_and_then};
-ghost use Rattle.hw_prims.specs.Port.{names_listed};
+ghost use Rattle.hw_prims.specs.inside.Port.{names_listed};
 ghost use Rattle.hw_prims.specs.Table.{prim_name, meaning_in, inputs_named, outputs_named, input_names, output_names, is_memory, with_params, prim_in_range};
 
 use crate::prim::Primitive;

@@ -1,7 +1,7 @@
 //! The ports that primitives have.
 ghost use Rattle.std.specs.Prelude.{◌≡◌, length};
-ghost use Rattle.hw_prims.specs.Port.{IsPortAt, pins_listed};
-ghost use Rattle.hw_prims.specs.Pinout.{input_pins, output_pins};
+ghost use Rattle.hw_prims.specs.inside.Port.{IsPortAt, pins_listed};
+ghost use Rattle.hw_prims.specs.inside.Pinout.{input_pins, output_pins};
 ghost use Rattle.hw_prims.specs.Table.{inputs_of, outputs_of, IsMade};
 
 use crate::prim::{Dir, PrimPort, Primitive};

@@ -1,6 +1,6 @@
 //! Orders, least loops and what is reached in small graphs, told by hand.
 ghost use Rattle.std.specs.Prelude.{◌≡◌, length, IsTrue, IfOk};
-ghost use Rattle.hw_graph.specs.Components.{AreBelow};
+ghost use Rattle.hw_graph.specs.inside.Components.{AreBelow};
 ghost use Rattle.hw_graph.specs.Graph.{AreInRange};
 
 use hw_bits::Memory;

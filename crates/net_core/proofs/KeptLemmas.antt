@@ -3,7 +3,7 @@ use Rattle.std.proofs.Common.{◌≡◌, ℕ, zero, suc, ◌<◌, Bool, true, fa
 use Rattle.std.proofs.lemmas.Bool.{and_parts}
 use Rattle.hw_names.specs.Name.{Text}
 use Rattle.net_core.specs.Guard.{GuardTree, Reads, Compares, Negates, guards_of, guard_tree, source_tree}
-use Rattle.net_core.specs.Kept.{all_kept, both_kept, kept_alone, kept_compared, kept_driven, kept_by_guard, kept_by_guards, kept_by_option, kept_by_set}
+use Rattle.net_core.specs.inside.Kept.{all_kept, both_kept, kept_alone, kept_compared, kept_driven, kept_by_guard, kept_by_guards, kept_by_option, kept_by_set}
 use Rattle.net_core.specs.Netlist.{SetLine}
 use Rattle.net_core.specs.PortList.{port_line}
 use Rattle.net_core.specs.declared.ports.Port.{Port}

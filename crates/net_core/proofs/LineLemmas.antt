@@ -13,7 +13,7 @@ use Rattle.hw_prims.specs.declared.prim.PrimEnd.{PrimEnd}
 use Rattle.hw_prims.specs.declared.prim.PrimEnd.TheVariants.{UnknownPrim, BadParams}
 use Rattle.hw_prims.specs.declared.prim.Primitive.{Primitive}
 use Rattle.net_core.specs.Judging.{own_line, own_lines, own_part, cell_lines, set_lines, first_not_kept, or_later, first_broken, made_fault, Tells}
-use Rattle.net_core.specs.Kept.{kept_by_set, fault_of}
+use Rattle.net_core.specs.inside.Kept.{kept_by_set, fault_of}
 use Rattle.net_core.specs.Netlist.{Line, CellLine, SetLine, CellOf, SetOf, pin_of, cell_of, set_of, netlist_of}
 use Rattle.net_core.specs.PortList.{IsNamedAs}
 use Rattle.net_core.specs.Rules.{PortLine, ports_at, ports_of, cell_names_at, port_names, is_among, are_new, has_good_parameters, has_known_names, has_good_widths, has_good_sides}

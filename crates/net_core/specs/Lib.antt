@@ -1,3 +1,4 @@
+pub mod inside
 pub use Rattle.hw_names.specs.Name
 pub use Rattle.hw_prims.specs.Row
 pub mod Guard
@@ -12,4 +13,3 @@ pub mod Weight
 pub mod Words
 pub mod PortList
 pub mod Judging
-pub mod Kept

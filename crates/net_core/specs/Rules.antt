@@ -177,12 +177,12 @@ abbrev pub rules_at : List PortLine → List Line → Line → List Bool
 rules_at all before line = rules_after all (flat_map ports_at before) (flat_map cell_names_at before) line
 
 -- the line with this number, counted from 0, keeps the rules
-abbrev pub KeepsRules : Netlist → ℕ → Line → Type 0
-KeepsRules n k line = list_all (λ kept. kept) (rules_at (ports_of n) (take k (lines_of n)) line) ≡ true
+abbrev pub LineKeepsRules : Netlist → ℕ → Line → Type 0
+LineKeepsRules n k line = list_all (λ kept. kept) (rules_at (ports_of n) (take k (lines_of n)) line) ≡ true
 
 -- N1 to N5 hold
 abbrev pub IsValid : Netlist → Type 0
-IsValid n = (k : ℕ) (line : Line) → slice_get (lines_of n) k ≡ Some line → KeepsRules n k line
+IsValid n = (k : ℕ) (line : Line) → slice_get (lines_of n) k ≡ Some line → LineKeepsRules n k line
 
 -- the first broken rule: the first line that breaks one, and at that line the least
 pub record FirstBroken (n : Netlist) (rule item : ℕ) : Type 0 where
@@ -190,7 +190,7 @@ pub record FirstBroken (n : Netlist) (rule item : ℕ) : Type 0 where
   pub place : ℕ
   pub counted : place + 1 ≡ item
   pub at : slice_get (lines_of n) place ≡ Some line
-  pub earlier : (k : ℕ) (other : Line) → k < place → slice_get (lines_of n) k ≡ Some other → KeepsRules n k other
+  pub earlier : (k : ℕ) (other : Line) → k < place → slice_get (lines_of n) k ≡ Some other → LineKeepsRules n k other
   pub number : ℕ
   pub numbered : number + 1 ≡ rule
   pub lesser : (r : ℕ) → r < number → slice_get (rules_at (ports_of n) (take place (lines_of n)) line) r ≡ Some true

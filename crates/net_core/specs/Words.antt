@@ -14,5 +14,5 @@ abbrev pub cell_words : CellLine → ℕ
 cell_words c = made_words (prim_of c.prim c.params)
 
 -- the words of all memories, shown or not
-abbrev pub words_of : Netlist → ℕ
-words_of n = sum_by cell_words n.cells
+abbrev pub word_total : Netlist → ℕ
+word_total n = sum_by cell_words n.cells

@@ -4,7 +4,7 @@ ghost use Rattle.hw_names.specs.Name.{Text, text_of};
 ghost use Rattle.hw_prims.specs.Table.{is_width};
 ghost use Rattle.net_core.specs.Guard.{guards_of, guard_tree, guard_option, source_tree};
 ghost use Rattle.net_core.specs.Judging.{set_lines, first_broken, Tells};
-ghost use Rattle.net_core.specs.Kept.{all_kept, both_kept, kept_by_guard, kept_by_guards, kept_by_set, kept_by_option, kept_alone, kept_compared, kept_driven, fault_of};
+ghost use Rattle.net_core.specs.inside.Kept.{all_kept, both_kept, kept_by_guard, kept_by_guards, kept_by_set, kept_by_option, kept_alone, kept_compared, kept_driven, fault_of};
 ghost use Rattle.net_core.specs.Netlist.{SetOf, set_of};
 ghost use Rattle.net_core.specs.Numbers.{SourceHasNumbers, GuardHasNumbers, WhenHasNumbers, SetHasNumbers};
 ghost use Rattle.net_core.specs.Rules.{PortLine, source_exists, literal_fits, source_is_readable, source_width};

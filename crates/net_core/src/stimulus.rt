@@ -25,6 +25,13 @@ pub struct MemLoad {
     pub words: Vec<Bits>,
 }
 
+/// An input that a stimulus may set: its name, and its width in bits.
+#[derive(Drop)]
+pub struct InputShape {
+    pub name: Word,
+    pub width: u8,
+}
+
 /// An observable memory: the name of its cell, the width of a word in bits, and how many words it has.
 #[derive(Drop)]
 pub struct MemShape {

@@ -3,7 +3,7 @@ ghost use Rattle.std.specs.Prelude.{◌≡◌};
 ghost use Rattle.net_core.specs.Netlist.{netlist_of, cell_of};
 ghost use Rattle.net_core.specs.Numbers.{HasNumbers, CellHasNumbers};
 ghost use Rattle.net_core.specs.Weight.{saturated};
-ghost use Rattle.net_core.specs.Words.{cell_words, words_of};
+ghost use Rattle.net_core.specs.Words.{cell_words, word_total};
 
 use crate::net::{Net, NetCell};
 use hw_names::Names;
@@ -23,7 +23,7 @@ fn cell_words(names: &Names, cell: &NetCell) -> u64
 /// The words of all memories of a netlist, shown or not, no more than `2^64-1`.
 pub fn net_words(net: &Net) -> u64
     requires { HasNumbers net.now }
-    ensures { result ≡ saturated (words_of (netlist_of net.now)) }
+    ensures { result ≡ saturated (word_total (netlist_of net.now)) }
 {
     let mut words: u64 = 0;
     for cell in &net.cells {

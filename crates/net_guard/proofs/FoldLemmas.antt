@@ -3,7 +3,7 @@ use Rattle.std.proofs.Common.{◌≡◌, ℕ, Bool, true, false, not, List, refl
 use Rattle.hw_names.specs.Name.{Text}
 use Rattle.net_core.specs.Guard.{GuardTree, Negates, holds}
 use Rattle.net_guard.specs.Folded.{IsFoldedPart, NegatesNoNegation}
-use Rattle.net_guard.specs.Folding.{FoldsTo, IsFoldOf, IsReduced, core_tree, flipped, negated_tree}
+use Rattle.net_guard.specs.inside.Folding.{FoldsTo, IsFoldOf, IsReduced, core_tree, flipped, negated_tree}
 use Rattle.net_guard.specs.declared.fold.Folded.{Folded}
 use Rattle.net_guard.specs.declared.fold.Folded.TheVariants.{Known, Sometimes}
 use Rattle.net_guard.specs.declared.tops.Core.{Core}

@@ -10,7 +10,7 @@ use Rattle.net_core.specs.Numbers.{GuardHasNumbers}
 use Rattle.net_core.specs.declared.net.Guard.{Guard}
 use Rattle.net_guard.proofs.ListLemmas.{decided, folds_append, list_counted, list_fold, list_is_folded, list_left, neutral_fold, no_folds, one_fold, one_left}
 use Rattle.net_guard.proofs.Lists.{map_next}
-use Rattle.net_guard.specs.Folding.{AreFoldsOf, AreGuardsOf, HasEnough, IsFoldOf, IsGuardOf, IsListFoldOf, FoldsTo, IsNoListOf, decides, flipped, gathered_trees, joint_tree, list_open, neutral, open_tree, tree_of, trees_of}
+use Rattle.net_guard.specs.inside.Folding.{AreFoldsOf, AreGuardsOf, HasEnough, IsFoldOf, IsGuardOf, IsListFoldOf, FoldsTo, IsNoListOf, decides, flipped, gathered_trees, joint_tree, list_open, neutral, open_tree, tree_of, trees_of}
 use Rattle.net_guard.specs.declared.fold.Folded.{Folded}
 use Rattle.net_guard.specs.declared.fold.Folded.TheVariants.{Known, Sometimes}
 use Rattle.net_guard.specs.declared.list.Gathered.{Gathered}

@@ -8,7 +8,7 @@ use Rattle.net_core.specs.Guard.{GuardTree, Reads, Compares, Negates, AllOf, Any
 use Rattle.net_core.specs.Weight.{node_count, nodes_count}
 use Rattle.net_guard.proofs.LeafLemmas.{none_in}
 use Rattle.net_guard.specs.Folded.{AreFolded, HasNoAll, HasNoAny, IsFolded, count_guards}
-use Rattle.net_guard.specs.Folding.{AreFoldsOf, HasNoSuch, IsReduced, flipped, joint_tree, neutral}
+use Rattle.net_guard.specs.inside.Folding.{AreFoldsOf, HasNoSuch, IsReduced, flipped, joint_tree, neutral}
 use Rattle.net_guard.specs.Simplified.{all_leaves, leaves}
 use Rattle.net_guard.specs.declared.tops.Joint.{Joint}
 use Rattle.net_guard.specs.declared.tops.Joint.TheVariants as joints

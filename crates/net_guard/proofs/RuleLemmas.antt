@@ -10,7 +10,7 @@ use Rattle.hw_names.specs.Name.{Text}
 use Rattle.hw_prims.specs.Table.{Pin}
 use Rattle.net_core.proofs.WritableLemmas.{SetKeeps, set_keeps}
 use Rattle.net_core.specs.Netlist.{CellLine, Netlist, Line, InLine, OutLine, WireLine, CellOf, SetOf, SetLine, lines_of}
-use Rattle.net_core.specs.Rules.{IsValid, KeepsRules, PortLine, each_in_guard, each_source, is_writable, literal_fits, option_widths_agree, port_named, port_width, ports_at, ports_of, rules_at, source_exists, source_is_readable, source_width}
+use Rattle.net_core.specs.Rules.{IsValid, LineKeepsRules, PortLine, each_in_guard, each_source, is_writable, literal_fits, option_widths_agree, port_named, port_width, ports_at, ports_of, rules_at, source_exists, source_is_readable, source_width}
 use Rattle.net_core.specs.declared.net.Src.{Src}
 use Rattle.net_guard.proofs.LeafLemmas.{sources_within, widths_within}
 use Rattle.net_guard.specs.Simplified.{AreSimplifiedSets, NoSets, Kept, Left, IsSimplified, IsSimplifiedSet}
@@ -62,7 +62,7 @@ on_left (y ∷ xs) ys zero x at = at
 on_left (y ∷ xs) ys (suc k) x at = on_left xs ys k x at
 
 -- a line before the assignments
-first_kept : (old new : Netlist) → IsSimplified old new → (k : ℕ) (line : Line) → k < length (first_lines new) → slice_get (first_lines new) k ≡ Some line → KeepsRules old k line → KeepsRules new k line
+first_kept : (old new : Netlist) → IsSimplified old new → (k : ℕ) (line : Line) → k < length (first_lines new) → slice_get (first_lines new) k ≡ Some line → LineKeepsRules old k line → LineKeepsRules new k line
 first_kept old new s k line less at kept =
     let same = same_first old new s in
     let before : take k (lines_of new) ≡ take k (lines_of old) =
@@ -87,7 +87,7 @@ old_set _ _ (Left old olds news never rest) k new at = let (j, found, there, is)
 three_kept : (a b c : Bool) → a ≡ true → b ≡ true → c ≡ true → (a && (b && (c && true))) ≡ true
 three_kept a b c p q r = and_from a (b && (c && true)) p (and_from b (c && true) q (and_from c true r refl))
 
-set_kept : (old new : Netlist) → IsSimplified old new → (k : ℕ) (a b : SetLine) → IsSimplifiedSet b a → SetKeeps old b → KeepsRules new k (SetOf a)
+set_kept : (old new : Netlist) → IsSimplified old new → (k : ℕ) (a b : SetLine) → IsSimplifiedSet b a → SetKeeps old b → LineKeepsRules new k (SetOf a)
 set_kept old new s k a b is keeps =
     let ports = ports_of new in
     let named : is_some_dst ports a.dst ≡ true = ap₂ is_some_dst (same_ports old new s) is.dst ∙ keeps.exists in
@@ -117,5 +117,5 @@ is_valid old new s valid k line at = elim (left_or_right (first_lines new) (map 
   | inr (j, there) ↦
       let (a, here, same) = set_at new.sets j line there in
       let (i, b, place, is) = old_set old.sets new.sets s.sets j a here in
-      subst (KeepsRules new k) same (set_kept old new s k a b is (set_keeps old valid i b place))
+      subst (LineKeepsRules new k) same (set_kept old new s k a b is (set_keeps old valid i b place))
 ]

@@ -16,7 +16,7 @@ use Rattle.net_core.specs.declared.net.NetPort.{NetPort}
 use Rattle.net_guard.proofs.LeafLemmas.{none_in}
 use Rattle.net_guard.proofs.Lists.{map_next}
 use Rattle.net_guard.specs.Folded.{HasFoldedGuards, IsFolded, IsFoldedOption}
-use Rattle.net_guard.specs.Folding.{IsFoldOf, IsGuardOf, IsReduced, IsSetFoldOf, SetsFoldTo, open_tree, tree_of}
+use Rattle.net_guard.specs.inside.Folding.{IsFoldOf, IsGuardOf, IsReduced, IsSetFoldOf, SetsFoldTo, open_tree, tree_of}
 use Rattle.net_guard.specs.Simplified.{AreSimplifiedSets, IsNeverTrue, IsSimplified, IsSimplifiedSet, Kept, Left, NoSets, option_leaves}
 use Rattle.net_guard.specs.declared.tops.Open.{Open}
 

@@ -13,7 +13,7 @@ use Rattle.net_core.specs.declared.net.Src.{Src}
 use Rattle.net_core.specs.declared.net.Src.TheVariants.{Port, Lit}
 use Rattle.net_guard.proofs.FoldLemmas.{same_reduced}
 use Rattle.net_guard.specs.Folded.{ComparesNoLiterals}
-use Rattle.net_guard.specs.Folding.{IsFoldOf, IsGuardOf, IsNoListOf, joint_tree, plain_open, tree_of, trees_of}
+use Rattle.net_guard.specs.inside.Folding.{IsFoldOf, IsGuardOf, IsNoListOf, joint_tree, plain_open, tree_of, trees_of}
 use Rattle.net_guard.specs.declared.tops.Core.{Core}
 use Rattle.net_guard.specs.declared.tops.Core.TheVariants as cores
 use Rattle.net_guard.specs.declared.tops.Joint.{Joint}

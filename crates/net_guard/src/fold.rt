@@ -3,7 +3,7 @@ ghost use Rattle.std.specs.Prelude.{◌≡◌, List, map, All, IfOk};
 ghost use Rattle.hw_names.specs.Name.{Text, text_of};
 ghost use Rattle.net_core.specs.Guard.{GuardTree, Reads, Compares, compare_values, source_tree};
 ghost use Rattle.net_core.specs.Numbers.{GuardHasNumbers, SourceHasNumbers};
-ghost use Rattle.net_guard.specs.Folding.{FoldsTo, decides, flipped, joint_tree, negated_tree, plain_open, tree_of};
+ghost use Rattle.net_guard.specs.inside.Folding.{FoldsTo, decides, flipped, joint_tree, negated_tree, plain_open, tree_of};
 
 use crate::list::Gathered;
 use crate::tops::{Core, Joint, Open};

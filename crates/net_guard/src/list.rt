@@ -2,8 +2,8 @@
 ghost use Rattle.std.specs.Prelude.{◌≡◌, [], ◌∷◌, ◌++◌, false, List, IfOk};
 ghost use Rattle.hw_names.specs.Name.{Text};
 ghost use Rattle.net_core.specs.Guard.{GuardTree};
-ghost use Rattle.net_guard.specs.Folding.{AreGuardsOf, FoldsTo, GatheredHasNumbers, IsFoldOf, IsListFoldOf, IsNoListOf};
-ghost use Rattle.net_guard.specs.Folding.{decides, gathered_trees, joint_tree, list_open};
+ghost use Rattle.net_guard.specs.inside.Folding.{AreGuardsOf, FoldsTo, GatheredHasNumbers, IsFoldOf, IsListFoldOf, IsNoListOf};
+ghost use Rattle.net_guard.specs.inside.Folding.{decides, gathered_trees, joint_tree, list_open};
 ghost use Rattle.net_guard.specs.declared.tops.Joint.{Joint};
 
 use crate::fold::Folded;

@@ -6,7 +6,7 @@ ghost use Rattle.net_core.specs.Netlist.{netlist_of};
 ghost use Rattle.net_core.specs.Numbers.{HasNumbers, SetHasNumbers};
 ghost use Rattle.net_core.specs.Rules.{IsValid};
 ghost use Rattle.net_guard.specs.Folded.{HasFoldedGuards};
-ghost use Rattle.net_guard.specs.Folding.{SetFoldsTo, SetsFoldTo};
+ghost use Rattle.net_guard.specs.inside.Folding.{SetFoldsTo, SetsFoldTo};
 ghost use Rattle.net_guard.specs.Simplified.{IsSimplified};
 
 use crate::copy::{copy_cells, copy_names};

@@ -1,7 +1,7 @@
 //! Guards that are folded, taken apart at their tops.
 ghost use Rattle.std.specs.Prelude.{◌≡◌, List, IfOk, MatchResult};
 ghost use Rattle.hw_names.specs.Name.{Text};
-ghost use Rattle.net_guard.specs.Folding.{CoreHasNumbers, IsGuardOf, IsNoListOf, OpenHasNumbers, core_tree, list_open, neutral, open_tree};
+ghost use Rattle.net_guard.specs.inside.Folding.{CoreHasNumbers, IsGuardOf, IsNoListOf, OpenHasNumbers, core_tree, list_open, neutral, open_tree};
 
 use hw_bits::Memory;
 use hw_names::NameId;

@@ -32,7 +32,7 @@ use Rattle.net_sim.specs.Layout.{port_names, name_of}
 use Rattle.net_sim.specs.Order.{IsNamed}
 use Rattle.net_sim.specs.OrderValue.{OrderValue}
 use Rattle.net_sim.specs.Plan.{IsCompiled}
-use Rattle.net_sim.specs.Settled.{IsClash}
+use Rattle.net_sim.specs.inside.Settled.{IsClash}
 use Rattle.net_sim.specs.Sim.{AreConflicts, port_row}
 use Rattle.net_sim.specs.declared.cells.CellPorts.{CellPorts}
 use Rattle.net_sim.specs.declared.plan.Giver.{Giver}

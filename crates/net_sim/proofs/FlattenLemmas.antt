@@ -23,7 +23,7 @@ use Rattle.net_sim.proofs.TestLemmas.{adds_one, keeps_on, keeps_itself, leads_on
 use Rattle.net_sim.proofs.ValidLemmas.{named_contains, set_keeps}
 use Rattle.net_sim.specs.Compiled.{IsSource}
 use Rattle.net_sim.specs.Evaluated.{IsWithin, source_number}
-use Rattle.net_sim.specs.Flattening.{IsKnownSource, EachSource, EachSourceOf, EachOptionSource, AreExits, AddsTests, AddsGuard, KeepsTests, joined, exit_of, exits_before}
+use Rattle.net_sim.specs.inside.Flattening.{IsKnownSource, EachSource, EachSourceOf, EachOptionSource, AreExits, AddsTests, AddsGuard, KeepsTests, joined, exit_of, exits_before}
 use Rattle.net_sim.specs.Layout.{port_names}
 use Rattle.net_sim.specs.Tests.{AreTests, AreValuesIn, Leads, Here, StandsFor, end_of}
 use Rattle.net_sim.specs.declared.flatten.Exits.{Exits}

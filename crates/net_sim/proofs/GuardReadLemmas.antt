@@ -17,7 +17,7 @@ use Rattle.net_core.specs.declared.net.Guard.TheVariants as variants
 use Rattle.net_sim.proofs.AgreeLemmas.{set_reads}
 use Rattle.hw_graph.proofs.MemberLemmas.{In, in_of, contains_of, in_left, in_right}
 use Rattle.net_sim.specs.Layout.{port_names}
-use Rattle.net_sim.specs.Wires.{Reading, reading}
+use Rattle.net_sim.specs.inside.Wires.{Reading, reading}
 
 -- what holds of each member of a list
 pub all_in : {X : Type 0} (P : X → Type 0) (xs : List X) → ((x : X) → In xs x → P x) → All P xs

@@ -14,7 +14,7 @@ use Rattle.hw_graph.specs.Groups.{IsGathered}
 use Rattle.net_sim.specs.Layout.{port_names, name_of}
 use Rattle.net_sim.specs.Order.{IsNamed, IsLeastLoopOf}
 use Rattle.hw_graph.specs.Graph.{HasRead, Reaches, Directly, Through, IsLeastCycle}
-use Rattle.net_sim.specs.Wires.{net_readings, AreEntriesOf}
+use Rattle.net_sim.specs.inside.Wires.{net_readings, AreEntriesOf}
 use Rattle.hw_graph.specs.declared.groups.Entry.{Entry}
 
 module _ (n : Netlist) (valid : IsValid n) (entries : List Entry) (reads : List (List ℕ)) (distinct : AreDistinct (port_names n)) (are : AreEntriesOf (port_names n) (net_readings n) entries) (gathered : IsGathered entries (length (port_names n)) reads) where

@@ -16,7 +16,7 @@ use Rattle.net_sim.specs.Evaluated.{IsValueOf, Clashes, IsLeastConflict}
 use Rattle.net_sim.specs.Layout.{port_names, port_widths, name_of}
 use Rattle.net_sim.specs.OrderValue.{OrderValue}
 use Rattle.net_sim.specs.Plan.{IsCompiled}
-use Rattle.net_sim.specs.Settled.{IsClash, settled_value}
+use Rattle.net_sim.specs.inside.Settled.{IsClash, settled_value}
 use Rattle.net_sim.specs.Sim.{IsEvaluated, input_row, states_of, port_row}
 use Rattle.net_sim.specs.declared.cells.CellPorts.{CellPorts}
 use Rattle.net_sim.specs.declared.plan.Giver.{Giver}

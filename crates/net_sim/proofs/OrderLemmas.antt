@@ -20,13 +20,13 @@ use Rattle.hw_graph.proofs.MemberLemmas.{In, in_at, at_of, in_of, contains_of, i
 use Rattle.hw_graph.proofs.PigeonholeLemmas.{at_most, at_least}
 use Rattle.hw_graph.proofs.SearchLemmas.{contained_at}
 use Rattle.net_sim.proofs.WireLemmas.{cell_readings-prim}
-use Rattle.net_sim.specs.Destinations.{AreDestinations}
+use Rattle.net_sim.specs.inside.Destinations.{AreDestinations}
 use Rattle.hw_graph.specs.Groups.{IsGathered, with_key, has_key}
 use Rattle.net_sim.specs.Layout.{port_names, name_of}
 use Rattle.net_sim.specs.Order.{IsNamed, IsOrderOf}
 use Rattle.net_sim.specs.PortOrder.{numbers_of}
 use Rattle.hw_graph.specs.Graph.{HasRead, AreInRange, IsReadOrder, IsCycle}
-use Rattle.net_sim.specs.Wires.{Reading, reading, set_readings, input_readings, output_readings, prim_readings, cell_readings, some_readings, net_readings, named_entry, AreEntriesOf}
+use Rattle.net_sim.specs.inside.Wires.{Reading, reading, set_readings, input_readings, output_readings, prim_readings, cell_readings, some_readings, net_readings, named_entry, AreEntriesOf}
 use Rattle.hw_graph.specs.declared.groups.Entry.{Entry}
 
 -- ---- the pairs of a netlist are its reads

@@ -12,7 +12,7 @@ use Rattle.hw_prims.specs.Table.{Pin, prim_of, inputs_of, outputs_of, pin_names,
 use Rattle.hw_prims.specs.declared.prim.Primitive.{Primitive}
 use Rattle.net_core.specs.NetRun.{HasPin, IsNetCell, IsWritable}
 use Rattle.net_core.specs.Netlist.{Netlist, CellLine, SetLine, Line, InLine, OutLine, WireLine, CellOf, lines_of}
-use Rattle.net_core.specs.Rules.{PortLine, ports_of, own_port, cell_input, cell_output, port_named, has_name, port_width, width_or_none, source_width, is_writable, has_good_widths, has_known_names, has_good_sides, has_good_parameters, each_source, literal_fits, source_is_readable, option_widths_agree, KeepsRules, IsValid, cell_names_at, is_among, has_new_names, ports_at, are_new, port_names as names_in}
+use Rattle.net_core.specs.Rules.{PortLine, ports_of, own_port, cell_input, cell_output, port_named, has_name, port_width, width_or_none, source_width, is_writable, has_good_widths, has_known_names, has_good_sides, has_good_parameters, each_source, literal_fits, source_is_readable, option_widths_agree, LineKeepsRules, IsValid, cell_names_at, is_among, has_new_names, ports_at, are_new, port_names as names_in}
 use Rattle.net_sim.proofs.GiverLemmas.{at_some}
 use Rattle.net_sim.proofs.LayoutLemmas.{ports_of-parts, ports_of_prim, input_at, output_at, first_port-more, first_port-le, length-ports_of_cell}
 use Rattle.hw_graph.proofs.MemberLemmas.{In, in_at, at_of, contains_of, in_append, in_map, from_map, in_flat_map, from_flat_map}
@@ -174,7 +174,7 @@ module _ (n : Netlist) (valid : IsValid n) where
   first_rule true b c d e h = refl
   first_rule false b c d e h = cc
 
-  rule_new : (k : ℕ) (line : Line) → KeepsRules n k line → has_new_names (flat_map ports_at (take k (lines_of n))) (flat_map cell_names_at (take k (lines_of n))) line ≡ true
+  rule_new : (k : ℕ) (line : Line) → LineKeepsRules n k line → has_new_names (flat_map ports_at (take k (lines_of n))) (flat_map cell_names_at (take k (lines_of n))) line ≡ true
   rule_new k line h = first_rule (has_new_names (flat_map ports_at (take k (lines_of n))) (flat_map cell_names_at (take k (lines_of n))) line) (has_known_names (ports_of n) line) (has_good_widths (ports_of n) line) (has_good_sides (ports_of n) line) (has_good_parameters line) h
 
   among : (names : List Text) (name : Text) → In names name → is_among names name ≡ true

@@ -16,7 +16,7 @@ use Rattle.net_core.specs.Rules.{IsValid}
 use Rattle.net_sim.proofs.PortLemmas.{set_writable}
 use Rattle.net_sim.specs.Evaluated.{HasWidth, IsBitsOf, source_number}
 use Rattle.net_sim.specs.PortOrder.{numbers_of}
-use Rattle.net_sim.specs.Settled.{IsSettled, IsClash, FitsWidth, settled_value, value_if_acting}
+use Rattle.net_sim.specs.inside.Settled.{IsSettled, IsClash, FitsWidth, settled_value, value_if_acting}
 use Rattle.net_sim.specs.declared.plan.Source.{Source}
 use Rattle.net_sim.specs.declared.plan.Source.TheVariants.{Slot, Fixed}
 use Rattle.net_sim.specs.declared.settle.Settled.{Settled}

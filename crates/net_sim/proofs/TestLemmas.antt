@@ -13,7 +13,7 @@ use Rattle.net_sim.proofs.GrowthLemmas.{slice_get-last}
 use Rattle.net_sim.proofs.ValidLemmas.{slice_get-append_left, slice_get-append_before}
 use Rattle.net_sim.specs.Compiled.{IsSource}
 use Rattle.net_sim.specs.Evaluated.{IsWithin, source_number}
-use Rattle.net_sim.specs.Flattening.{KeepsTests, AddsTests, exit_of}
+use Rattle.net_sim.specs.inside.Flattening.{KeepsTests, AddsTests, exit_of}
 use Rattle.net_sim.specs.Tests.{IsTestAt, AreTests, AreValuesIn, Leads, Here, Onward, StandsFor, end_of, next_of}
 use Rattle.net_sim.specs.declared.flatten.Exits.{Exits}
 use Rattle.net_sim.specs.declared.guards.Test.{Test}

@@ -11,7 +11,7 @@ use Rattle.net_core.specs.Graph.{source_ports}
 use Rattle.net_core.specs.declared.net.Src.{Src}
 use Rattle.net_core.specs.declared.net.Src.TheVariants.{Port, Lit}
 use Rattle.net_core.specs.Netlist.{Netlist, CellLine, SetLine, Line, InLine, OutLine, WireLine, CellOf, SetOf, lines_of}
-use Rattle.net_core.specs.Rules.{PortLine, ports_of, port_named, has_name, has_known_names, has_good_widths, has_good_sides, has_good_parameters, each_source, each_in_guard, source_exists, KeepsRules, IsValid}
+use Rattle.net_core.specs.Rules.{PortLine, ports_of, port_named, has_name, has_known_names, has_good_widths, has_good_sides, has_good_parameters, each_source, each_in_guard, source_exists, LineKeepsRules, IsValid}
 
 pub slice_get-append_right : {X : Type 0} (xs ys : List X) (k : ℕ) → slice_get (xs ++ ys) (length xs + k) ≡ slice_get ys k
 slice_get-append_right {X = X} [] ys k = ap (slice_get ys) (let e : length {A = X} [] + k ≡ k = omega arith in e)
@@ -47,7 +47,7 @@ five true true false d e h = cc
 five true false c d e h = cc
 five false b c d e h = cc
 
-keeps : (n : Netlist) (k : ℕ) (line : Line) → KeepsRules n k line → Keeps n line
+keeps : (n : Netlist) (k : ℕ) (line : Line) → LineKeepsRules n k line → Keeps n line
 keeps n k line h = let p = five _ _ _ _ _ h in record { known = p.0; widths = p.1; sides = p.2; parameters = p.3 }
 
 -- a valid netlist's cells have a primitive

@@ -15,7 +15,7 @@ use Rattle.net_core.specs.Rules.{PortLine, ports_of}
 use Rattle.net_sim.proofs.LayoutLemmas.{input_at, output_at, first_port-more, first_port-le, length-ports_of_cell}
 use Rattle.net_sim.specs.Layout.{port_names, IsCellPorts, AreCellPorts}
 use Rattle.net_sim.specs.declared.cells.CellPorts.{CellPorts}
-use Rattle.net_sim.specs.Wires.{Reading, reading, set_readings, input_readings, prim_readings, cell_readings, some_readings, named_entry, AreEntriesOf, AddReadings, HasCellAt}
+use Rattle.net_sim.specs.inside.Wires.{Reading, reading, set_readings, input_readings, prim_readings, cell_readings, some_readings, named_entry, AreEntriesOf, AddReadings, HasCellAt}
 use Rattle.hw_graph.specs.declared.groups.Entry.{Entry}
 
 pub add_none : (names : List Text) (entries : List Entry) → AddReadings names [] entries entries

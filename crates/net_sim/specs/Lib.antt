@@ -1,6 +1,5 @@
+pub mod inside
 pub mod Layout
-pub mod NoGuards
-pub mod Wires
 pub mod Order
 pub mod OrderValue
 pub mod PortOrder
@@ -11,11 +10,8 @@ pub mod Tests
 pub mod Branches
 pub mod Lowered
 pub mod Plan
-pub mod Flattening
-pub mod Settled
 pub mod Shown
 pub mod Sim
 pub mod Kept
 pub mod Standing
-pub mod Destinations
 pub mod OneRun

@@ -4,7 +4,7 @@ use Rattle.hw_names.specs.Name.{Text, dotted}
 use Rattle.hw_prims.specs.Meaning.{next_state, opening_state}
 use Rattle.hw_prims.specs.Memory.{state_with_word, word_count}
 use Rattle.hw_prims.specs.Row.{Row, values_at}
-use Rattle.hw_prims.specs.State.{State, Stateless, words_of}
+use Rattle.hw_prims.specs.State.{State, Stateless, memory_words}
 use Rattle.hw_prims.specs.Table.{Pin, inputs_of, pin_names}
 use Rattle.hw_prims.specs.declared.prim.Primitive.{Primitive}
 use Rattle.net_core.specs.Circuit.{IsRow, HasConflict, IsReported}
@@ -116,13 +116,13 @@ pub record IsLoadOfSim (old : SimValue) (mem at word : ℕ) (new : SimValue) : T
 abbrev pub IsWordOfSim : SimValue → (mem at word : ℕ) → Type 0
 IsWordOfSim sim mem at word =
     (cell : Text) (prim : Primitive) → IsShown (netlist_of sim.net) mem cell prim →
-    word ≡ slice_index (words_of (states_of (netlist_of sim.net) sim.states cell prim)) at
+    word ≡ slice_index (memory_words (states_of (netlist_of sim.net) sim.states cell prim)) at
 
 -- how many words a shown memory has
 abbrev pub IsWordCountOfSim : SimValue → (mem count : ℕ) → Type 0
 IsWordCountOfSim sim mem count =
     (cell : Text) (prim : Primitive) → IsShown (netlist_of sim.net) mem cell prim →
-    (count ≡ word_count prim) × (count ≡ length (words_of (states_of (netlist_of sim.net) sim.states cell prim)))
+    (count ≡ word_count prim) × (count ≡ length (memory_words (states_of (netlist_of sim.net) sim.states cell prim)))
 
 -- by phases: where no Conflict has ended the run, and where one has
 abbrev pub IfRunning : Phase → Type 0 → Type 0

@@ -7,7 +7,7 @@ ghost use Rattle.net_core.specs.Netlist.{netlist_of};
 ghost use Rattle.net_sim.specs.Evaluated.{IsValueOf, Clashes, cell_inputs, AreMoved, AreCellInputs, IsLeastConflict};
 ghost use Rattle.net_sim.specs.Layout.{port_names, port_widths, name_of};
 ghost use Rattle.net_sim.specs.Plan.{IsPlan, ArePrims};
-ghost use Rattle.net_sim.specs.Settled.{FitsWidth, IsClash, settled_value};
+ghost use Rattle.net_sim.specs.inside.Settled.{FitsWidth, IsClash, settled_value};
 ghost use Rattle.net_sim.specs.Sim.{IsEvaluated, port_row, input_row, states_of};
 
 use crate::cells::CellPorts;

@@ -7,7 +7,7 @@ ghost use Rattle.net_core.specs.Netlist.{netlist_of};
 ghost use Rattle.net_core.specs.Numbers.{HasNumbers, GuardHasNumbers, WhenHasNumbers};
 ghost use Rattle.net_core.specs.Rules.{IsValid};
 ghost use Rattle.net_core.specs.Table.{IsTableOf};
-ghost use Rattle.net_sim.specs.Flattening.{IsKnownSource, EachSource, EachSourceOf, EachOptionSource, AreExits, AddsTests, AddsGuard, joined, exit_of, exits_before};
+ghost use Rattle.net_sim.specs.inside.Flattening.{IsKnownSource, EachSource, EachSourceOf, EachOptionSource, AreExits, AddsTests, AddsGuard, joined, exit_of, exits_before};
 ghost use Rattle.net_sim.specs.Tests.{AreGuards};
 
 use crate::guards::{FALSE, FIRST, FlatGuards, TRUE, Test};

@@ -4,7 +4,7 @@ ghost use Rattle.net_core.specs.Netlist.{netlist_of};
 ghost use Rattle.net_core.specs.Numbers.{HasNumbers};
 ghost use Rattle.net_core.specs.Rules.{IsValid};
 ghost use Rattle.net_core.specs.Table.{IsTableOf};
-ghost use Rattle.net_sim.specs.Destinations.{AreDestinations};
+ghost use Rattle.net_sim.specs.inside.Destinations.{AreDestinations};
 ghost use Rattle.net_sim.specs.Layout.{port_names};
 ghost use Rattle.hw_graph.specs.Loop.{IfLoop};
 ghost use Rattle.net_sim.specs.Order.{IsLeastLoopOf};

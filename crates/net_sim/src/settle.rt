@@ -8,7 +8,7 @@ ghost use Rattle.net_core.specs.Netlist.{SetLine, netlist_of};
 ghost use Rattle.net_sim.specs.Evaluated.{HasSourceWidth};
 ghost use Rattle.net_sim.specs.Layout.{port_names, port_widths, name_of};
 ghost use Rattle.net_sim.specs.Plan.{IsPlan};
-ghost use Rattle.net_sim.specs.Settled.{IsSettled, FitsWidth, settled_value, value_if_acting};
+ghost use Rattle.net_sim.specs.inside.Settled.{IsSettled, FitsWidth, settled_value, value_if_acting};
 ghost use Rattle.net_sim.specs.Sim.{port_row};
 
 use crate::branches::{guard_truth, slot_value};

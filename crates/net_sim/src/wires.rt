@@ -10,7 +10,7 @@ ghost use Rattle.net_core.specs.Numbers.{HasNumbers, GuardHasNumbers, SourceHasN
 ghost use Rattle.net_core.specs.Rules.{ports_of, IsValid};
 ghost use Rattle.net_core.specs.Table.{IsTableOf};
 ghost use Rattle.net_sim.specs.Layout.{port_names, AreCellPorts};
-ghost use Rattle.net_sim.specs.Wires.{reading, set_readings, cell_readings, output_readings, prim_readings, net_readings, AreEntriesOf, AddReadings, HasCellAt};
+ghost use Rattle.net_sim.specs.inside.Wires.{reading, set_readings, cell_readings, output_readings, prim_readings, net_readings, AreEntriesOf, AddReadings, HasCellAt};
 
 use crate::cells::CellPorts;
 use hw_bits::Memory;

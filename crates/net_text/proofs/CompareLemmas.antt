@@ -7,10 +7,10 @@ use Rattle.net_core.specs.declared.net.Guard.{Guard}
 use Rattle.net_core.specs.declared.net.Guard as code
 use Rattle.net_core.specs.declared.net.Src.{Src}
 use Rattle.std.proofs.lemmas.List.{nil_from_length}
-use Rattle.net_text.specs.ReadWords.{◌>>=◌}
-use Rattle.net_text.specs.ReadLines.{guarded_of_text, value_from, value_of_text}
-use Rattle.net_text.specs.ReadGuards.{test_from, guard_at}
-use Rattle.net_text.specs.ReadResults.{Extends}
+use Rattle.net_text.specs.inside.ReadWords.{◌>>=◌}
+use Rattle.net_text.specs.inside.ReadLines.{guarded_of_text, value_from, value_of_text}
+use Rattle.net_text.specs.inside.ReadGuards.{test_from, guard_at}
+use Rattle.net_text.specs.inside.ReadResults.{Extends}
 use Rattle.net_text.proofs.NameLemmas.{Extends-itself}
 
 pub no_source : (names : List Text) (g : Guard NameId) (text : Text) → ((s : Src NameId) → g ≡ code.Read s → ⊥) → test_from (guard_tree (text_of names) g) text ≡ None

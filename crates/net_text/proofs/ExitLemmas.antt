@@ -1,7 +1,7 @@
 -- What a function gives where a step of it failed.
 use Rattle.std.proofs.Common.{◌≡◌, List, Option, None, Result, Ok, Err}
 use Rattle.hw_names.specs.Name.{Text}
-use Rattle.net_text.specs.ReadResults.{Extends, Fails, Gives, GivesNamed}
+use Rattle.net_text.specs.inside.ReadResults.{Extends, Fails, Gives, GivesNamed}
 use Rattle.net_text.specs.declared.line_end.LineEnd.{LineEnd}
 use Rattle.net_text.specs.declared.line_end.LineEnd.TheVariants as ends
 use Rattle.net_text.proofs.NameLemmas.{Extends-itself}

@@ -12,9 +12,9 @@ use Rattle.net_core.specs.declared.net.Src.{Src}
 use Rattle.net_core.specs.declared.net.Src.TheVariants.{Port, Lit}
 use Rattle.net_text.specs.Layout.{source_text, operator_text, guard_text, guards_text, rest_text, when_text, pin_text, parameters_text, line_text}
 use Rattle.net_text.specs.Names.{is_segment, is_path, is_number, source_has_text, count_guards, guard_has_text, guards_have_text, when_has_text, line_has_text}
-use Rattle.net_text.specs.ReadWords.{is_word_byte}
-use Rattle.net_text.specs.ReadTexts.{in_line}
-use Rattle.net_text.specs.ReadLines.{line_of_text}
+use Rattle.net_text.specs.inside.ReadWords.{is_word_byte}
+use Rattle.net_text.specs.inside.ReadTexts.{in_line}
+use Rattle.net_text.specs.inside.ReadLines.{line_of_text}
 use Rattle.net_text.proofs.WordLemmas.{is_feed}
 use Rattle.net_text.proofs.NumberLaws.{both_true}
 use Rattle.net_text.proofs.WordLaws.{all_imply, segment_word, path_word, decimal_word}

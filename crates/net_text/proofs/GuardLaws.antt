@@ -12,8 +12,8 @@ use Rattle.net_core.specs.declared.net.Src.{Src}
 use Rattle.net_core.specs.declared.net.Src.TheVariants.{Port, Lit}
 use Rattle.net_text.specs.Layout.{source_text, operator_text, guard_text, guards_text, rest_text}
 use Rattle.net_text.specs.Names.{is_path, is_number, source_has_text, count_guards, guard_has_text, guards_have_text}
-use Rattle.net_text.specs.ReadWords.{Read, ◌>>=◌, after, where_after, is_word_byte, source_at}
-use Rattle.net_text.specs.ReadGuards.{operator_at, test_at, test_from, listed, bracket_from, negated_read, guard_from, operands_from, guard_within, operands_within}
+use Rattle.net_text.specs.inside.ReadWords.{Read, ◌>>=◌, after, where_after, is_word_byte, source_at}
+use Rattle.net_text.specs.inside.ReadGuards.{operator_at, test_at, test_from, listed, bracket_from, negated_read, guard_from, operands_from, guard_within, operands_within}
 use Rattle.net_text.proofs.NumberLaws.{both_true, IsText-decimal}
 use Rattle.net_text.proofs.ParamLemmas.{bind_some}
 use Rattle.net_text.proofs.WordLaws.{Apart, some_is, either_way, path_word, decimal_word, after_takes, after_again, source_again, source_takes}

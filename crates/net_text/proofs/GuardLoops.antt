@@ -7,9 +7,9 @@ use Rattle.hw_names.specs.declared.names.NameId.{NameId}
 use Rattle.net_core.specs.Guard.{GuardTree, GuardTrees, Reads, AllOf, AnyOf, NoGuards, MoreGuards, guard_tree}
 use Rattle.net_core.specs.declared.net.Guard.{Guard}
 use Rattle.net_core.specs.declared.net.Src.{Src}
-use Rattle.net_text.specs.ReadWords.{Read, ◌>>=◌, after, number_of, number_at, literal_at, source_at}
-use Rattle.net_text.specs.ReadGuards.{test_from, negated_read, negated, is_bang, closed, guard_from, listed, bracket_from, operands_from, guard_within, operands_within, guard_at, operands_at, bracket_at}
-use Rattle.net_text.specs.View.{guards_of}
+use Rattle.net_text.specs.inside.ReadWords.{Read, ◌>>=◌, after, number_of, number_at, literal_at, source_at}
+use Rattle.net_text.specs.inside.ReadGuards.{test_from, negated_read, negated, is_bang, closed, guard_from, listed, bracket_from, operands_from, guard_within, operands_within, guard_at, operands_at, bracket_at}
+use Rattle.net_text.specs.inside.View.{guards_of}
 use Rattle.net_text.proofs.GuardTurns.{after_shorter, guard_leaves, same_bracket, operands_turn}
 use Rattle.net_text.proofs.WordLaws.{after_takes}
 

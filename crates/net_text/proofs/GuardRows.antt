@@ -9,7 +9,7 @@ use Rattle.net_core.specs.Guard.{AllOf, AnyOf, MoreGuards, guard_tree, guard_tre
 use Rattle.net_core.specs.Numbers.{GuardHasNumbers, GuardsHaveNumbers}
 use Rattle.net_core.specs.declared.net.Guard.{Guard, Row_of-Guard, end_of-Guard, more_of-Guard, items-the_row-Guard, items_hidden-the_row-Guard-0}
 use Rattle.net_core.specs.declared.net.Guard as code
-use Rattle.net_text.specs.View.{guards_of}
+use Rattle.net_text.specs.inside.View.{guards_of}
 
 row_is : (names : List Text) (n : Count) (r : Row_of-Guard NameId n) → guard_trees (text_of names) r ≡ guards_of names (items-the_row-Guard NameId n r)
 row_is names n end_of-Guard = refl

@@ -4,8 +4,8 @@ use Rattle.std.proofs.lemmas.List.{length-append}
 use Rattle.hw_names.specs.Name.{Text}
 use Rattle.net_core.specs.Guard.{GuardTree, GuardTrees, Reads, AllOf, AnyOf, MoreGuards}
 use Rattle.net_text.specs.Layout.{guard_text}
-use Rattle.net_text.specs.ReadWords.{Read, ◌>>=◌, after, where_after, source_at}
-use Rattle.net_text.specs.ReadGuards.{listed, bracket_from, negated_read, guard_from, operands_from, guard_within, operands_within}
+use Rattle.net_text.specs.inside.ReadWords.{Read, ◌>>=◌, after, where_after, source_at}
+use Rattle.net_text.specs.inside.ReadGuards.{listed, bracket_from, negated_read, guard_from, operands_from, guard_within, operands_within}
 use Rattle.net_text.proofs.WordLaws.{after_takes}
 use Rattle.net_text.proofs.GuardLaws.{guard_takes, guard_some}
 

@@ -9,9 +9,9 @@ use Rattle.hw_prims.specs.Table.{Pin}
 use Rattle.net_core.specs.Netlist.{Line, InLine, OutLine, WireLine, CellOf, SetOf, CellLine, SetLine}
 use Rattle.net_text.specs.Layout.{source_text, guard_text, when_text, pin_text, parameters_text, line_text}
 use Rattle.net_text.specs.Names.{is_segment, is_path, is_number, source_has_text, guard_has_text, when_has_text, line_has_text}
-use Rattle.net_text.specs.ReadWords.{Read, ◌>>=◌, whole, after, is_word_byte, word_at, number_at, source_at, where_after}
-use Rattle.net_text.specs.ReadLines.{Value, pin_from, pin_of_text, param_at, params_of_text, cell_of_text, guarded_of_text, value_from, value_of_text, set_of_text, line_of_text}
-use Rattle.net_text.specs.ReadGuards.{guard_at, guard_within}
+use Rattle.net_text.specs.inside.ReadWords.{Read, ◌>>=◌, whole, after, is_word_byte, word_at, number_at, source_at, where_after}
+use Rattle.net_text.specs.inside.ReadLines.{Value, pin_from, pin_of_text, param_at, params_of_text, cell_of_text, guarded_of_text, value_from, value_of_text, set_of_text, line_of_text}
+use Rattle.net_text.specs.inside.ReadGuards.{guard_at, guard_within}
 use Rattle.net_text.proofs.GuardLaws.{guard_takes, guard_again}
 use Rattle.net_text.proofs.NumberLaws.{both_true}
 use Rattle.net_text.proofs.ParamLemmas.{bind_some}

@@ -4,7 +4,7 @@ use Rattle.std.proofs.lemmas.List.{append-nil, length_push, get_or_append_left}
 use Rattle.std.proofs.lemmas.Option.{slice_get_within, get_or_from_slice_get}
 use Rattle.hw_names.specs.Name.{Text, text_of}
 use Rattle.hw_names.specs.declared.names.NameId.{NameId}
-use Rattle.net_text.specs.ReadResults.{Extends, Grows}
+use Rattle.net_text.specs.inside.ReadResults.{Extends, Grows}
 
 pub Extends-itself : (names : List Text) → Extends names names
 Extends-itself names = record { more = []; parts = sym (append-nil names) }

@@ -4,10 +4,10 @@ use Rattle.hw_names.specs.Name.{Text, text_of}
 use Rattle.net_core.specs.Netlist.{Netlist, Line, netlist_of}
 use Rattle.net_core.specs.declared.net.Net.{Net}
 use Rattle.net_text.specs.declared.lines.NetLine.{NetLine}
-use Rattle.net_text.specs.View.{line_of}
-use Rattle.net_text.specs.ReadResults.{Extends}
-use Rattle.net_text.specs.ReadLines.{line_of_text}
-use Rattle.net_text.specs.ReadTexts.{follows, with_line, next_net, netlist_with, IsSettled, empty_net}
+use Rattle.net_text.specs.inside.View.{line_of}
+use Rattle.net_text.specs.inside.ReadResults.{Extends}
+use Rattle.net_text.specs.inside.ReadLines.{line_of_text}
+use Rattle.net_text.specs.inside.ReadTexts.{follows, with_line, next_net, netlist_with, IsSettled, empty_net}
 use Rattle.net_text.proofs.NameLemmas.{Extends-itself, Extends-then}
 
 -- the new net is the old one with the line, whatever names come later

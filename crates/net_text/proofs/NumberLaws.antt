@@ -7,7 +7,7 @@ use Rattle.std.proofs.lemmas.List.{append-nil, length-append, get_or_append_left
 use Rattle.std.proofs.lemmas.Bool.{ltb-true, lt-ltb, eqb-false, ne_eqb, cases_lt}
 use Rattle.std.proofs.lemmas.Fmt.{decimal_digit, decimal_step_wide, decimal_by_steps_wide}
 use Rattle.net_text.specs.Names.{is_number}
-use Rattle.net_text.specs.ReadWords.{◌>>=◌, is_digit, digits_after, number_of}
+use Rattle.net_text.specs.inside.ReadWords.{◌>>=◌, is_digit, digits_after, number_of}
 
 -- a number with a text is short enough for std's lemmas
 pub narrow : (n : ℕ) → is_number n ≡ true → n < 10 ^ 64

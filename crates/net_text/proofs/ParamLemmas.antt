@@ -6,9 +6,9 @@ use Rattle.hw_names.specs.Name.{Text}
 use Rattle.net_text.specs.declared.line_end.LineEnd.{LineEnd}
 use Rattle.net_text.specs.declared.line_end.LineEnd.TheVariants as ends
 use Rattle.net_text.proofs.WordLemmas.{pair_rest}
-use Rattle.net_text.specs.ReadWords.{◌>>=◌, word_len, after, number_at, number_of}
-use Rattle.net_text.specs.ReadResults.{Gives}
-use Rattle.net_text.specs.ReadLines.{param_at, params_of_text}
+use Rattle.net_text.specs.inside.ReadWords.{◌>>=◌, word_len, after, number_at, number_of}
+use Rattle.net_text.specs.inside.ReadResults.{Gives}
+use Rattle.net_text.specs.inside.ReadLines.{param_at, params_of_text}
 
 -- what was read before, and what is still read
 abbrev pub with_front : List ℕ → Option (List ℕ) → Option (List ℕ)

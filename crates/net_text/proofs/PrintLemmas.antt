@@ -11,7 +11,7 @@ use Rattle.net_core.specs.Netlist.{Line, InLine, OutLine, WireLine, CellOf, SetO
 use Rattle.net_core.specs.declared.net.Net.{Net}
 use Rattle.net_core.specs.declared.net.Guard.{Guard}
 use Rattle.net_text.specs.Layout.{guard_text, guards_text, rest_text, pin_text, line_text, ended, net_text}
-use Rattle.net_text.specs.View.{guards_of}
+use Rattle.net_text.specs.inside.View.{guards_of}
 
 -- what was put, said in another way
 pub OnOk-is : {A E : Type 0} (r : Result A E) (new text other : Text) → OnOk r (new ≡ text) → text ≡ other → OnOk r (new ≡ other)

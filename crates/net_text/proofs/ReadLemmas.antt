@@ -8,8 +8,8 @@ use Rattle.hw_names.specs.Name.{Text}
 use Rattle.net_core.specs.Netlist.{netlist_of}
 use Rattle.net_core.specs.declared.net.Net.{Net}
 use Rattle.net_text.specs.Layout.{ended}
-use Rattle.net_text.specs.ReadResults.{Grows}
-use Rattle.net_text.specs.ReadTexts.{IsSettled, IsRead, front_text, first_net, next_net}
+use Rattle.net_text.specs.inside.ReadResults.{Grows}
+use Rattle.net_text.specs.inside.ReadTexts.{IsSettled, IsRead, front_text, first_net, next_net}
 use Rattle.net_text.proofs.TextLaws.{first_takes, next_takes}
 
 pub first_is_read : (bytes line after : Text) (net : Net) → bytes ≡ line ++ 10 ∷ after → length bytes < 2 ^ 32 - 1 → first_net line ≡ Some (netlist_of net) → IsSettled net → Grows [] net.names line [] → IsRead bytes net after

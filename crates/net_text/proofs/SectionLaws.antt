@@ -4,7 +4,7 @@ use Rattle.std.specs.List.{list_all}
 use Rattle.std.proofs.lemmas.Bool.{eqb-true, le-leb, leb-true}
 use Rattle.std.proofs.lemmas.List.{append-nil, nil_from_length, map-append}
 use Rattle.net_core.specs.Netlist.{Netlist, Line, InLine, OutLine, WireLine, CellOf, SetOf, lines_of}
-use Rattle.net_text.specs.ReadTexts.{is_nil, follows, with_line}
+use Rattle.net_text.specs.inside.ReadTexts.{is_nil, follows, with_line}
 use Rattle.net_text.proofs.NumberLaws.{both_true}
 
 abbrev section : Line → ℕ

@@ -8,9 +8,9 @@ use Rattle.net_core.specs.Netlist.{Netlist, Line, InLine, OutLine, WireLine, Cel
 use Rattle.net_text.specs.Layout.{line_text, ended, net_text}
 use Rattle.net_text.specs.Names.{is_segment, line_has_text, HasText}
 use Rattle.net_text.specs.Reading.{Spells, onto_first, whole_lines, joined, IsViable, IsRefusedAt}
-use Rattle.net_text.specs.ReadWords.{◌>>=◌, whole, after, word_at}
-use Rattle.net_text.specs.ReadTexts.{in_line, follows, with_line, next_net, empty_net, first_net, front_text}
-use Rattle.net_text.specs.ReadLines.{line_of_text}
+use Rattle.net_text.specs.inside.ReadWords.{◌>>=◌, whole, after, word_at}
+use Rattle.net_text.specs.inside.ReadTexts.{in_line, follows, with_line, next_net, empty_net, first_net, front_text}
+use Rattle.net_text.specs.inside.ReadLines.{line_of_text}
 use Rattle.net_text.proofs.NumberLaws.{both_true, chosen}
 use Rattle.net_text.proofs.ParamLemmas.{bind_some}
 use Rattle.net_text.proofs.WordLaws.{some_is, either_way, segment_word, after_takes, name_again, name_takes}

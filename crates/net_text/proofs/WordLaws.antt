@@ -10,7 +10,7 @@ use Rattle.net_core.specs.declared.net.Src.{Src}
 use Rattle.net_core.specs.declared.net.Src.TheVariants.{Port, Lit}
 use Rattle.net_text.specs.Layout.{source_text}
 use Rattle.net_text.specs.Names.{begins_name, continues_name, is_segment, is_path, is_rest_of_path, is_number, source_has_text}
-use Rattle.net_text.specs.ReadWords.{◌>>=◌, after, is_digit, is_word_byte, word_len, word_at, number_of, number_at, literal_at, source_at}
+use Rattle.net_text.specs.inside.ReadWords.{◌>>=◌, after, is_digit, is_word_byte, word_len, word_at, number_of, number_at, literal_at, source_at}
 use Rattle.net_text.proofs.NumberLaws.{both_true, chosen, number_takes, number_again, IsText-decimal}
 use Rattle.net_text.proofs.ParamLemmas.{bind_some}
 use Rattle.net_text.proofs.WordLemmas.{pair_rest}

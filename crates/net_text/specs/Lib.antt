@@ -1,10 +1,5 @@
+pub mod inside
 pub use Rattle.net_core.specs.Netlist
 pub mod Layout
 pub mod Names
 pub mod Reading
-pub mod ReadWords
-pub mod ReadGuards
-pub mod ReadLines
-pub mod ReadTexts
-pub mod ReadResults
-pub mod View

@@ -3,9 +3,9 @@ ghost use Rattle.std.specs.Prelude.{◌≡◌, ℕ, zero, ◌+◌, ◌*◌, ◌<
 ghost use Rattle.std.specs.List.{prefix_len};
 ghost use Rattle.hw_names.specs.Name.{Text, text_of};
 ghost use Rattle.net_core.specs.Guard.{GuardTree, source_tree, guard_tree};
-ghost use Rattle.net_text.specs.ReadGuards.{operator_at, test_at, test_from, closed, negated, operands_at, bracket_at, guard_at, is_bang};
-ghost use Rattle.net_text.specs.ReadResults.{Extends, Gives, GivesNamed, Grows, HasRoom};
-ghost use Rattle.net_text.specs.View.{guards_of};
+ghost use Rattle.net_text.specs.inside.ReadGuards.{operator_at, test_at, test_from, closed, negated, operands_at, bracket_at, guard_at, is_bang};
+ghost use Rattle.net_text.specs.inside.ReadResults.{Extends, Gives, GivesNamed, Grows, HasRoom};
+ghost use Rattle.net_text.specs.inside.View.{guards_of};
 
 use crate::line_end::LineEnd;
 use crate::lines::source;
@@ -16,7 +16,7 @@ use net_core::{Cmp, Guard, Src};
 use std::alloc::Global;
 
 /// An operator with the spaces round it, and what follows.
-#[tactic(auto, unfolding(crate::specs::ReadGuards::operator_at))]
+#[tactic(auto, unfolding(crate::specs::inside::ReadGuards::operator_at))]
 fn operator(text: &[u8]) -> Result<(Cmp, &[u8]), LineEnd>
     ensures read { Gives (λ x. (x.0, x.1.now)) result (operator_at text.now) }
     ensures length { IfOk result (λ x. length x.1.now ≤ length text.now) }
@@ -39,7 +39,7 @@ fn operator(text: &[u8]) -> Result<(Cmp, &[u8]), LineEnd>
 }
 
 /// A comparison in brackets, from its operator on, and what follows.
-#[tactic(auto, unfolding(crate::specs::ReadGuards::test_at))]
+#[tactic(auto, unfolding(crate::specs::inside::ReadGuards::test_at))]
 fn test<'a>(
     names: &mut Names,
     left: Src<NameId>,

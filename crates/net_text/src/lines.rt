@@ -5,10 +5,10 @@ ghost use Rattle.hw_prims.specs.Table.{Pin};
 ghost use Rattle.net_core.specs.Guard.{source_tree, guard_tree, guard_option};
 ghost use Rattle.net_core.specs.Netlist.{pin_of, cell_of, set_of};
 ghost use Rattle.net_text.specs.Names.{is_segment, is_path};
-ghost use Rattle.net_text.specs.ReadResults.{GivesNamed, Gives, Grows, HasRoom};
-ghost use Rattle.net_text.specs.ReadLines.{pin_from, pin_of_text, param_at, params_of_text, cell_of_text, guarded_of_text, value_from, value_of_text, set_of_text, line_of_text};
-ghost use Rattle.net_text.specs.ReadWords.{source_at, literal_at};
-ghost use Rattle.net_text.specs.View.{line_of};
+ghost use Rattle.net_text.specs.inside.ReadResults.{GivesNamed, Gives, Grows, HasRoom};
+ghost use Rattle.net_text.specs.inside.ReadLines.{pin_from, pin_of_text, param_at, params_of_text, cell_of_text, guarded_of_text, value_from, value_of_text, set_of_text, line_of_text};
+ghost use Rattle.net_text.specs.inside.ReadWords.{source_at, literal_at};
+ghost use Rattle.net_text.specs.inside.View.{line_of};
 
 use crate::guards::guard;
 use crate::line_end::LineEnd;
@@ -38,7 +38,7 @@ pub fn numbered(names: &mut Names, name: &[u8]) -> Result<NameId, LineEnd>
 }
 
 /// The port of this name, from the space before its width on.
-#[tactic(auto, unfolding(crate::specs::ReadLines::pin_from))]
+#[tactic(auto, unfolding(crate::specs::inside::ReadLines::pin_from))]
 fn port_from(names: &mut Names, name: &[u8], text: &[u8]) -> Result<NetPort, LineEnd>
     requires some { 0 < length name.now }
     requires room { HasRoom names.old name.now }
@@ -51,7 +51,7 @@ fn port_from(names: &mut Names, name: &[u8], text: &[u8]) -> Result<NetPort, Lin
 }
 
 /// An input or an output, after its keyword.
-#[tactic(auto, unfolding(crate::specs::ReadLines::pin_of_text))]
+#[tactic(auto, unfolding(crate::specs::inside::ReadLines::pin_of_text))]
 fn own_port(names: &mut Names, text: &[u8]) -> Result<NetPort, LineEnd>
     requires { HasRoom names.old text.now }
     ensures read { GivesNamed names.new pin_of result (pin_of_text is_segment text.now) }
@@ -62,7 +62,7 @@ fn own_port(names: &mut Names, text: &[u8]) -> Result<NetPort, LineEnd>
 }
 
 /// A wire, after its keyword.
-#[tactic(auto, unfolding(crate::specs::ReadLines::pin_of_text))]
+#[tactic(auto, unfolding(crate::specs::inside::ReadLines::pin_of_text))]
 fn wire(names: &mut Names, text: &[u8]) -> Result<NetPort, LineEnd>
     requires { HasRoom names.old text.now }
     ensures read { GivesNamed names.new pin_of result (pin_of_text is_path text.now) }
@@ -73,7 +73,7 @@ fn wire(names: &mut Names, text: &[u8]) -> Result<NetPort, LineEnd>
 }
 
 /// A parameter, from the space before it on, and what follows.
-#[tactic(auto, unfolding(crate::specs::ReadLines::param_at))]
+#[tactic(auto, unfolding(crate::specs::inside::ReadLines::param_at))]
 fn param(text: &[u8]) -> Result<(u128, &[u8]), LineEnd>
     ensures read { Gives (λ x. (x.0, x.1.now)) result (param_at text.now) }
     ensures length { IfOk result (λ x. length x.1.now < length text.now) }
@@ -96,7 +96,7 @@ fn params(alloc: Global, text: &[u8]) -> Result<Vec<u128>, LineEnd>
 }
 
 /// A cell, after its keyword.
-#[tactic(auto, unfolding(crate::specs::ReadLines::cell_of_text))]
+#[tactic(auto, unfolding(crate::specs::inside::ReadLines::cell_of_text))]
 fn cell(alloc: Global, names: &mut Names, shown: bool, text: &[u8]) -> Result<NetCell, LineEnd>
     requires { HasRoom names.old text.now }
     ensures read { GivesNamed names.new cell_of result (cell_of_text shown text.now) }
@@ -116,7 +116,7 @@ fn cell(alloc: Global, names: &mut Names, shown: bool, text: &[u8]) -> Result<Ne
 }
 
 /// A literal at the front, and what follows.
-#[tactic(auto, unfolding(crate::specs::ReadWords::literal_at))]
+#[tactic(auto, unfolding(crate::specs::inside::ReadWords::literal_at))]
 fn literal(text: &[u8]) -> Result<(Src<NameId>, &[u8]), LineEnd>
     ensures read { GivesNamed [] (λ names x. (source_tree (text_of names) x.0, x.1.now)) result (literal_at text.now) }
     ensures length { IfOk result (λ x. length x.1.now ≤ length text.now) }
@@ -127,7 +127,7 @@ fn literal(text: &[u8]) -> Result<(Src<NameId>, &[u8]), LineEnd>
 }
 
 /// A source at the front, and what follows.
-#[tactic(auto, unfolding(crate::specs::ReadWords::source_at))]
+#[tactic(auto, unfolding(crate::specs::inside::ReadWords::source_at))]
 pub fn source<'a>(names: &mut Names, text: &'a [u8]) -> Result<(Src<NameId>, &'a [u8]), LineEnd>
     requires { HasRoom names.old text.now }
     ensures read { GivesNamed names.new (λ names x. (source_tree (text_of names) x.0, x.1.now)) result (source_at text.now) }
@@ -142,7 +142,7 @@ pub fn source<'a>(names: &mut Names, text: &'a [u8]) -> Result<(Src<NameId>, &'a
 }
 
 /// The source that is taken where a guard is true, from what follows the guard on.
-#[tactic(auto, unfolding(crate::specs::ReadLines::guarded_of_text))]
+#[tactic(auto, unfolding(crate::specs::inside::ReadLines::guarded_of_text))]
 fn guarded(names: &mut Names, text: &[u8]) -> Result<Src<NameId>, LineEnd>
     requires { HasRoom names.old text.now }
     ensures read { GivesNamed names.new (λ names x. source_tree (text_of names) x) result (guarded_of_text text.now) }
@@ -166,7 +166,7 @@ fn unguarded(guard: &Guard<NameId>) -> Result<(Option<Guard<NameId>>, Src<NameId
 }
 
 /// What an assignment takes and when, up to the end.
-#[tactic(auto, unfolding(crate::specs::ReadLines::value_of_text))]
+#[tactic(auto, unfolding(crate::specs::inside::ReadLines::value_of_text))]
 fn value(
     alloc: Global,
     names: &mut Names,
@@ -185,7 +185,7 @@ fn value(
 }
 
 /// An assignment, after its keyword.
-#[tactic(auto, unfolding(crate::specs::ReadLines::set_of_text))]
+#[tactic(auto, unfolding(crate::specs::inside::ReadLines::set_of_text))]
 fn set(alloc: Global, names: &mut Names, text: &[u8]) -> Result<NetAssign, LineEnd>
     requires { HasRoom names.old text.now }
     ensures read { GivesNamed names.new set_of result (set_of_text text.now) }
@@ -199,7 +199,7 @@ fn set(alloc: Global, names: &mut Names, text: &[u8]) -> Result<NetAssign, LineE
 }
 
 /// A line without its line feed.
-#[tactic(auto, unfolding(crate::specs::ReadLines::line_of_text))]
+#[tactic(auto, unfolding(crate::specs::inside::ReadLines::line_of_text))]
 pub fn line(alloc: Global, names: &mut Names, text: &[u8]) -> Result<NetLine, LineEnd>
     requires { HasRoom names.old text.now }
     ensures read { GivesNamed names.new line_of result (line_of_text text.now) }

@@ -3,9 +3,9 @@ ghost use Rattle.std.specs.Prelude.{◌≡◌, ℕ, ◌+◌, ◌<◌, ◌≤◌,
 ghost use Rattle.std.specs.List.{list_all, prefix_len};
 ghost use Rattle.hw_names.specs.Name.{Text};
 ghost use Rattle.net_core.specs.Netlist.{netlist_of};
-ghost use Rattle.net_text.specs.ReadResults.{Gives, Grows, HasRoom};
-ghost use Rattle.net_text.specs.ReadTexts.{in_line, follows, with_line, next_net, first_net, netlist_with, IsSettled};
-ghost use Rattle.net_text.specs.View.{line_of};
+ghost use Rattle.net_text.specs.inside.ReadResults.{Gives, Grows, HasRoom};
+ghost use Rattle.net_text.specs.inside.ReadTexts.{in_line, follows, with_line, next_net, first_net, netlist_with, IsSettled};
+ghost use Rattle.net_text.specs.inside.View.{line_of};
 
 use crate::line_end::LineEnd;
 use crate::lines::{NetLine, line, numbered};
@@ -38,7 +38,7 @@ pub fn split_line(text: &[u8]) -> Option<(&[u8], &[u8])>
 }
 
 /// The netlist of a first line, without its line feed.
-#[tactic(auto, unfolding(crate::specs::ReadTexts::first_net))]
+#[tactic(auto, unfolding(crate::specs::inside::ReadTexts::first_net))]
 pub fn first(alloc: Global, text: &[u8]) -> Result<Net, LineEnd>
     requires { HasRoom [] text.now }
     ensures read { Gives (λ net. netlist_of net) result (first_net text.now) }
@@ -63,7 +63,7 @@ pub fn first(alloc: Global, text: &[u8]) -> Result<Net, LineEnd>
 }
 
 /// Nothing of a later section stands yet.
-#[tactic(auto, unfolding(crate::specs::ReadTexts::follows))]
+#[tactic(auto, unfolding(crate::specs::inside::ReadTexts::follows))]
 fn follows(net: &Net, line: &NetLine) -> bool
     ensures { result ≡ follows (netlist_of net.now) (line_of net.now.names line.now) }
 {
@@ -82,7 +82,7 @@ fn follows(net: &Net, line: &NetLine) -> bool
 }
 
 /// Adds the line at the end of its section.
-#[tactic(auto, unfolding(crate::specs::ReadTexts::with_line))]
+#[tactic(auto, unfolding(crate::specs::inside::ReadTexts::with_line))]
 fn push(net: &mut Net, line: NetLine) -> Result<(), Memory>
     ensures lines { OnOk result ((names : List Text) → netlist_with names net.new ≡ with_line (netlist_with names net.old) (line_of names line)) }
     ensures names { net.new.names ≡ net.old.names }
@@ -98,7 +98,7 @@ fn push(net: &mut Net, line: NetLine) -> Result<(), Memory>
 }
 
 /// Adds a line, without its line feed.
-#[tactic(auto, unfolding(crate::specs::ReadTexts::next_net))]
+#[tactic(auto, unfolding(crate::specs::inside::ReadTexts::next_net))]
 pub fn add_line(alloc: Global, net: &mut Net, text: &[u8]) -> Result<(), LineEnd>
     requires settled { IsSettled net.old }
     requires room { HasRoom net.old.names text.now }

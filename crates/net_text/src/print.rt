@@ -4,7 +4,7 @@ ghost use Rattle.hw_names.specs.Name.{text_of};
 ghost use Rattle.net_core.specs.Guard.{Compares, source_tree, guard_tree, guard_option};
 ghost use Rattle.net_core.specs.Netlist.{pin_of, cell_of, set_of, netlist_of, CellOf, SetOf};
 ghost use Rattle.net_core.specs.Numbers.{IsNumberOf, SourceHasNumbers, GuardHasNumbers, WhenHasNumbers, PortHasNumbers, CellHasNumbers, SetHasNumbers, HasNumbers};
-ghost use Rattle.net_text.specs.View.{guards_of};
+ghost use Rattle.net_text.specs.inside.View.{guards_of};
 ghost use Rattle.net_text.specs.Layout.{source_text, operator_text, guard_text, guards_text, when_text, pin_text, parameters_text, line_text, ended, net_text};
 
 use hw_bits::Memory;

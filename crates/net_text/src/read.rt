@@ -4,7 +4,7 @@ ghost use Rattle.hw_names.specs.Name.{Text};
 ghost use Rattle.net_core.specs.Netlist.{Netlist, netlist_of};
 ghost use Rattle.net_core.specs.Numbers.{HasNumbers};
 ghost use Rattle.net_text.specs.Reading.{Spells, Refuses};
-ghost use Rattle.net_text.specs.ReadTexts.{IsRead};
+ghost use Rattle.net_text.specs.inside.ReadTexts.{IsRead};
 
 use crate::line_end::LineEnd;
 use crate::net_text_end::NetTextEnd;

@@ -2,8 +2,8 @@
 ghost use Rattle.std.specs.Prelude.{◌≡◌, ℕ, ◌+◌, ◌<◌, ◌≤◌, length, take, drop, Option, option_copied, IfOk, IfSome};
 ghost use Rattle.std.specs.List.{list_all};
 ghost use Rattle.net_text.specs.Names.{begins_name, continues_name, is_segment, is_path};
-ghost use Rattle.net_text.specs.ReadResults.{Gives};
-ghost use Rattle.net_text.specs.ReadWords.{after, is_word_byte, word_len, word_at, digits_after, number_of, number_at, whole};
+ghost use Rattle.net_text.specs.inside.ReadResults.{Gives};
+ghost use Rattle.net_text.specs.inside.ReadWords.{after, is_word_byte, word_len, word_at, digits_after, number_of, number_at, whole};
 
 use crate::line_end::LineEnd;
 
@@ -92,7 +92,7 @@ pub fn expect<'a>(text: &'a [u8], mark: &[u8]) -> Result<&'a [u8], LineEnd>
 }
 
 /// A segment at the front, and what follows.
-#[tactic(auto, unfolding(crate::specs::ReadWords::word_at))]
+#[tactic(auto, unfolding(crate::specs::inside::ReadWords::word_at))]
 pub fn segment(text: &[u8]) -> Result<(&[u8], &[u8]), LineEnd>
     ensures read { Gives (λ x. (x.0.now, x.1.now)) result (word_at is_segment text.now) }
     ensures some { IfOk result (λ x. 0 < length x.0.now) }
@@ -106,7 +106,7 @@ pub fn segment(text: &[u8]) -> Result<(&[u8], &[u8]), LineEnd>
 }
 
 /// A path at the front, and what follows.
-#[tactic(auto, unfolding(crate::specs::ReadWords::word_at))]
+#[tactic(auto, unfolding(crate::specs::inside::ReadWords::word_at))]
 pub fn path(text: &[u8]) -> Result<(&[u8], &[u8]), LineEnd>
     ensures read { Gives (λ x. (x.0.now, x.1.now)) result (word_at is_path text.now) }
     ensures some { IfOk result (λ x. 0 < length x.0.now) }
@@ -136,7 +136,7 @@ fn digits(word: &[u8]) -> Option<u128>
 }
 
 /// The number that a word writes without leading zeros, below `2 ^ 128`.
-#[tactic(auto, unfolding(crate::specs::ReadWords::number_of))]
+#[tactic(auto, unfolding(crate::specs::inside::ReadWords::number_of))]
 fn number_of(word: &[u8]) -> Option<u128>
     ensures { result ≡ number_of word.now }
 {
@@ -147,7 +147,7 @@ fn number_of(word: &[u8]) -> Option<u128>
 }
 
 /// A number at the front, and what follows.
-#[tactic(auto, unfolding(crate::specs::ReadWords::number_at))]
+#[tactic(auto, unfolding(crate::specs::inside::ReadWords::number_at))]
 pub fn number(text: &[u8]) -> Result<(u128, &[u8]), LineEnd>
     ensures read { Gives (λ x. (x.0, x.1.now)) result (number_at text.now) }
     ensures length { IfOk result (λ x. length x.1.now ≤ length text.now) }

@@ -8,7 +8,7 @@ use Rattle.hw_names.specs.Name.{Text}
 use Rattle.net_core.specs.Netlist.{Netlist, SetLine, set_of}
 use Rattle.net_core.specs.Rules.{PortLine, ports_of}
 use Rattle.net_core.specs.declared.net.NetAssign.{NetAssign}
-use Rattle.ver_print.specs.Drivers.{picked}
+use Rattle.ver_print.specs.inside.Drivers.{picked}
 use Rattle.ver_print.specs.Values.{drive_line, drives_text, guarded_text, sets_to, source_text, value_text}
 use Rattle.ver_print.specs.Words.{escaped}
 

@@ -12,7 +12,7 @@ use Rattle.hw_names.specs.Name.{AreDistinct, Text, text_of}
 use Rattle.net_core.specs.Netlist.{SetLine, set_of}
 use Rattle.net_core.specs.Numbers.{SetHasNumbers}
 use Rattle.net_core.specs.declared.net.NetAssign.{NetAssign}
-use Rattle.ver_print.specs.Drivers.{entries_of, picked}
+use Rattle.ver_print.specs.inside.Drivers.{entries_of, picked}
 use Rattle.ver_print.specs.Values.{sets_to}
 
 abbrev entry : NetAssign → ℕ → Entry

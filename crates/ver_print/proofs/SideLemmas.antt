@@ -11,7 +11,7 @@ use Rattle.net_core.specs.Netlist.{CellLine, SetLine, Line, InLine, OutLine, Wir
 use Rattle.net_core.specs.Rules.{PortLine, cell_input, cell_output, unsized, ports_at, ports_from, ports_of}
 use Rattle.net_core.specs.declared.net.Net.{Net}
 use Rattle.net_core.specs.declared.net.NetCell.{NetCell}
-use Rattle.ver_print.specs.Sides.{cell_sides}
+use Rattle.ver_print.specs.inside.Sides.{cell_sides}
 
 abbrev sides : List PortLine → List Bool
 sides ports = map (λ (p : PortLine). p.writable) ports

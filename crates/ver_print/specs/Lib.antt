@@ -1,10 +1,6 @@
+pub mod inside
 pub mod Words
 pub mod Ports
 pub mod Values
-pub mod Pieces
-pub mod Sides
-pub mod Drivers
-pub mod Putting
 pub mod Cells
-pub mod Shapes
 pub mod Verilog

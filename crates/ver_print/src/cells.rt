@@ -4,7 +4,7 @@ ghost use Rattle.hw_names.specs.Name.{text_of};
 ghost use Rattle.net_core.specs.Netlist.{cell_of};
 ghost use Rattle.net_core.specs.Numbers.{CellHasNumbers};
 ghost use Rattle.ver_print.specs.Cells.{bits_text, cell_lines, cell_text, choice, concatenation, operation, shows, simple_lines};
-ghost use Rattle.ver_print.specs.Pieces.{pieces_text};
+ghost use Rattle.ver_print.specs.inside.Pieces.{pieces_text};
 ghost use Rattle.ver_print.specs.Words.{inner_line, literal, part};
 
 use crate::memories::{Shape, put_memory};

@@ -6,8 +6,8 @@ ghost use Rattle.net_core.specs.Netlist.{netlist_of, set_of};
 ghost use Rattle.net_core.specs.Numbers.{HasNumbers, SetHasNumbers};
 ghost use Rattle.net_core.specs.Rules.{PortLine, ports_of};
 ghost use Rattle.net_core.specs.Table.{IsTableOf};
-ghost use Rattle.ver_print.specs.Drivers.{AreDrivers, entries_of, picked};
-ghost use Rattle.ver_print.specs.Putting.{PutsGuarded};
+ghost use Rattle.ver_print.specs.inside.Drivers.{AreDrivers, entries_of, picked};
+ghost use Rattle.ver_print.specs.inside.Putting.{PutsGuarded};
 ghost use Rattle.ver_print.specs.Values.{drive_line, drives_text, guard_text, sets_to, source_text, value_text};
 ghost use Rattle.ver_print.specs.Words.{zeros};
 

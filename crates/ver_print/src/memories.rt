@@ -1,7 +1,7 @@
 //! The lines of memories.
 ghost use Rattle.std.specs.Prelude.{◌≡◌, ◌++◌, decimal, flat_map, OnOk};
 ghost use Rattle.ver_print.specs.Cells.{memory_edge, memory_lines, memory_read, memory_start, memory_words};
-ghost use Rattle.ver_print.specs.Shapes.{count_of, place_text, within_text};
+ghost use Rattle.ver_print.specs.inside.Shapes.{count_of, place_text, within_text};
 ghost use Rattle.ver_print.specs.Words.{inner_line};
 
 use crate::pieces::Piece::{Number, Part, Words};

@@ -1,6 +1,6 @@
 //! Lines of a cell, piece by piece.
 ghost use Rattle.std.specs.Prelude.{◌≡◌, ◌++◌, OnOk};
-ghost use Rattle.ver_print.specs.Pieces.{piece_text, pieces_text};
+ghost use Rattle.ver_print.specs.inside.Pieces.{piece_text, pieces_text};
 ghost use Rattle.ver_print.specs.Words.{inner_line, part};
 
 use crate::put::{put, put_number};

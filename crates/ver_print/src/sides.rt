@@ -3,7 +3,7 @@ ghost use Rattle.std.specs.Prelude.{◌≡◌, ◌++◌, All, flat_map, map, rep
 ghost use Rattle.net_core.specs.Netlist.{cell_of, netlist_of};
 ghost use Rattle.net_core.specs.Numbers.{CellHasNumbers, HasNumbers};
 ghost use Rattle.net_core.specs.Rules.{PortLine, ports_of};
-ghost use Rattle.ver_print.specs.Sides.{cell_sides};
+ghost use Rattle.ver_print.specs.inside.Sides.{cell_sides};
 
 use hw_bits::Memory;
 use hw_names::Names;

@@ -2,7 +2,7 @@ use Rattle.std.proofs.Common.{◌≡◌, ◌-◌, length, List, Bool, [], ◌∷
 use Rattle.hw_grammar.specs.Reading.{with_front, times, after, many}
 use Rattle.hw_grammar.specs.declared.sort.Sort.TheVariants.{Comma}
 use Rattle.cal_parse.specs.Grammar.{is_some_true}
-use Rattle.cal_parse.specs.Reading.{angle_entry_at}
+use Rattle.cal_parse.specs.inside.Reading.{angle_entry_at}
 use Rattle.cal_parse.proofs.attribute.more_entries.Given as goal
 
 abbrev pub invariant-loop : goal.invariant-loop

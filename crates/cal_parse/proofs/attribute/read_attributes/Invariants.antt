@@ -2,7 +2,7 @@ use Rattle.std.proofs.Common.{◌≡◌, ◌-◌, length, List, Bool, [], ◌∷
 use Rattle.hw_grammar.specs.Reading.{with_front, times, after, many}
 use Rattle.hw_grammar.specs.declared.sort.Sort.TheVariants.{At}
 use Rattle.cal_parse.specs.Grammar.{is_some_true}
-use Rattle.cal_parse.specs.Reading.{attribute_at}
+use Rattle.cal_parse.specs.inside.Reading.{attribute_at}
 use Rattle.cal_parse.proofs.attribute.read_attributes.Given as goal
 
 abbrev pub invariant-loop : goal.invariant-loop

@@ -5,7 +5,7 @@ use Rattle.hw_names.specs.Name.{Text}
 use Rattle.hw_grammar.proofs.Loop.{list_tail_goes_on, list_tail_stops, list_tail_trails, list_tail_unmarked, list_tail_fails, list_tail_ends, list_tail_runs_out}
 use Rattle.hw_grammar.specs.declared.sort.Sort.TheVariants.{Comma, Name}
 use Rattle.cal_ast.specs.Tree.{in_tree}
-use Rattle.cal_parse.specs.Reading.{in_binding_at}
+use Rattle.cal_parse.specs.inside.Reading.{in_binding_at}
 use Rattle.cal_parse.proofs.binding.more_in_bindings.Goals as goal
 
 pub loop-preserved : goal.loop-preserved

@@ -3,7 +3,7 @@ use Rattle.hw_names.specs.Name.{Text}
 use Rattle.hw_grammar.specs.Reading.{with_front, list_tail_times, list_tail}
 use Rattle.hw_grammar.specs.declared.sort.Sort.TheVariants.{Comma, Name}
 use Rattle.cal_ast.specs.Tree.{in_tree}
-use Rattle.cal_parse.specs.Reading.{in_binding_at}
+use Rattle.cal_parse.specs.inside.Reading.{in_binding_at}
 use Rattle.cal_parse.proofs.binding.more_in_bindings.Given as goal
 
 abbrev pub invariant-loop : goal.invariant-loop

@@ -4,7 +4,7 @@ use Rattle.std.proofs.lemmas.Result.{err_from_is_err_and}
 use Rattle.hw_names.specs.Name.{Text}
 use Rattle.hw_grammar.proofs.Loop.{goes_on, stops, fails, ends, runs_out}
 use Rattle.hw_grammar.specs.declared.sort.Sort.TheVariants.{Comma}
-use Rattle.cal_parse.specs.Reading.{more_number_at}
+use Rattle.cal_parse.specs.inside.Reading.{more_number_at}
 use Rattle.cal_parse.proofs.cell.more_numbers.Goals as goal
 
 pub returns-then-not-starts : goal.returns-then-not-starts

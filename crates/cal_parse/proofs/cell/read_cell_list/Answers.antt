@@ -4,7 +4,7 @@ use Rattle.std.proofs.lemmas.Result.{err_from_is_err_and}
 use Rattle.hw_names.specs.Name.{Text}
 use Rattle.hw_grammar.proofs.Loop.{goes_on, stops, fails, ends, runs_out}
 use Rattle.cal_ast.specs.Tree.{cell_tree}
-use Rattle.cal_parse.specs.Reading.{pin_set, cell_at}
+use Rattle.cal_parse.specs.inside.Reading.{pin_set, cell_at}
 use Rattle.cal_parse.proofs.cell.read_cell_list.Goals as goal
 
 pub returns-then-not-starts_named : goal.returns-then-not-starts_named

@@ -1,7 +1,7 @@
 use Rattle.std.proofs.Common.{◌≡◌, ◌-◌, length, List, [], ◌∷◌}
 use Rattle.hw_grammar.specs.Reading.{with_front, times, many}
 use Rattle.hw_grammar.specs.declared.sort.Sort.TheVariants.{Import}
-use Rattle.cal_parse.specs.Reading.{import_at}
+use Rattle.cal_parse.specs.inside.Reading.{import_at}
 use Rattle.cal_parse.proofs.component.after_imports.Given as goal
 
 abbrev pub invariant-loop : goal.invariant-loop

@@ -4,7 +4,7 @@ use Rattle.std.proofs.lemmas.Result.{err_from_is_err_and}
 use Rattle.hw_names.specs.Name.{Text}
 use Rattle.hw_grammar.proofs.Loop.{goes_on, stops, fails, ends, runs_out}
 use Rattle.cal_ast.specs.Tree.{component_tree}
-use Rattle.cal_parse.specs.Reading.{component_set, component_at}
+use Rattle.cal_parse.specs.inside.Reading.{component_set, component_at}
 use Rattle.cal_parse.proofs.component.more_components.Goals as goal
 
 pub returns-then-not-starts_component : goal.returns-then-not-starts_component

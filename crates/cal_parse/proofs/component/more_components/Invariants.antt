@@ -2,7 +2,7 @@ use Rattle.std.proofs.Common.{◌≡◌, ◌-◌, List, length, [], ◌∷◌, m
 use Rattle.hw_names.specs.Name.{Text}
 use Rattle.hw_grammar.specs.Reading.{with_front, times, many}
 use Rattle.cal_ast.specs.Tree.{component_tree}
-use Rattle.cal_parse.specs.Reading.{component_set, component_at}
+use Rattle.cal_parse.specs.inside.Reading.{component_set, component_at}
 use Rattle.cal_parse.proofs.component.more_components.Given as goal
 
 abbrev pub invariant-loop : goal.invariant-loop

@@ -2,7 +2,7 @@ use Rattle.std.proofs.Common.{◌≡◌, ◌+◌, ◌*◌, ◌-◌, List, length
 use Rattle.hw_names.specs.Name.{Text}
 use Rattle.hw_grammar.specs.Reading.{with_front, times, many}
 use Rattle.cal_ast.specs.Tree.{statement_tree}
-use Rattle.cal_parse.specs.Reading.{statement_set, statement_to}
+use Rattle.cal_parse.specs.inside.Reading.{statement_set, statement_to}
 use Rattle.cal_parse.proofs.control.+statements.Given as goal
 
 abbrev pub decreases-read_statement : goal.decreases-read_statement

@@ -3,7 +3,7 @@ use Rattle.hw_names.specs.Name.{Text}
 use Rattle.hw_grammar.specs.Reading.{with_front, times, many}
 use Rattle.cal_ast.specs.Tree.{assignment_tree, done_tree}
 use Rattle.cal_parse.specs.Grammar.{GroupLine, assignments_in, dones_in}
-use Rattle.cal_parse.specs.Reading.{pin_set, line_at}
+use Rattle.cal_parse.specs.inside.Reading.{pin_set, line_at}
 use Rattle.cal_parse.proofs.group.read_lines.Given as goal
 
 abbrev pub invariant-loop : goal.invariant-loop

@@ -3,7 +3,7 @@ use Rattle.hw_names.specs.Name.{Text}
 use Rattle.hw_grammar.specs.Reading.{with_front, times, many}
 use Rattle.cal_ast.specs.Tree.{group_tree, assignment_tree}
 use Rattle.cal_parse.specs.Grammar.{Wire, groups_in, sets_in}
-use Rattle.cal_parse.specs.Reading.{wire_set, wire_at}
+use Rattle.cal_parse.specs.inside.Reading.{wire_set, wire_at}
 use Rattle.cal_parse.proofs.group.read_wire_list.Given as goal
 
 abbrev pub invariant-loop : goal.invariant-loop

@@ -4,7 +4,7 @@ use Rattle.hw_grammar.specs.Reading.{with_front, times, after, many}
 use Rattle.hw_grammar.specs.declared.sort.Sort.TheVariants.{And, Or}
 use Rattle.net_core.specs.Guard.{guard_tree}
 use Rattle.cal_ast.specs.Tree.{port_tree}
-use Rattle.cal_parse.specs.Reading.{unit_by, conjunction_by, guard_to}
+use Rattle.cal_parse.specs.inside.Reading.{unit_by, conjunction_by, guard_to}
 use Rattle.cal_parse.proofs.guard.+guards.Given as goal
 
 abbrev pub decreases-read_guard : goal.decreases-read_guard

@@ -2,7 +2,7 @@ use Rattle.std.proofs.Common.{◌≡◌, List}
 use Rattle.hw_names.specs.Name.{Text}
 use Rattle.net_core.specs.Guard.{guard_tree}
 use Rattle.cal_ast.specs.Tree.{port_tree}
-use Rattle.cal_parse.specs.Reading.{negated}
+use Rattle.cal_parse.specs.inside.Reading.{negated}
 use Rattle.cal_parse.proofs.guard.negate.Given as goal
 
 abbrev pub invariant-loop : goal.invariant-loop

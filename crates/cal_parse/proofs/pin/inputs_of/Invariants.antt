@@ -2,7 +2,7 @@ use Rattle.std.proofs.Common.{◌≡◌, List, map, take}
 use Rattle.hw_names.specs.Name.{Text}
 use Rattle.cal_ast.specs.Tree.{pin_tree}
 use Rattle.cal_parse.specs.Grammar.{inputs_from}
-use Rattle.cal_parse.specs.Pins.{meant_tree}
+use Rattle.cal_parse.specs.inside.Pins.{meant_tree}
 use Rattle.cal_parse.proofs.pin.inputs_of.Given as goal
 
 abbrev pub invariant-loop-meant : goal.invariant-loop-meant

@@ -4,8 +4,8 @@ use Rattle.std.proofs.lemmas.Result.{err_from_is_err_and}
 use Rattle.hw_names.specs.Name.{Text}
 use Rattle.hw_grammar.proofs.Loop.{list_tail_goes_on, list_tail_stops, list_tail_trails, list_tail_unmarked, list_tail_fails, list_tail_ends, list_tail_runs_out}
 use Rattle.hw_grammar.specs.declared.sort.Sort.TheVariants.{Comma}
-use Rattle.cal_parse.specs.Pins.{meant_tree}
-use Rattle.cal_parse.specs.Reading.{pin_set, pin_at}
+use Rattle.cal_parse.specs.inside.Pins.{meant_tree}
+use Rattle.cal_parse.specs.inside.Reading.{pin_set, pin_at}
 use Rattle.cal_parse.proofs.pin.more_pins.Goals as goal
 
 pub loop-preserved : goal.loop-preserved

@@ -2,8 +2,8 @@ use Rattle.std.proofs.Common.{◌≡◌, ◌-◌, List, length, [], ◌∷◌, m
 use Rattle.hw_names.specs.Name.{Text}
 use Rattle.hw_grammar.specs.Reading.{with_front, list_tail_times, list_tail}
 use Rattle.hw_grammar.specs.declared.sort.Sort.TheVariants.{Comma}
-use Rattle.cal_parse.specs.Pins.{meant_tree}
-use Rattle.cal_parse.specs.Reading.{pin_set, pin_at}
+use Rattle.cal_parse.specs.inside.Pins.{meant_tree}
+use Rattle.cal_parse.specs.inside.Reading.{pin_set, pin_at}
 use Rattle.cal_parse.proofs.pin.more_pins.Given as goal
 
 abbrev pub invariant-loop : goal.invariant-loop

@@ -2,7 +2,7 @@ use Rattle.std.proofs.Common.{◌≡◌, ℕ, ◌+◌, ◌<◌, length, take, If
 use Rattle.std.proofs.lemmas.List.{take_all}
 use Rattle.std.proofs.lemmas.List.Elements.{All-same}
 use Rattle.cal_ast.specs.Plan.{AtOnce, NoPlans}
-use Rattle.cal_walk.specs.Marking.{AreApart}
+use Rattle.cal_walk.specs.Marking.{HaveOwnMarks}
 use Rattle.cal_walk.specs.Trees.{plan_tree, IsWithin}
 use Rattle.cal_walk.specs.declared.plan.Plan.{the_lemmas}
 use Rattle.cal_walk.proofs.FirstLemmas.{all_over}
@@ -59,7 +59,7 @@ mark_start-mark_tested-requires t c =
 
 pub mark_start-returns-in-Chooses-clause-marks : goal.mark_start-returns-in-Chooses-clause-marks
 mark_start-returns-in-Chooses-clause-marks t c = λ f h apart.
-    chooses_wanted f h c.args.marks.now c.mark_tested.new.marks c.args.plan.now _ c.in-Chooses.by _ _ c.in-Chooses.is (c.mark_tested.ensures.tested f (subst (AreApart f) (sym c.requires.sized) apart)) c.mark_tested.ensures.enabled
+    chooses_wanted f h c.args.marks.now c.mark_tested.new.marks c.args.plan.now _ c.in-Chooses.by _ _ c.in-Chooses.is (c.mark_tested.ensures.tested f (subst (HaveOwnMarks f) (sym c.requires.sized) apart)) c.mark_tested.ensures.enabled
 
 pub mark_start-mark_tested-requires-in-Repeats : goal.mark_start-mark_tested-requires-in-Repeats
 mark_start-mark_tested-requires-in-Repeats t c =
@@ -68,7 +68,7 @@ mark_start-mark_tested-requires-in-Repeats t c =
 
 pub mark_start-returns-in-Repeats-clause-marks : goal.mark_start-returns-in-Repeats-clause-marks
 mark_start-returns-in-Repeats-clause-marks t c = λ f h apart.
-    repeats_wanted f h c.args.marks.now c.mark_tested-in-Repeats.new.marks c.args.plan.now _ c.in-Repeats.by _ c.in-Repeats.is (c.mark_tested-in-Repeats.ensures.tested f (subst (AreApart f) (sym c.requires.sized) apart)) c.mark_tested-in-Repeats.ensures.enabled
+    repeats_wanted f h c.args.marks.now c.mark_tested-in-Repeats.new.marks c.args.plan.now _ c.in-Repeats.by _ c.in-Repeats.is (c.mark_tested-in-Repeats.ensures.tested f (subst (HaveOwnMarks f) (sym c.requires.sized) apart)) c.mark_tested-in-Repeats.ensures.enabled
 
 -- ---- the first that takes a row
 

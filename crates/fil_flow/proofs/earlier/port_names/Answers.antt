@@ -2,7 +2,7 @@ use Rattle.std.proofs.Common.{Ok, List, map, ap, ◌∙◌}
 use Rattle.std.proofs.lemmas.List.{take_all}
 use Rattle.fil_ast.specs.Tree.{port_tree}
 use Rattle.fil_ast.specs.declared.tree.FilPort.{FilPort}
-use Rattle.fil_flow.specs.Body.{data_names}
+use Rattle.fil_flow.specs.inside.Body.{data_names}
 use Rattle.fil_flow.proofs.PortLemmas.{port_more}
 use Rattle.fil_flow.proofs.earlier.port_names.Goals as goal
 

@@ -1,7 +1,7 @@
 use Rattle.std.proofs.Common.{◌≡◌, map, take}
 use Rattle.hw_names.specs.Name.{AreDistinct}
 use Rattle.fil_ast.specs.Tree.{port_tree}
-use Rattle.fil_flow.specs.Body.{data_names}
+use Rattle.fil_flow.specs.inside.Body.{data_names}
 use Rattle.fil_flow.proofs.earlier.port_names.Given as goal
 
 abbrev pub invariant-loop-port : goal.invariant-loop-port

@@ -1,6 +1,6 @@
 use Rattle.std.proofs.Common.{◌≡◌, List, ◌++◌, take}
 use Rattle.hw_bits.specs.declared.bits.Bits.{Bits}
-use Rattle.fil_flow.specs.Frames.{AreFrom}
+use Rattle.fil_flow.specs.inside.Frames.{AreFrom}
 use Rattle.fil_flow.proofs.machine.append_values.Given as goal
 
 -- the values from the sources so far are added

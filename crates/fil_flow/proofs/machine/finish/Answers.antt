@@ -1,6 +1,6 @@
 use Rattle.std.proofs.Common.{List, arith, subst}
 use Rattle.hw_bits.specs.declared.bits.Bits.{Bits}
-use Rattle.fil_flow.specs.Frames.{AreFrom}
+use Rattle.fil_flow.specs.inside.Frames.{AreFrom}
 use Rattle.fil_flow.proofs.FrameLemmas.{goes_on_value, goes_on_stands, done_widths}
 use Rattle.fil_flow.proofs.machine.finish.Goals as goal
 

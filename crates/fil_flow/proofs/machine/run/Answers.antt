@@ -1,7 +1,7 @@
 use Rattle.std.proofs.Common.{◌≡◌, length, Some, refl, sym, ap, ◌∙◌, subst}
 use Rattle.std.specs.Prelude.{slice_get}
 use Rattle.std.proofs.lemmas.Option.{slice_get_read, slice_get_within}
-use Rattle.fil_flow.specs.Frames.{RunStands, value_of_run}
+use Rattle.fil_flow.specs.inside.Frames.{RunStands, value_of_run}
 use Rattle.fil_flow.proofs.FrameLemmas.{start_stands, start_value}
 use Rattle.fil_flow.proofs.machine.run.Goals as goal
 use Rattle.fil_flow.proofs.machine.run.Goals.{After-start-top}

@@ -1,6 +1,6 @@
 use Rattle.std.proofs.Common.{◌≡◌, ℕ, List, Some, slice_get}
 use Rattle.hw_bits.specs.Values.{values_of, widths_of}
-use Rattle.fil_flow.specs.Frames.{StandsOn, steps_left, value_of_run}
+use Rattle.fil_flow.specs.inside.Frames.{StandsOn, steps_left, value_of_run}
 use Rattle.fil_flow.specs.Plans.{IsFlow, PlansFit, Shape}
 use Rattle.fil_flow.specs.declared.machine.Progress.TheVariants.{Under}
 use Rattle.fil_flow.proofs.machine.run.Given as goal

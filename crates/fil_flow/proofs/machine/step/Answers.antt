@@ -5,7 +5,7 @@ use Rattle.std.proofs.lemmas.Result.{IfOk-weaker}
 use Rattle.hw_bits.specs.Values.{values_of, widths_of}
 use Rattle.hw_bits.specs.declared.bits.Bits.{Bits}
 use Rattle.hw_prims.specs.Filament.{primitive_flow}
-use Rattle.fil_flow.specs.Frames.{AreFrom, StandsOn, given_over, steps_left, value_of_run, waiting_cost}
+use Rattle.fil_flow.specs.inside.Frames.{AreFrom, StandsOn, given_over, steps_left, value_of_run, waiting_cost}
 use Rattle.fil_flow.specs.Plans.{PlansFit, Shape}
 use Rattle.fil_flow.specs.declared.machine.Progress.{Progress}
 use Rattle.fil_flow.specs.declared.machine.Progress.TheVariants.{Under}

@@ -1,6 +1,6 @@
 use Rattle.std.proofs.Common.{List, subst}
 use Rattle.hw_bits.specs.declared.bits.Bits.{Bits}
-use Rattle.fil_flow.specs.Frames.{AreFrom}
+use Rattle.fil_flow.specs.inside.Frames.{AreFrom}
 use Rattle.fil_flow.proofs.machine.with_outputs.Goals as goal
 
 pub returns-clause-values : goal.returns-clause-values

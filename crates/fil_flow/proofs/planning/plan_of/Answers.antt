@@ -5,7 +5,7 @@ use Rattle.fil_ast.specs.Items.{TheSignature, scope_after}
 use Rattle.fil_ast.specs.Rules.{F1}
 use Rattle.fil_ast.specs.Tree.{Statement, component_tree, statement_tree}
 use Rattle.fil_ast.specs.declared.tree.Stmt.{Stmt}
-use Rattle.fil_flow.specs.Planning.{IsPlanning}
+use Rattle.fil_flow.specs.inside.Planning.{IsPlanning}
 use Rattle.fil_flow.proofs.PlanningLemmas.{kept_at, planned, planning_step}
 use Rattle.fil_flow.proofs.planning.plan_of.Goals as goal
 

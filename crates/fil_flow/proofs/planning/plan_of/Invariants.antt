@@ -2,8 +2,8 @@ use Rattle.std.proofs.Common.{take}
 use Rattle.fil_ast.specs.Items.{scope_after}
 use Rattle.fil_ast.specs.Rules.{KeepsComponent, all_rules}
 use Rattle.fil_ast.specs.Tree.{Design, component_tree}
-use Rattle.fil_flow.specs.Body.{IsEarlier}
-use Rattle.fil_flow.specs.Planning.{IsPlanning}
+use Rattle.fil_flow.specs.inside.Body.{IsEarlier}
+use Rattle.fil_flow.specs.inside.Planning.{IsPlanning}
 use Rattle.fil_flow.proofs.planning.plan_of.Given as goal
 
 abbrev pub invariant-loop-stmt : goal.invariant-loop-stmt

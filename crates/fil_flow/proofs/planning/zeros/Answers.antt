@@ -5,7 +5,7 @@ use Rattle.std.proofs.Math.Pow.{pow_pos}
 use Rattle.hw_bits.proofs.WidthLemmas.{low_bits-of_lt}
 use Rattle.fil_ast.specs.Tree.{Literal}
 use Rattle.fil_ast.specs.declared.tree.FilPort.{FilPort}
-use Rattle.fil_flow.specs.Body.{IsSourceOf}
+use Rattle.fil_flow.specs.inside.Body.{IsSourceOf}
 use Rattle.fil_flow.specs.declared.plan.Source.{Source}
 use Rattle.fil_flow.proofs.PairLemmas.{zip_push}
 use Rattle.fil_flow.proofs.planning.zeros.Goals as goal

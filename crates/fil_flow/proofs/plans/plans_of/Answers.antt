@@ -3,7 +3,7 @@ use Rattle.std.proofs.lemmas.List.{length-map, length-take}
 use Rattle.fil_ast.specs.Numbers.{ComponentHasNumbers}
 use Rattle.fil_ast.specs.Tree.{Design, component_tree, design_of}
 use Rattle.fil_ast.specs.declared.tree.FilDesign.{FilDesign}
-use Rattle.fil_flow.specs.Body.{IsEarlier}
+use Rattle.fil_flow.specs.inside.Body.{IsEarlier}
 use Rattle.fil_flow.specs.Shown.{ShowPlans}
 use Rattle.fil_flow.specs.declared.plan.Plan.{Plan}
 use Rattle.fil_flow.proofs.FlowLemmas.{new_name}

@@ -1,6 +1,6 @@
 use Rattle.std.proofs.Common.{take}
 use Rattle.fil_ast.specs.Tree.{design_of}
-use Rattle.fil_flow.specs.Body.{IsEarlier}
+use Rattle.fil_flow.specs.inside.Body.{IsEarlier}
 use Rattle.fil_flow.specs.Shown.{ShowPlans}
 use Rattle.fil_flow.proofs.plans.plans_of.Given as goal
 

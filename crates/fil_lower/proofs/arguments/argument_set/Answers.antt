@@ -5,7 +5,7 @@ use Rattle.net_core.specs.Guard.{GuardTree, source_tree}
 use Rattle.net_core.specs.declared.net.Src.{Src}
 use Rattle.cal_ast.specs.Tree.{Assignment, PortName, port_tree}
 use Rattle.fil_sig.specs.Seen.{seen_port}
-use Rattle.fil_lower.specs.Parts.{IsNamedPort, invocation_shown}
+use Rattle.fil_lower.specs.inside.Parts.{IsNamedPort, invocation_shown}
 use Rattle.fil_lower.proofs.KnownLemmas.{callee_port}
 use Rattle.fil_lower.proofs.PlaceLemmas.{port_has, port_shown}
 use Rattle.fil_lower.proofs.arguments.argument_set.Goals as goal

@@ -12,8 +12,8 @@ use Rattle.fil_sig.specs.Seen.{seen_port}
 use Rattle.fil_share.proofs.ListLemmas.{Contains-at}
 use Rattle.fil_share.proofs.Lookup.{at_mapped, got}
 use Rattle.fil_lower.specs.Lowering.{Lowering, argument_set, argument_sets}
-use Rattle.fil_lower.specs.Parts.{invocation_shown}
-use Rattle.fil_lower.specs.Place.{NamesInvocation}
+use Rattle.fil_lower.specs.inside.Parts.{invocation_shown}
+use Rattle.fil_lower.specs.inside.Place.{NamesInvocation}
 use Rattle.fil_lower.proofs.KnownLemmas.{argument_next, args_named}
 use Rattle.fil_lower.proofs.StepLemmas.{All-at}
 use Rattle.fil_lower.proofs.arguments.push_call.Goals.{in-Some+in_ok-argument_set+in_ok-push, in_default}

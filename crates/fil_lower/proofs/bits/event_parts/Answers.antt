@@ -9,7 +9,7 @@ use Rattle.fil_fsm.proofs.FreshLemmas.{KeepsTexts-trans}
 use Rattle.fil_fsm.specs.Chain.{IsShiftRegister}
 use Rattle.fil_fsm.specs.Registers.{PartsHaveNumbers}
 use Rattle.fil_lower.specs.Lowering.{wanted_by}
-use Rattle.fil_lower.specs.Place.{ShowsEvent, greatest, unregistered}
+use Rattle.fil_lower.specs.inside.Place.{ShowsEvent, greatest, unregistered}
 use Rattle.fil_lower.proofs.EventLemmas.{with_register, without_register}
 use Rattle.fil_lower.proofs.PlaceLemmas.{both_ok, own_shown}
 use Rattle.fil_lower.proofs.bits.event_parts.Goals as goal

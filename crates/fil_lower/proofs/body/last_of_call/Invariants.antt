@@ -5,7 +5,7 @@ use Rattle.fil_ast.specs.Tree.{time_tree}
 use Rattle.fil_sig.specs.Seen.{seen_port}
 use Rattle.fil_fsm.specs.declared.shift.TheConstants.{MOST_BITS}
 use Rattle.fil_lower.specs.Lowering.{Lowering, wants_in}
-use Rattle.fil_lower.specs.Place.{greatest}
+use Rattle.fil_lower.specs.inside.Place.{greatest}
 use Rattle.fil_lower.proofs.body.last_of_call.Given as goal
 
 abbrev pub invariant-loop-port : goal.invariant-loop-port

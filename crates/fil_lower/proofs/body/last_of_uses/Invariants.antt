@@ -1,7 +1,7 @@
 use Rattle.std.proofs.Common.{◌≡◌, ◌<◌, map, take}
 use Rattle.fil_share.specs.Uses.{shown_use}
 use Rattle.fil_fsm.specs.declared.shift.TheConstants.{MOST_BITS}
-use Rattle.fil_lower.specs.Place.{greatest, wanted_by_uses}
+use Rattle.fil_lower.specs.inside.Place.{greatest, wanted_by_uses}
 use Rattle.fil_lower.proofs.body.last_of_uses.Given as goal
 
 abbrev pub invariant-loop-used : goal.invariant-loop-used

@@ -11,7 +11,7 @@ use Rattle.fil_fsm.proofs.FreshLemmas.{KeepsTexts-trans}
 use Rattle.fil_share.proofs.Lookup.{at_mapped}
 use Rattle.fil_share.proofs.MakesLemmas.{flat_next}
 use Rattle.fil_lower.specs.Lowering.{lowered_cell}
-use Rattle.fil_lower.specs.Parts.{instance_shown}
+use Rattle.fil_lower.specs.inside.Parts.{instance_shown}
 use Rattle.fil_lower.proofs.KeptLemmas.{cell_numbers, cells_kept}
 use Rattle.fil_lower.proofs.cells.instance_cells.Goals.{in-Some+in_ok-instance_cell+in_ok-push, in_default}
 use Rattle.fil_lower.proofs.cells.instance_cells.Goals as goal

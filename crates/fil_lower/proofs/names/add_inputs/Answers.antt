@@ -6,7 +6,7 @@ use Rattle.fil_ast.specs.Signature.{SigPort}
 use Rattle.fil_fsm.proofs.FreshLemmas.{Contains-KeepsTexts, KeepsTexts-trans}
 use Rattle.fil_sig.specs.Seen.{seen_port}
 use Rattle.fil_share.proofs.Lookup.{at_mapped}
-use Rattle.fil_lower.specs.Parts.{IsNamedPort}
+use Rattle.fil_lower.specs.inside.Parts.{IsNamedPort}
 use Rattle.fil_lower.proofs.StepLemmas.{All-next, whole_taken}
 use Rattle.fil_lower.proofs.names.add_inputs.Goals as goal
 

@@ -1,7 +1,7 @@
 use Rattle.std.proofs.Common.{All, map, take}
 use Rattle.hw_names.specs.Name.{KeepsTexts}
 use Rattle.fil_sig.specs.Seen.{seen_port}
-use Rattle.fil_lower.specs.Parts.{IsNamedPort}
+use Rattle.fil_lower.specs.inside.Parts.{IsNamedPort}
 use Rattle.fil_lower.proofs.names.add_inputs.Given as goal
 
 abbrev pub invariant-loop-port : goal.invariant-loop-port

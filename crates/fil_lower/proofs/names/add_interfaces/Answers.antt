@@ -7,7 +7,7 @@ use Rattle.fil_ast.specs.Signature.{SigEvent}
 use Rattle.fil_fsm.proofs.FreshLemmas.{KeepsTexts-trans}
 use Rattle.fil_sig.specs.Seen.{seen_event}
 use Rattle.fil_share.proofs.Lookup.{at_mapped}
-use Rattle.fil_lower.specs.Parts.{IsNamedEvent}
+use Rattle.fil_lower.specs.inside.Parts.{IsNamedEvent}
 use Rattle.fil_lower.proofs.PortNameLemmas.{still_named}
 use Rattle.fil_lower.proofs.StepLemmas.{All-next, whole_taken}
 use Rattle.fil_lower.proofs.names.add_interfaces.Goals.{in-Some+in_ok-_number, in_default}

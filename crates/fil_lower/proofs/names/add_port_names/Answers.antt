@@ -5,7 +5,7 @@ use Rattle.fil_ast.specs.Signature.{Signature}
 use Rattle.fil_fsm.proofs.FreshLemmas.{Contains-KeepsTexts, KeepsTexts-trans}
 use Rattle.fil_sig.specs.Seen.{seen}
 use Rattle.fil_share.proofs.Lookup.{at_mapped}
-use Rattle.fil_lower.specs.Parts.{IsNamedPort, NamesPorts}
+use Rattle.fil_lower.specs.inside.Parts.{IsNamedPort, NamesPorts}
 use Rattle.fil_lower.proofs.PortNameLemmas.{NamesPorts-kept}
 use Rattle.fil_lower.proofs.StepLemmas.{All-next, whole_taken}
 use Rattle.fil_lower.proofs.names.add_port_names.Goals as goal

@@ -3,7 +3,7 @@ use Rattle.cal_ast.specs.Numbers.{SetHasNumbers}
 use Rattle.cal_ast.specs.Tree.{assignment_tree}
 use Rattle.fil_ast.specs.Scope.{instances_at}
 use Rattle.fil_lower.specs.Lowering.{Lowering, start_sets}
-use Rattle.fil_lower.specs.Place.{ShowsPlace}
+use Rattle.fil_lower.specs.inside.Place.{ShowsPlace}
 use Rattle.fil_lower.proofs.starts.push_starts.Given as goal
 
 abbrev pub invariant-loop-stmt : goal.invariant-loop-stmt

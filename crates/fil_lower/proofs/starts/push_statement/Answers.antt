@@ -12,8 +12,8 @@ use Rattle.fil_ast.specs.Tree.{statement_tree}
 use Rattle.fil_sig.specs.Seen.{seen, seen_event}
 use Rattle.fil_share.proofs.Lookup.{not_found}
 use Rattle.fil_lower.specs.Lowering.{start_sets, start_sets_from}
-use Rattle.fil_lower.specs.Parts.{instance_shown}
-use Rattle.fil_lower.specs.Place.{AreUsesOf}
+use Rattle.fil_lower.specs.inside.Parts.{instance_shown}
+use Rattle.fil_lower.specs.inside.Place.{AreUsesOf}
 use Rattle.fil_lower.proofs.KnownLemmas.{instance_among}
 use Rattle.fil_lower.proofs.starts.push_statement.Goals as goal
 

@@ -12,7 +12,7 @@ use Rattle.fil_share.proofs.ListLemmas.{Contains-at}
 use Rattle.fil_share.specs.Uses.{IsGoodUse}
 use Rattle.fil_share.specs.declared.uses.Use.{Use}
 use Rattle.fil_lower.specs.Lowering.{bit_at}
-use Rattle.fil_lower.specs.Place.{is_of}
+use Rattle.fil_lower.specs.inside.Place.{is_of}
 use Rattle.fil_lower.proofs.UseNumberLemmas.{bits_at, bits_next, is_of_instance, starting, use_at, use_starts}
 use Rattle.fil_lower.proofs.StepLemmas.{All-at, some_read}
 use Rattle.fil_lower.proofs.starts.starting_bits.Goals.{then-used-event+in_ok-push, else-used-event}

@@ -3,7 +3,7 @@ use Rattle.hw_names.specs.Name.{Text}
 use Rattle.cal_ast.specs.Numbers.{PortHasNumbers}
 use Rattle.cal_ast.specs.Tree.{port_tree}
 use Rattle.fil_lower.specs.Lowering.{Lowering}
-use Rattle.fil_lower.specs.Place.{AreUsesOf, ShowsPlace, is_of}
+use Rattle.fil_lower.specs.inside.Place.{AreUsesOf, ShowsPlace, is_of}
 use Rattle.fil_lower.proofs.UseNumberLemmas.{bits_at}
 use Rattle.fil_lower.proofs.starts.starting_bits.Given as goal
 

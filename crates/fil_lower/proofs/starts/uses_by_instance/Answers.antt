@@ -5,7 +5,7 @@ use Rattle.std.proofs.lemmas.Result.{IfOk-weaker}
 use Rattle.hw_graph.specs.Groups.{IsGathered, with_key}
 use Rattle.fil_ast.specs.Naming.{instance_names}
 use Rattle.fil_ast.specs.Scope.{Instance}
-use Rattle.fil_lower.specs.Place.{AreUsesOf, ShowsUses}
+use Rattle.fil_lower.specs.inside.Place.{AreUsesOf, ShowsUses}
 use Rattle.fil_lower.proofs.starts.uses_by_instance.Goals as goal
 
 pub returns : goal.returns

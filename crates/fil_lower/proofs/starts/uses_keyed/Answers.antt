@@ -10,7 +10,7 @@ use Rattle.fil_ast.specs.Naming.{instance_names}
 use Rattle.fil_ast.specs.Scope.{Instance, Scope}
 use Rattle.fil_share.specs.declared.uses.Use.{Use}
 use Rattle.fil_share.proofs.Lookup.{not_found}
-use Rattle.fil_lower.specs.Place.{is_of}
+use Rattle.fil_lower.specs.inside.Place.{is_of}
 use Rattle.fil_lower.proofs.MadeLemmas.{instances_distinct}
 use Rattle.fil_lower.proofs.UseNumberLemmas.{keyed_more, keyed_same}
 use Rattle.fil_lower.proofs.StepLemmas.{some_read}

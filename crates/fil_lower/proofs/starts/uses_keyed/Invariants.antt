@@ -5,7 +5,7 @@ use Rattle.hw_graph.specs.declared.groups.Entry.{Entry}
 use Rattle.fil_ast.specs.Naming.{instance_names}
 use Rattle.fil_ast.specs.Scope.{Scope}
 use Rattle.fil_share.specs.declared.uses.Use.{Use}
-use Rattle.fil_lower.specs.Place.{ShowsBody, is_of}
+use Rattle.fil_lower.specs.inside.Place.{ShowsBody, is_of}
 use Rattle.fil_lower.proofs.starts.uses_keyed.Given as goal
 
 -- each instance has the numbers of its uses so far

@@ -2,7 +2,7 @@ use Rattle.std.proofs.Common.{[], ◌∷◌, ◌++◌, length, sym}
 use Rattle.std.proofs.lemmas.Result.{err_from_is_err_and}
 use Rattle.hw_grammar.specs.declared.sort.Sort.TheVariants.{Import}
 use Rattle.hw_grammar.proofs.Loop.{goes_on, stops, fails, ends, runs_out}
-use Rattle.fil_parse.specs.Reading.{import_at}
+use Rattle.fil_parse.specs.inside.Reading.{import_at}
 use Rattle.fil_parse.proofs.Imports.{dropped, dropped_refused, dropped_fails, unchanged}
 use Rattle.fil_parse.proofs.component.after_imports.Goals as goal
 

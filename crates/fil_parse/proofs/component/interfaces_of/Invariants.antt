@@ -1,7 +1,7 @@
 use Rattle.std.proofs.Common.{◌≡◌, map, take}
 use Rattle.fil_ast.specs.Tree.{interface_tree}
 use Rattle.fil_parse.specs.Grammar.{interfaces_of}
-use Rattle.fil_parse.specs.Inputs.{input_tree}
+use Rattle.fil_parse.specs.inside.Inputs.{input_tree}
 use Rattle.fil_parse.proofs.component.interfaces_of.Given as goal
 
 abbrev pub invariant-loop-input : goal.invariant-loop-input

@@ -1,7 +1,7 @@
 use Rattle.std.proofs.Common.{◌≡◌, ◌-◌, length, [], ◌∷◌, map}
 use Rattle.hw_grammar.specs.Reading.{with_front, times, many}
 use Rattle.hw_grammar.specs.declared.sort.Sort.TheVariants.{Comp}
-use Rattle.fil_parse.specs.Reading.{component_at}
+use Rattle.fil_parse.specs.inside.Reading.{component_at}
 use Rattle.fil_ast.specs.Tree.{component_tree}
 use Rattle.fil_parse.proofs.component.more_components.Given as goal
 

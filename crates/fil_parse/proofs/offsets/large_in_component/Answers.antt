@@ -3,7 +3,7 @@ use Rattle.std.specs.Prelude.{find, flat_map}
 use Rattle.fil_ast.specs.declared.tree.EventDef.{EventDef}
 use Rattle.fil_ast.specs.declared.tree.FilPort.{FilPort}
 use Rattle.fil_ast.specs.declared.tree.Stmt.{Stmt}
-use Rattle.fil_parse.specs.Offsets.{of_events, of_port, of_statement}
+use Rattle.fil_parse.specs.inside.Offsets.{of_events, of_port, of_statement}
 use Rattle.fil_parse.specs.Spelling.{is_large}
 use Rattle.fil_parse.proofs.Finding.{in_first, in_second, in_third, in_fourth}
 use Rattle.fil_parse.proofs.offsets.large_in_component.Goals as goal

@@ -1,5 +1,5 @@
 use Rattle.std.proofs.Common.{sym, refl, get_or}
-use Rattle.fil_parse.specs.Offsets.{of_port}
+use Rattle.fil_parse.specs.inside.Offsets.{of_port}
 use Rattle.fil_parse.specs.Spelling.{is_large}
 use Rattle.fil_parse.proofs.Finding.{found, passed}
 use Rattle.fil_ast.specs.declared.tree.FilPort.{FilPort}

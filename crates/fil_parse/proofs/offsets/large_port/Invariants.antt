@@ -1,6 +1,6 @@
 use Rattle.std.proofs.Common.{◌≡◌, take, None}
 use Rattle.std.specs.Prelude.{find, flat_map}
-use Rattle.fil_parse.specs.Offsets.{of_port}
+use Rattle.fil_parse.specs.inside.Offsets.{of_port}
 use Rattle.fil_parse.specs.Spelling.{is_large}
 use Rattle.fil_parse.proofs.offsets.large_port.Given as goal
 

@@ -1,5 +1,5 @@
 use Rattle.std.proofs.Common.{sym}
-use Rattle.fil_parse.specs.Offsets.{of_statement}
+use Rattle.fil_parse.specs.inside.Offsets.{of_statement}
 use Rattle.fil_parse.specs.Spelling.{is_large}
 use Rattle.fil_parse.proofs.Finding.{found, passed}
 use Rattle.fil_parse.proofs.offsets.large_statement.Goals as goal

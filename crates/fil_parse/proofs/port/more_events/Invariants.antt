@@ -1,7 +1,7 @@
 use Rattle.std.proofs.Common.{◌≡◌, ◌-◌, length, [], ◌∷◌, map}
 use Rattle.hw_grammar.specs.Reading.{with_front, times, many}
 use Rattle.hw_grammar.specs.declared.sort.Sort.TheVariants.{Comma}
-use Rattle.fil_parse.specs.Reading.{more_event_at}
+use Rattle.fil_parse.specs.inside.Reading.{more_event_at}
 use Rattle.fil_ast.specs.Tree.{event_tree}
 use Rattle.fil_parse.proofs.port.more_events.Given as goal
 

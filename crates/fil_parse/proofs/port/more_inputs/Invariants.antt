@@ -1,8 +1,8 @@
 use Rattle.std.proofs.Common.{◌≡◌, ◌-◌, length, [], ◌∷◌, map}
 use Rattle.hw_grammar.specs.Reading.{with_front, list_tail_times, list_tail}
 use Rattle.hw_grammar.specs.declared.sort.Sort.TheVariants.{Comma, At}
-use Rattle.fil_parse.specs.Reading.{input_at}
-use Rattle.fil_parse.specs.Inputs.{input_tree}
+use Rattle.fil_parse.specs.inside.Reading.{input_at}
+use Rattle.fil_parse.specs.inside.Inputs.{input_tree}
 use Rattle.fil_parse.proofs.port.more_inputs.Given as goal
 
 abbrev pub invariant-loop : goal.invariant-loop

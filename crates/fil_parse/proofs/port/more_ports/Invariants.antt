@@ -1,7 +1,7 @@
 use Rattle.std.proofs.Common.{◌≡◌, ◌-◌, length, [], ◌∷◌, map}
 use Rattle.hw_grammar.specs.Reading.{with_front, list_tail_times, list_tail}
 use Rattle.hw_grammar.specs.declared.sort.Sort.TheVariants.{Comma, At}
-use Rattle.fil_parse.specs.Reading.{port_at}
+use Rattle.fil_parse.specs.inside.Reading.{port_at}
 use Rattle.fil_ast.specs.Tree.{port_tree}
 use Rattle.fil_parse.proofs.port.more_ports.Given as goal
 

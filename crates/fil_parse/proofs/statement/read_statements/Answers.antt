@@ -3,7 +3,7 @@ use Rattle.std.proofs.lemmas.List.{map_push}
 use Rattle.std.proofs.lemmas.Result.{err_from_is_err_and}
 use Rattle.hw_grammar.proofs.Loop.{goes_on, stops, fails}
 use Rattle.hw_grammar.specs.declared.sort.Sort.TheVariants.{Name}
-use Rattle.fil_parse.specs.Reading.{statement_at}
+use Rattle.fil_parse.specs.inside.Reading.{statement_at}
 use Rattle.fil_ast.specs.Tree.{statement_tree}
 use Rattle.fil_parse.proofs.statement.read_statements.Goals as goal
 

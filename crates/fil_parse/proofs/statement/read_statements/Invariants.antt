@@ -1,7 +1,7 @@
 use Rattle.std.proofs.Common.{◌≡◌, ◌-◌, length, [], ◌∷◌, map}
 use Rattle.hw_grammar.specs.Reading.{with_front, times, many}
 use Rattle.hw_grammar.specs.declared.sort.Sort.TheVariants.{Name}
-use Rattle.fil_parse.specs.Reading.{statement_at}
+use Rattle.fil_parse.specs.inside.Reading.{statement_at}
 use Rattle.fil_ast.specs.Tree.{statement_tree}
 use Rattle.fil_parse.proofs.statement.read_statements.Given as goal
 

@@ -2,7 +2,7 @@ use Rattle.std.proofs.Common.{[], ◌∷◌, length, sym}
 use Rattle.std.proofs.lemmas.Result.{err_from_is_err_and}
 use Rattle.hw_grammar.proofs.Loop.{goes_on, stops, fails}
 use Rattle.hw_grammar.specs.declared.sort.Sort.TheVariants.{Comma}
-use Rattle.fil_parse.specs.Reading.{more_number_at}
+use Rattle.fil_parse.specs.inside.Reading.{more_number_at}
 use Rattle.fil_parse.proofs.value.more_numbers.Goals as goal
 
 pub returns-then-not-starts : goal.returns-then-not-starts

@@ -3,7 +3,7 @@ use Rattle.std.proofs.lemmas.List.{map_push}
 use Rattle.std.proofs.lemmas.Result.{err_from_is_err_and}
 use Rattle.hw_grammar.proofs.Loop.{goes_on, stops, fails}
 use Rattle.hw_grammar.specs.declared.sort.Sort.TheVariants.{Comma}
-use Rattle.fil_parse.specs.Reading.{more_time_at}
+use Rattle.fil_parse.specs.inside.Reading.{more_time_at}
 use Rattle.fil_ast.specs.Tree.{time_tree}
 use Rattle.fil_parse.proofs.value.more_times.Goals as goal
 

@@ -3,7 +3,7 @@ use Rattle.std.proofs.lemmas.List.{map_push}
 use Rattle.std.proofs.lemmas.Result.{err_from_is_err_and}
 use Rattle.hw_grammar.proofs.Loop.{list_tail_goes_on, list_tail_stops, list_tail_trails, list_tail_fails}
 use Rattle.hw_grammar.specs.declared.sort.Sort.TheVariants.{Comma, Name, Literal}
-use Rattle.fil_parse.specs.Reading.{value_at}
+use Rattle.fil_parse.specs.inside.Reading.{value_at}
 use Rattle.fil_ast.specs.Tree.{value_tree}
 use Rattle.fil_parse.proofs.value.more_values.Goals as goal
 

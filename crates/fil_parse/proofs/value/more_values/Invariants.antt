@@ -1,7 +1,7 @@
 use Rattle.std.proofs.Common.{◌≡◌, ◌-◌, length, [], ◌∷◌, map}
 use Rattle.hw_grammar.specs.Reading.{with_front, list_tail_times, list_tail}
 use Rattle.hw_grammar.specs.declared.sort.Sort.TheVariants.{Comma, Name, Literal}
-use Rattle.fil_parse.specs.Reading.{value_at}
+use Rattle.fil_parse.specs.inside.Reading.{value_at}
 use Rattle.fil_ast.specs.Tree.{value_tree}
 use Rattle.fil_parse.proofs.value.more_values.Given as goal
 

@@ -2,8 +2,8 @@ use Rattle.std.proofs.Common.{◌≡◌, ◌+◌, length, get_or, take, refl, su
 use Rattle.std.proofs.lemmas.List.{take_more}
 use Rattle.std.proofs.lemmas.Option.{slice_get-get_or}
 use Rattle.std.proofs.Math.Seq.{take-length}
-use Rattle.fil_share.specs.Sharing.{KeepsRules}
-use Rattle.fil_share.proofs.SharingLemmas.{no_hold, KeepsRules-take}
+use Rattle.fil_share.specs.Sharing.{CanShare}
+use Rattle.fil_share.proofs.SharingLemmas.{no_hold, CanShare-take}
 use Rattle.fil_share.proofs.judge.meeting.Goals as goal
 
 pub returns-in-Some-clause-none : goal.returns-in-Some-clause-none
@@ -11,7 +11,7 @@ returns-in-Some-clause-none c =
     let uses = c.args.uses.now in
     let n = c.loop-number.number in (
       λ none. absurd (cc),
-      λ kept. c.in-Some.ensures.none.1 (subst (KeepsRules c.args.delay) (take_more uses n no_hold c.loop-number-test.true) (KeepsRules-take c.args.delay (n + 1) uses kept)),
+      λ kept. c.in-Some.ensures.none.1 (subst (CanShare c.args.delay) (take_more uses n no_hold c.loop-number-test.true) (CanShare-take c.args.delay (n + 1) uses kept)),
     )
 
 pub returns-in-Some-clause-met : goal.returns-in-Some-clause-met
@@ -31,4 +31,4 @@ returns-clause-none c =
     let uses = c.args.uses.now in
     let n = c.loop-number.number in
     let end : n ≡ length uses = omega arith in
-    (λ none. subst (KeepsRules c.args.delay) (ap (λ k. take k uses) end ∙ take-length uses) c.loop-number.invariant, λ kept. refl)
+    (λ none. subst (CanShare c.args.delay) (ap (λ k. take k uses) end ∙ take-length uses) c.loop-number.invariant, λ kept. refl)

@@ -1,7 +1,7 @@
 use Rattle.std.proofs.Common.{◌≤◌, ◌<◌, ◌+◌, length, map, sym, ap, ◌∙◌, arith}
 use Rattle.hw_names.specs.Name.{Text}
 use Rattle.hw_prims.specs.Table.{pin, pins_of}
-use Rattle.fil_sig.specs.Kinds.{port_in}
+use Rattle.fil_sig.specs.inside.Kinds.{port_in}
 use Rattle.fil_sig.specs.Seen.{seen_offset, seen_port}
 use Rattle.fil_sig.specs.declared.time_sig.SigPort.{SigPort}
 use Rattle.fil_sig.proofs.PinLemmas.{few_pins, data_pushed, data_skipped}

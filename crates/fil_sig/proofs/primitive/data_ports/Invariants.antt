@@ -2,7 +2,7 @@ use Rattle.std.proofs.Common.{◌≡◌, take, drop, map}
 use Rattle.std.specs.List.{filter}
 use Rattle.hw_prims.specs.Filament.{is_data_pin}
 use Rattle.hw_prims.specs.Table.{pins_of}
-use Rattle.fil_sig.specs.Kinds.{port_in}
+use Rattle.fil_sig.specs.inside.Kinds.{port_in}
 use Rattle.fil_sig.specs.Seen.{seen_offset, seen_port}
 use Rattle.fil_sig.proofs.primitive.data_ports.Given as goal
 

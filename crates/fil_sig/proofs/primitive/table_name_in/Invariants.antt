@@ -1,5 +1,5 @@
 use Rattle.std.proofs.Common.{◌≡◌, drop}
-use Rattle.fil_sig.specs.Kinds.{names_listed, table_name_in}
+use Rattle.fil_sig.specs.inside.Kinds.{names_listed, table_name_in}
 use Rattle.fil_sig.proofs.primitive.table_name_in.Given as goal
 
 -- no row before this one has the name

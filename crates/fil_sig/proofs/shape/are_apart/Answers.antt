@@ -2,7 +2,7 @@ use Rattle.std.proofs.Common.{◌++◌, ◌+◌, [], ◌∷◌, List, Contains, 
 use Rattle.hw_names.specs.Name.{Text, AreDistinct}
 use Rattle.hw_names.proofs.NameLemmas.{text_of-slice_get}
 use Rattle.fil_ast.specs.declared.tree.GoPort.{GoPort}
-use Rattle.fil_sig.specs.Shape.{event_of}
+use Rattle.fil_sig.specs.inside.Shape.{event_of}
 use Rattle.fil_sig.proofs.ListLemmas.{told_false, comes_twice, map_at, map_more}
 use Rattle.fil_sig.proofs.shape.are_apart.Goals as goal
 

@@ -1,6 +1,6 @@
 use Rattle.std.proofs.Common.{◌≡◌, take, map}
 use Rattle.hw_names.specs.Name.{AreDistinct}
-use Rattle.fil_sig.specs.Shape.{event_of}
+use Rattle.fil_sig.specs.inside.Shape.{event_of}
 use Rattle.fil_sig.proofs.shape.are_apart.Given as goal
 
 -- the events so far are distinct

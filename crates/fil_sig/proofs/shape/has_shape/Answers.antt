@@ -6,7 +6,7 @@ use Rattle.hw_names.specs.Name.{AreDistinct}
 use Rattle.fil_ast.specs.Tree.{component_tree}
 use Rattle.fil_ast.specs.Typing.{HasShape}
 use Rattle.fil_ast.specs.declared.tree.GoPort.{GoPort}
-use Rattle.fil_sig.specs.Shape.{event_of}
+use Rattle.fil_sig.specs.inside.Shape.{event_of}
 use Rattle.fil_sig.proofs.ListLemmas.{told_false}
 use Rattle.fil_sig.proofs.ShapeLemmas.{shape_made, plain_of, intervals_of, apart_of}
 use Rattle.fil_sig.proofs.shape.has_shape.Goals.{then-not-has_plain_shape-via-then-not-has_plain_shape, then-not-has_plain_shape-via-else-not-has_plain_shape+then-not-has_intervals}

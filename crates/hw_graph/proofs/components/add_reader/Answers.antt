@@ -1,6 +1,6 @@
 use Rattle.std.proofs.Common.{get_or, sym, subst}
 use Rattle.hw_graph.proofs.ComponentLemmas.{below_more}
-use Rattle.hw_graph.specs.Components.{AreBelow}
+use Rattle.hw_graph.specs.inside.Components.{AreBelow}
 use Rattle.hw_graph.proofs.components.add_reader.Goals as goal
 
 pub loop-port-preserved : goal.loop-port-preserved

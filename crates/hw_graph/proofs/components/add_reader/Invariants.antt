@@ -1,6 +1,6 @@
 use Rattle.std.proofs.Common.{ℕ, ◌<◌}
 use Rattle.std.specs.Prelude.{All}
-use Rattle.hw_graph.specs.Components.{AreBelow}
+use Rattle.hw_graph.specs.inside.Components.{AreBelow}
 use Rattle.hw_graph.proofs.components.add_reader.Given as goal
 
 abbrev pub invariant-loop-port : goal.invariant-loop-port

@@ -1,5 +1,5 @@
 use Rattle.std.proofs.Common.{length}
-use Rattle.hw_graph.specs.Components.{AreBelow}
+use Rattle.hw_graph.specs.inside.Components.{AreBelow}
 use Rattle.hw_graph.proofs.components.readers_of.Given as goal
 
 abbrev pub invariant-loop-port : goal.invariant-loop-port

@@ -1,5 +1,5 @@
 use Rattle.hw_graph.proofs.CycleLemmas.{mark_count}
-use Rattle.hw_graph.specs.Components.{LeavesNoCycle}
+use Rattle.hw_graph.specs.inside.Components.{LeavesNoCycle}
 use Rattle.hw_graph.proofs.least_loop.least_cycle.Given as goal
 
 abbrev pub invariant-loop-port : goal.invariant-loop-port

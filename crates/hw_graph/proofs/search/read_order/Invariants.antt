@@ -1,5 +1,5 @@
 use Rattle.std.proofs.Common.{◌≡◌, ℕ, ◌<◌, List, []}
-use Rattle.hw_graph.specs.Search.{IsSearch, IsSeen}
+use Rattle.hw_graph.specs.inside.Search.{IsSearch, IsSeen}
 use Rattle.hw_graph.specs.declared.search.Search.{Search}
 use Rattle.hw_graph.proofs.search.read_order.Given as goal
 

@@ -1,5 +1,5 @@
 use Rattle.std.proofs.Common.{◌≡◌, length}
-use Rattle.hw_lex.specs.Front.{after_close}
+use Rattle.hw_lex.specs.inside.Front.{after_close}
 use Rattle.hw_lex.proofs.gap.after_close.Given as goal
 
 abbrev pub invariant-loop-rest : goal.invariant-loop-rest

@@ -1,5 +1,5 @@
 use Rattle.std.proofs.Common.{◌≡◌, drop}
-use Rattle.hw_prims.specs.Port.{names_listed}
+use Rattle.hw_prims.specs.inside.Port.{names_listed}
 use Rattle.hw_prims.specs.Table.{meaning_in}
 use Rattle.hw_prims.proofs.name.meaning_in.Given as goal
 

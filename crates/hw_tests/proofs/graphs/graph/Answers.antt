@@ -1,6 +1,6 @@
 use Rattle.std.proofs.Common.{◌∙◌, refl, subst, sym}
 use Rattle.hw_graph.proofs.ComponentLemmas.{gathered_in_range, ok_of}
-use Rattle.hw_graph.specs.Components.{AreBelow}
+use Rattle.hw_graph.specs.inside.Components.{AreBelow}
 use Rattle.hw_graph.specs.Graph.{AreInRange}
 use Rattle.hw_graph.specs.Groups.{IsGathered}
 use Rattle.hw_tests.proofs.graphs.graph.Goals as goal

@@ -3,7 +3,7 @@ use Rattle.std.proofs.lemmas.List.{take_more, map-append}
 use Rattle.hw_names.specs.Name.{text_of}
 use Rattle.hw_names.specs.declared.names.NameId.{NameId}
 use Rattle.net_core.specs.Guard.{guards_of, guard_tree, source_tree}
-use Rattle.net_core.specs.Kept.{both_kept, kept_by_guard, kept_by_guards}
+use Rattle.net_core.specs.inside.Kept.{both_kept, kept_by_guard, kept_by_guards}
 use Rattle.net_core.specs.Numbers.{GuardHasNumbers}
 use Rattle.net_core.proofs.GuardLemmas.{list_numbers}
 use Rattle.net_core.specs.declared.net.Guard.{Guard, the_lemmas}

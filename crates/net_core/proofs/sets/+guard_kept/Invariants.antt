@@ -1,7 +1,7 @@
 use Rattle.std.proofs.Common.{◌≡◌, ◌≤◌, map, take}
 use Rattle.hw_names.specs.Name.{text_of}
 use Rattle.net_core.specs.Guard.{guards_of, guard_tree}
-use Rattle.net_core.specs.Kept.{kept_by_guard, kept_by_guards}
+use Rattle.net_core.specs.inside.Kept.{kept_by_guard, kept_by_guards}
 use Rattle.net_core.specs.Numbers.{GuardHasNumbers}
 use Rattle.net_core.specs.declared.net.Guard.{size-Guard}
 use Rattle.net_core.proofs.sets.+guard_kept.Given as goal

@@ -1,6 +1,6 @@
 use Rattle.std.proofs.Common.{None, ap, sym, ◌∙◌}
 use Rattle.net_core.specs.Judging.{or_later}
-use Rattle.net_core.specs.Kept.{fault_of}
+use Rattle.net_core.specs.inside.Kept.{fault_of}
 use Rattle.net_core.specs.Netlist.{set_of}
 use Rattle.net_core.proofs.LineLemmas.{first_broken-set}
 use Rattle.net_core.proofs.sets.check_set.Goals as goal

@@ -1,6 +1,6 @@
 use Rattle.std.proofs.Common.{ap, ap₂, sym, ◌∙◌, option_map}
 use Rattle.hw_names.proofs.NameLemmas.{text_of-slice_get}
-use Rattle.net_core.specs.Kept.{both_kept}
+use Rattle.net_core.specs.inside.Kept.{both_kept}
 use Rattle.net_core.specs.Netlist.{set_of}
 use Rattle.net_core.specs.PortList.{port_line}
 use Rattle.net_core.specs.Rules.{port_named}

@@ -8,7 +8,7 @@ use Rattle.net_core.specs.Numbers.{GuardHasNumbers}
 use Rattle.net_core.specs.declared.net.Guard.{Guard, the_lemmas}
 use Rattle.net_guard.proofs.FoldLemmas.{folds_whole, negation_inside, same_reduced}
 use Rattle.net_guard.proofs.GatherLemmas.{decided_list, no_list, trees_next}
-use Rattle.net_guard.specs.Folding.{FoldsTo, IsListFoldOf, IsReduced, joint_tree, negated_tree, tree_of}
+use Rattle.net_guard.specs.inside.Folding.{FoldsTo, IsListFoldOf, IsReduced, joint_tree, negated_tree, tree_of}
 use Rattle.net_guard.proofs.fold.+fold.Goals as goal
 
 -- what is left behind a `!` or not, as a reduction of the whole

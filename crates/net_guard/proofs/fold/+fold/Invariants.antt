@@ -2,7 +2,7 @@ use Rattle.std.proofs.Common.{◌≤◌, All, List, map, take}
 use Rattle.hw_names.specs.Name.{Text}
 use Rattle.net_core.specs.Numbers.{GuardHasNumbers}
 use Rattle.net_core.specs.declared.net.Guard.{size-Guard}
-use Rattle.net_guard.specs.Folding.{IsListFoldOf, IsReduced, negated_tree, tree_of}
+use Rattle.net_guard.specs.inside.Folding.{IsListFoldOf, IsReduced, negated_tree, tree_of}
 use Rattle.net_guard.proofs.fold.+fold.Given as goal
 
 -- what is left, behind a `!` where that is so, is a reduction of the guard, has its numbers and is no deeper

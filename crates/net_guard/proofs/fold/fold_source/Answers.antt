@@ -5,7 +5,7 @@ use Rattle.net_core.specs.Guard.{Reads, holds, source_tree}
 use Rattle.net_core.specs.Numbers.{SourceHasNumbers}
 use Rattle.net_core.specs.declared.net.Src.{Src}
 use Rattle.net_guard.proofs.TopLemmas.{port_folds}
-use Rattle.net_guard.specs.Folding.{FoldsTo, IsFoldOf, plain_open}
+use Rattle.net_guard.specs.inside.Folding.{FoldsTo, IsFoldOf, plain_open}
 use Rattle.net_guard.specs.declared.fold.Folded.{Folded}
 use Rattle.net_guard.specs.declared.tops.Core.TheVariants as cores
 use Rattle.net_guard.proofs.fold.fold_source.Goals as goal

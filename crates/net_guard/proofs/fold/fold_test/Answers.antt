@@ -4,7 +4,7 @@ use Rattle.hw_names.specs.declared.names.NameId.{NameId}
 use Rattle.net_core.specs.Guard.{Compares, holds, source_tree}
 use Rattle.net_core.specs.declared.net.Src.{Src}
 use Rattle.net_guard.proofs.TopLemmas.{test_folds}
-use Rattle.net_guard.specs.Folding.{FoldsTo, plain_open}
+use Rattle.net_guard.specs.inside.Folding.{FoldsTo, plain_open}
 use Rattle.net_guard.specs.declared.fold.Folded.{Folded}
 use Rattle.net_guard.specs.declared.fold.Folded.TheVariants.{Sometimes}
 use Rattle.net_guard.specs.declared.tops.Core.TheVariants as cores

@@ -1,6 +1,6 @@
 use Rattle.std.proofs.Common.{Bool, sym, subst, ◌∙◌}
 use Rattle.net_guard.proofs.FoldLemmas.{fold_negated, known_negated}
-use Rattle.net_guard.specs.Folding.{FoldsTo, IsFoldOf, negated_tree}
+use Rattle.net_guard.specs.inside.Folding.{FoldsTo, IsFoldOf, negated_tree}
 use Rattle.net_guard.specs.declared.fold.Folded.{Folded}
 use Rattle.net_guard.proofs.fold.negate.Goals as goal
 

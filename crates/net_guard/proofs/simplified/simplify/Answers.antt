@@ -7,7 +7,7 @@ use Rattle.net_core.specs.declared.net.NetCell.{NetCell}
 use Rattle.net_guard.proofs.LoopLemmas.{has_no_loop}
 use Rattle.net_guard.proofs.RuleLemmas.{is_valid}
 use Rattle.net_guard.proofs.SetLemmas.{IsCopy, copy_has_folded_guards, copy_has_numbers, copy_is_simplified}
-use Rattle.net_guard.specs.Folding.{SetsFoldTo}
+use Rattle.net_guard.specs.inside.Folding.{SetsFoldTo}
 use Rattle.net_guard.proofs.simplified.simplify.Goals as goal
 
 pub returns : goal.returns

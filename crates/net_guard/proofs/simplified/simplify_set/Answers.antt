@@ -5,7 +5,7 @@ use Rattle.net_core.specs.Guard.{guard_holds, guard_option}
 use Rattle.net_core.specs.Numbers.{WhenHasNumbers}
 use Rattle.net_core.specs.declared.net.Guard.{Guard}
 use Rattle.net_guard.proofs.SetLemmas.{IsWhenFoldOf, guard_folds, no_guard_folds, set_folds, true_guard_folds}
-use Rattle.net_guard.specs.Folding.{FoldsTo, tree_of}
+use Rattle.net_guard.specs.inside.Folding.{FoldsTo, tree_of}
 use Rattle.net_guard.specs.declared.fold.Folded.{Folded}
 use Rattle.net_guard.proofs.simplified.simplify_set.Goals as goal
 

@@ -3,7 +3,7 @@ use Rattle.std.proofs.Math.Seq.{take-length}
 use Rattle.net_core.specs.Numbers.{SetHasNumbers}
 use Rattle.net_core.specs.declared.net.NetAssign.{NetAssign}
 use Rattle.net_guard.proofs.SetLemmas.{no_sets, set_kept, set_left}
-use Rattle.net_guard.specs.Folding.{SetFoldsTo, SetsFoldTo}
+use Rattle.net_guard.specs.inside.Folding.{SetFoldsTo, SetsFoldTo}
 use Rattle.net_guard.proofs.simplified.simplify_sets.Goals.{in-Some+in_ok-push, in_default}
 use Rattle.net_guard.proofs.simplified.simplify_sets.Goals as goal
 

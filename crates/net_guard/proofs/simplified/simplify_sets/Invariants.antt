@@ -1,7 +1,7 @@
 use Rattle.std.proofs.Common.{All, List, take}
 use Rattle.hw_names.specs.Name.{Text}
 use Rattle.net_core.specs.Numbers.{SetHasNumbers}
-use Rattle.net_guard.specs.Folding.{SetsFoldTo}
+use Rattle.net_guard.specs.inside.Folding.{SetsFoldTo}
 use Rattle.net_guard.proofs.simplified.simplify_sets.Given as goal
 
 abbrev pub invariant-loop-set : goal.invariant-loop-set

@@ -1,7 +1,7 @@
 use Rattle.std.proofs.Common.{refl, sym, subst, inl, inr}
 use Rattle.net_core.specs.declared.net.Guard.TheVariants as variants
 use Rattle.net_guard.proofs.TopLemmas.{list_guard}
-use Rattle.net_guard.specs.Folding.{CoreHasNumbers, IsGuardOf, core_tree}
+use Rattle.net_guard.specs.inside.Folding.{CoreHasNumbers, IsGuardOf, core_tree}
 use Rattle.net_guard.specs.declared.tops.Core.{Core}
 use Rattle.net_guard.proofs.tops.core_guard.Goals as goal
 

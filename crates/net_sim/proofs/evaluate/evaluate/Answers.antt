@@ -7,7 +7,7 @@ use Rattle.net_sim.proofs.LoopLemmas.{port_within, widths_more, evaluated_more, 
 use Rattle.net_sim.proofs.PlanLemmas.{width_of_value, count_values}
 use Rattle.net_sim.specs.Evaluated.{IsLeastConflict}
 use Rattle.net_sim.specs.Layout.{port_widths}
-use Rattle.net_sim.specs.Settled.{FitsWidth}
+use Rattle.net_sim.specs.inside.Settled.{FitsWidth}
 use Rattle.net_sim.specs.Sim.{input_row, states_of}
 use Rattle.net_sim.proofs.evaluate.evaluate.Goals as goal
 

@@ -14,7 +14,7 @@ use Rattle.net_sim.proofs.SettleLemmas.{value_is, width_is, clash_is, clash_of}
 use Rattle.net_sim.proofs.StepLemmas.{same_count, same_prim}
 use Rattle.net_sim.specs.Evaluated.{IsValueOf, cell_inputs}
 use Rattle.net_sim.specs.Layout.{port_widths, name_of}
-use Rattle.net_sim.specs.Settled.{settled_value}
+use Rattle.net_sim.specs.inside.Settled.{settled_value}
 use Rattle.net_sim.specs.Sim.{input_row, states_of, port_row}
 use Rattle.net_sim.specs.declared.plan.Giver.TheVariants.{Input, Output, Driven}
 use Rattle.net_sim.proofs.evaluate.settle_port.Goals as goal

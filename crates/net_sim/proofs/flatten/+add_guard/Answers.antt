@@ -10,7 +10,7 @@ use Rattle.net_core.specs.declared.net.Cmp.TheVariants.{Eq}
 use Rattle.net_core.specs.declared.net.Guard.{Guard, the_lemmas}
 use Rattle.net_sim.proofs.FlattenLemmas.{if_ok, if_both_ok, finish, all_truth, any_truth, all_sources, any_sources, source_in, adds_leaf, read_truth, compare_truth, negated_exit, exits_negated, exits_there, listed_none, listed_more, drop_trees}
 use Rattle.net_sim.proofs.TestLemmas.{source_within}
-use Rattle.net_sim.specs.Flattening.{IsKnownSource, EachSource, AreExits, AddsTests, joined, exit_of}
+use Rattle.net_sim.specs.inside.Flattening.{IsKnownSource, EachSource, AreExits, AddsTests, joined, exit_of}
 use Rattle.net_sim.specs.declared.flatten.Join.TheVariants.{All as AllGuards, Any as AnyGuards}
 use Rattle.net_sim.specs.declared.plan.Source.TheVariants.{Fixed}
 use Rattle.net_sim.proofs.flatten.+add_guard.Goals as goal

@@ -4,7 +4,7 @@ use Rattle.hw_prims.specs.Row.{Row}
 use Rattle.net_core.specs.Guard.{guards_of, guard_tree, holds}
 use Rattle.net_core.specs.Numbers.{GuardHasNumbers}
 use Rattle.net_core.specs.declared.net.Guard.{size-Guard}
-use Rattle.net_sim.specs.Flattening.{IsKnownSource, EachSource, AreExits, AddsTests, joined, exit_of}
+use Rattle.net_sim.specs.inside.Flattening.{IsKnownSource, EachSource, AreExits, AddsTests, joined, exit_of}
 use Rattle.net_sim.proofs.flatten.+add_guard.Given as goal
 
 -- what is left leads to its ways where the guard leads to its exits, has numbers and sources, and is no deeper

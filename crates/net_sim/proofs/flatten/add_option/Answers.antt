@@ -5,7 +5,7 @@ use Rattle.hw_names.specs.declared.names.NameId.{NameId}
 use Rattle.net_core.specs.Guard.{guard_option, guard_tree, holds}
 use Rattle.net_core.specs.declared.net.Guard.{Guard}
 use Rattle.net_sim.proofs.FlattenLemmas.{if_ok, adds_some, adds_none}
-use Rattle.net_sim.specs.Flattening.{AddsGuard, AddsTests}
+use Rattle.net_sim.specs.inside.Flattening.{AddsGuard, AddsTests}
 use Rattle.net_sim.proofs.flatten.add_option.Goals as goal
 
 pub returns-in-Some : goal.returns-in-Some

@@ -2,7 +2,7 @@ use Rattle.std.proofs.Common.{sym, subst}
 use Rattle.net_core.specs.Netlist.{netlist_of, set_of}
 use Rattle.net_sim.proofs.CellLemmas.{set_item}
 use Rattle.net_sim.proofs.FlattenLemmas.{guard_sources, guards_more}
-use Rattle.net_sim.specs.Flattening.{IsKnownSource, EachOptionSource, AddsGuard}
+use Rattle.net_sim.specs.inside.Flattening.{IsKnownSource, EachOptionSource, AddsGuard}
 use Rattle.net_sim.proofs.flatten.flatten.Goals as goal
 
 pub add_option-requires-clause-sources : goal.add_option-requires-clause-sources

@@ -6,7 +6,7 @@ use Rattle.net_core.specs.Netlist.{netlist_of, set_of}
 use Rattle.net_sim.proofs.CellLemmas.{set_item}
 use Rattle.net_sim.proofs.ValidLemmas.{dst_exists}
 use Rattle.net_sim.proofs.OrderLemmas.{destinations_more}
-use Rattle.net_sim.specs.Destinations.{AreDestinations}
+use Rattle.net_sim.specs.inside.Destinations.{AreDestinations}
 use Rattle.net_sim.specs.Layout.{port_names}
 use Rattle.hw_graph.specs.declared.groups.Entry.{Entry}
 use Rattle.net_sim.proofs.port_order.destinations.Goals as goal

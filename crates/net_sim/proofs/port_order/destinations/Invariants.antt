@@ -1,6 +1,6 @@
 use Rattle.std.proofs.Common.{take}
 use Rattle.net_core.specs.Netlist.{netlist_of}
-use Rattle.net_sim.specs.Destinations.{AreDestinations}
+use Rattle.net_sim.specs.inside.Destinations.{AreDestinations}
 use Rattle.net_sim.specs.Layout.{port_names}
 use Rattle.net_sim.proofs.port_order.destinations.Given as goal
 

@@ -10,7 +10,7 @@ use Rattle.net_sim.proofs.PortLemmas.{set_of_number}
 use Rattle.net_sim.proofs.SettleLemmas.{acting_values, acting_more, acting_is}
 use Rattle.net_sim.specs.Evaluated.{HasSourceWidth}
 use Rattle.net_sim.specs.Layout.{port_widths, name_of}
-use Rattle.net_sim.specs.Settled.{IsSettled}
+use Rattle.net_sim.specs.inside.Settled.{IsSettled}
 use Rattle.net_sim.specs.Sim.{port_row}
 use Rattle.net_sim.proofs.settle.settle.Goals as goal
 

@@ -3,7 +3,7 @@ use Rattle.hw_bits.specs.Values.{values_of}
 use Rattle.net_core.specs.Netlist.{netlist_of}
 use Rattle.net_sim.proofs.SettleLemmas.{acting_values}
 use Rattle.net_sim.specs.Layout.{port_widths}
-use Rattle.net_sim.specs.Settled.{IsSettled}
+use Rattle.net_sim.specs.inside.Settled.{IsSettled}
 use Rattle.net_sim.specs.Sim.{port_row}
 use Rattle.net_sim.proofs.settle.settle.Given as goal
 

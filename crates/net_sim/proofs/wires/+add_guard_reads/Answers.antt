@@ -11,7 +11,7 @@ use Rattle.net_core.specs.Numbers.{GuardHasNumbers}
 use Rattle.net_core.specs.declared.net.Guard.{Guard, the_lemmas}
 use Rattle.net_sim.proofs.GuardReadLemmas.{guard_readings, guard_ports-list, readings-list, all_of_one, all_right, if_ok}
 use Rattle.net_sim.proofs.WireLemmas.{add_more, add_next, add_all}
-use Rattle.net_sim.specs.Wires.{reading, AddReadings}
+use Rattle.net_sim.specs.inside.Wires.{reading, AddReadings}
 use Rattle.hw_graph.specs.declared.groups.Entry.{Entry}
 use Rattle.net_sim.proofs.wires.+add_guard_reads.Goals as goal
 

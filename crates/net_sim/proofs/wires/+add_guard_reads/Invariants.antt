@@ -6,7 +6,7 @@ use Rattle.net_core.specs.Guard.{guard_tree}
 use Rattle.net_core.specs.Numbers.{GuardHasNumbers}
 use Rattle.net_core.specs.declared.net.Guard.{size-Guard}
 use Rattle.net_sim.proofs.GuardReadLemmas.{guard_readings}
-use Rattle.net_sim.specs.Wires.{AddReadings}
+use Rattle.net_sim.specs.inside.Wires.{AddReadings}
 use Rattle.net_sim.proofs.wires.+add_guard_reads.Given as goal
 
 -- what is left reads what the guard reads, its names have texts, it is no deeper, and nothing is added yet

@@ -2,7 +2,7 @@ use Rattle.std.proofs.Common.{◌<◌, length, arith}
 use Rattle.std.proofs.lemmas.List.{length-map}
 use Rattle.hw_prims.specs.Table.{outputs_of, pin_names, name_at}
 use Rattle.net_sim.proofs.WireLemmas.{add_next, add_all, pin_at}
-use Rattle.net_sim.specs.Wires.{output_readings}
+use Rattle.net_sim.specs.inside.Wires.{output_readings}
 use Rattle.net_sim.proofs.wires.add_cell_reads.Goals as goal
 
 pub loop-output-preserved : goal.loop-output-preserved

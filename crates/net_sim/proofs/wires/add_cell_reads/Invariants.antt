@@ -2,7 +2,7 @@ use Rattle.std.proofs.Common.{List, take}
 use Rattle.std.specs.List.{flat_map}
 use Rattle.hw_names.specs.Name.{Text}
 use Rattle.hw_prims.specs.Table.{outputs_of, pin_names}
-use Rattle.net_sim.specs.Wires.{output_readings, AddReadings, HasCellAt}
+use Rattle.net_sim.specs.inside.Wires.{output_readings, AddReadings, HasCellAt}
 use Rattle.net_sim.proofs.wires.add_cell_reads.Given as goal
 
 abbrev pub invariant-loop-output : goal.invariant-loop-output

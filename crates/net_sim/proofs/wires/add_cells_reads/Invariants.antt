@@ -2,7 +2,7 @@ use Rattle.std.proofs.Common.{take}
 use Rattle.std.specs.List.{flat_map}
 use Rattle.net_core.specs.Netlist.{Netlist}
 use Rattle.net_sim.specs.Layout.{port_names, AreCellPorts}
-use Rattle.net_sim.specs.Wires.{cell_readings, AddReadings}
+use Rattle.net_sim.specs.inside.Wires.{cell_readings, AddReadings}
 use Rattle.net_sim.proofs.wires.add_cells_reads.Given as goal
 
 abbrev pub invariant-loop-cell : goal.invariant-loop-cell

@@ -3,7 +3,7 @@ use Rattle.std.proofs.lemmas.List.{length-map}
 use Rattle.hw_names.specs.Name.{Text}
 use Rattle.hw_prims.specs.Table.{inputs_of, outputs_of, pin_names, name_at}
 use Rattle.net_sim.proofs.WireLemmas.{add_next, add_all, through_one, through_none, pin_at}
-use Rattle.net_sim.specs.Wires.{input_readings, AddReadings, HasCellAt}
+use Rattle.net_sim.specs.inside.Wires.{input_readings, AddReadings, HasCellAt}
 use Rattle.hw_graph.specs.declared.groups.Entry.{Entry}
 use Rattle.net_sim.proofs.wires.add_output_reads.Goals.{then-through+in_ok-push, else-through, Joined-through}
 use Rattle.net_sim.proofs.wires.add_output_reads.Goals as goal

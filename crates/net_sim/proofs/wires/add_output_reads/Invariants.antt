@@ -2,7 +2,7 @@ use Rattle.std.proofs.Common.{List, take}
 use Rattle.std.specs.List.{flat_map}
 use Rattle.hw_names.specs.Name.{Text}
 use Rattle.hw_prims.specs.Table.{inputs_of, outputs_of, pin_names, name_at}
-use Rattle.net_sim.specs.Wires.{input_readings, AddReadings, HasCellAt}
+use Rattle.net_sim.specs.inside.Wires.{input_readings, AddReadings, HasCellAt}
 use Rattle.net_sim.proofs.wires.add_output_reads.Given as goal
 
 abbrev pub invariant-loop-input : goal.invariant-loop-input

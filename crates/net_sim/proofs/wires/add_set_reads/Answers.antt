@@ -10,7 +10,7 @@ use Rattle.net_sim.proofs.GuardReadLemmas.{guard_there}
 use Rattle.net_sim.proofs.ValidLemmas.{dst_exists, source_there}
 use Rattle.net_sim.proofs.WireLemmas.{add_all, add_more, sets_more}
 use Rattle.net_sim.specs.Layout.{port_names}
-use Rattle.net_sim.specs.Wires.{reading, set_readings, AddReadings}
+use Rattle.net_sim.specs.inside.Wires.{reading, set_readings, AddReadings}
 use Rattle.net_sim.proofs.wires.add_set_reads.Goals.{After-find_port-arg-1, In_ok-add_source_read}
 use Rattle.net_sim.proofs.wires.add_set_reads.Goals as goal
 

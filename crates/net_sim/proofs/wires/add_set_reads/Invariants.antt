@@ -2,7 +2,7 @@ use Rattle.std.proofs.Common.{take}
 use Rattle.std.specs.List.{flat_map}
 use Rattle.net_core.specs.Netlist.{netlist_of}
 use Rattle.net_sim.specs.Layout.{port_names}
-use Rattle.net_sim.specs.Wires.{set_readings, AddReadings}
+use Rattle.net_sim.specs.inside.Wires.{set_readings, AddReadings}
 use Rattle.net_sim.proofs.wires.add_set_reads.Given as goal
 
 abbrev pub invariant-loop-set : goal.invariant-loop-set

@@ -2,7 +2,7 @@ use Rattle.std.proofs.Common.{[], get_or, ap}
 use Rattle.std.proofs.lemmas.Option.{slice_get_within, get_or_from_slice_get}
 use Rattle.hw_names.specs.Name.{text_of}
 use Rattle.net_sim.proofs.WireLemmas.{add_one}
-use Rattle.net_sim.specs.Wires.{reading}
+use Rattle.net_sim.specs.inside.Wires.{reading}
 use Rattle.hw_graph.specs.declared.groups.Entry.{Entry}
 use Rattle.net_sim.proofs.wires.add_source_read.Goals as goal
 

@@ -2,7 +2,7 @@ use Rattle.std.proofs.Common.{[], sym, subst, arith}
 use Rattle.net_core.specs.Netlist.{netlist_of}
 use Rattle.net_sim.proofs.WireLemmas.{cell_ends, start_entries}
 use Rattle.net_sim.specs.Layout.{port_names}
-use Rattle.net_sim.specs.Wires.{AreEntriesOf}
+use Rattle.net_sim.specs.inside.Wires.{AreEntriesOf}
 use Rattle.net_sim.proofs.wires.net_reads.Goals as goal
 
 pub add_cells_reads-requires : goal.add_cells_reads-requires

@@ -2,9 +2,9 @@ use Rattle.std.proofs.Common.{◌≡◌, Some, codes, drop, length, arith, refl,
 use Rattle.std.proofs.lemmas.Result.{err_from_is_err_and}
 use Rattle.hw_names.specs.Name.{Text, text_of}
 use Rattle.net_core.specs.Guard.{GuardTree, GuardTrees, AllOf, AnyOf, guard_tree}
-use Rattle.net_text.specs.ReadWords.{after, source_at}
-use Rattle.net_text.specs.ReadGuards.{test_from, closed, guard_at, operands_at, bracket_at}
-use Rattle.net_text.specs.View.{guards_of}
+use Rattle.net_text.specs.inside.ReadWords.{after, source_at}
+use Rattle.net_text.specs.inside.ReadGuards.{test_from, closed, guard_at, operands_at, bracket_at}
+use Rattle.net_text.specs.inside.View.{guards_of}
 use Rattle.net_text.proofs.ExitLemmas.{fails}
 use Rattle.net_text.proofs.GuardLoops.{negated_guard, negated_none, all_read, all_none, any_read, any_none, test_read, no_bracket, with_first, has_first, take_push, loop_goes_on, loop_is_done, loop_fails, open_bracket, plain_source}
 use Rattle.net_text.proofs.GuardTurns.{guard_leaves}

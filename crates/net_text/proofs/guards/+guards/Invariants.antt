@@ -1,8 +1,8 @@
 use Rattle.std.proofs.Common.{◌≡◌, ◌+◌, ◌*◌, List, [], ◌∷◌, length, take, drop}
 use Rattle.hw_names.specs.Name.{Text}
-use Rattle.net_text.specs.ReadGuards.{operands_at}
-use Rattle.net_text.specs.ReadResults.{Extends, Grows}
-use Rattle.net_text.specs.View.{guards_of}
+use Rattle.net_text.specs.inside.ReadGuards.{operands_at}
+use Rattle.net_text.specs.inside.ReadResults.{Extends, Grows}
+use Rattle.net_text.specs.inside.View.{guards_of}
 use Rattle.net_text.proofs.GuardLoops.{with_front}
 use Rattle.net_text.proofs.guards.+guards.Given as goal
 

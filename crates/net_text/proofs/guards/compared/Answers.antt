@@ -1,7 +1,7 @@
 use Rattle.std.proofs.Common.{◌≡◌, sym, ap, ◌∙◌}
 use Rattle.hw_names.specs.Name.{Text, text_of}
 use Rattle.net_core.specs.Guard.{GuardTree, source_tree, guard_tree}
-use Rattle.net_text.specs.ReadGuards.{test_at, test_from}
+use Rattle.net_text.specs.inside.ReadGuards.{test_at, test_from}
 use Rattle.net_text.proofs.CompareLemmas.{no_source, source_stays}
 use Rattle.net_text.proofs.NameLemmas.{Extends-itself}
 use Rattle.net_text.proofs.guards.compared.Goals as goal

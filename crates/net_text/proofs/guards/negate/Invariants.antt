@@ -1,7 +1,7 @@
 use Rattle.std.proofs.Common.{◌≡◌, List}
 use Rattle.hw_names.specs.Name.{Text, text_of}
 use Rattle.net_core.specs.Guard.{guard_tree}
-use Rattle.net_text.specs.ReadGuards.{negated}
+use Rattle.net_text.specs.inside.ReadGuards.{negated}
 use Rattle.net_text.proofs.guards.negate.Given as goal
 
 abbrev pub invariant-loop : goal.invariant-loop

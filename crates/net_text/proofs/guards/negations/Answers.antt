@@ -1,6 +1,6 @@
 use Rattle.std.proofs.Common.{drop, ap, ◌∙◌}
 use Rattle.std.specs.List.{prefix_len}
-use Rattle.net_text.specs.ReadGuards.{is_bang}
+use Rattle.net_text.specs.inside.ReadGuards.{is_bang}
 use Rattle.net_text.proofs.GuardLoops.{plain_after}
 use Rattle.net_text.proofs.guards.negations.Goals as goal
 

@@ -1,7 +1,7 @@
 use Rattle.std.proofs.Common.{codes, refl}
 use Rattle.std.proofs.lemmas.Result.{err_from_is_err_and}
-use Rattle.net_text.specs.ReadWords.{after}
-use Rattle.net_text.specs.ReadGuards.{test_at}
+use Rattle.net_text.specs.inside.ReadWords.{after}
+use Rattle.net_text.specs.inside.ReadGuards.{test_at}
 use Rattle.net_text.proofs.ExitLemmas.{fails}
 use Rattle.net_text.proofs.NameLemmas.{Extends-itself}
 use Rattle.net_text.proofs.guards.test.Goals as goal

@@ -2,8 +2,8 @@ use Rattle.std.proofs.Common.{◌<◌, length, arith}
 use Rattle.std.proofs.lemmas.Bool.Decides.{nat_tests}
 use Rattle.net_core.specs.Guard.{source_tree}
 use Rattle.hw_names.specs.Name.{text_of}
-use Rattle.net_text.specs.ReadLines.{guarded_of_text}
-use Rattle.net_text.specs.ReadWords.{source_at}
+use Rattle.net_text.specs.inside.ReadLines.{guarded_of_text}
+use Rattle.net_text.specs.inside.ReadWords.{source_at}
 use Rattle.net_text.proofs.NameLemmas.{Extends-itself}
 use Rattle.net_text.proofs.WordLemmas.{whole_none}
 use Rattle.net_text.proofs.lines.guarded.Goals as goal

@@ -1,7 +1,7 @@
 use Rattle.std.proofs.Common.{◌≡◌, ◌<◌, length, arith}
 use Rattle.std.proofs.lemmas.Bool.Decides.{nat_tests}
 use Rattle.std.proofs.lemmas.Result.{err_from_is_err_and}
-use Rattle.net_text.specs.ReadLines.{params_of_text}
+use Rattle.net_text.specs.inside.ReadLines.{params_of_text}
 use Rattle.net_text.proofs.ParamLemmas.{goes_on, fails, is_done}
 use Rattle.net_text.proofs.lines.params.Goals as goal
 

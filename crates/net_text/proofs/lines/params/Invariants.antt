@@ -1,5 +1,5 @@
 use Rattle.std.proofs.Common.{◌≡◌, length}
-use Rattle.net_text.specs.ReadLines.{params_of_text}
+use Rattle.net_text.specs.inside.ReadLines.{params_of_text}
 use Rattle.net_text.proofs.ParamLemmas.{with_front}
 use Rattle.net_text.proofs.lines.params.Given as goal
 

@@ -1,6 +1,6 @@
 use Rattle.std.proofs.Common.{◌≡◌, refl}
 use Rattle.hw_names.specs.Name.{text_of}
-use Rattle.net_text.specs.ReadLines.{set_of_text}
+use Rattle.net_text.specs.inside.ReadLines.{set_of_text}
 use Rattle.net_text.proofs.WordLaws.{some_is}
 use Rattle.net_text.proofs.NameLemmas.{Extends-then}
 use Rattle.net_text.proofs.lines.set.Goals as goal

@@ -1,5 +1,5 @@
 use Rattle.std.proofs.Common.{refl}
-use Rattle.net_text.specs.ReadLines.{value_from}
+use Rattle.net_text.specs.inside.ReadLines.{value_from}
 use Rattle.net_text.proofs.CompareLemmas.{no_value}
 use Rattle.net_text.proofs.lines.unguarded.Goals as goal
 

@@ -3,7 +3,7 @@ use Rattle.std.proofs.lemmas.Bool.Decides.{nat_tests}
 use Rattle.std.proofs.lemmas.Result.{err_from_is_err_and}
 use Rattle.hw_names.specs.Name.{text_of}
 use Rattle.net_core.specs.Guard.{source_tree, guard_tree, guard_option}
-use Rattle.net_text.specs.ReadLines.{guarded_of_text, value_of_text}
+use Rattle.net_text.specs.inside.ReadLines.{guarded_of_text, value_of_text}
 use Rattle.net_text.proofs.CompareLemmas.{value_alone, value_guarded}
 use Rattle.net_text.proofs.ExitLemmas.{fails, named_from}
 use Rattle.net_text.proofs.NameLemmas.{Extends-itself, Extends-then}

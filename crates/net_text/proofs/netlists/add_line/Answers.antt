@@ -1,9 +1,9 @@
 use Rattle.std.proofs.Common.{◌≡◌, true, Some, sym, ◌∙◌, subst, List}
 use Rattle.hw_names.specs.Name.{Text}
-use Rattle.net_text.specs.ReadResults.{Extends}
-use Rattle.net_text.specs.ReadLines.{line_of_text}
-use Rattle.net_text.specs.ReadTexts.{follows, netlist_with}
-use Rattle.net_text.specs.View.{line_of}
+use Rattle.net_text.specs.inside.ReadResults.{Extends}
+use Rattle.net_text.specs.inside.ReadLines.{line_of_text}
+use Rattle.net_text.specs.inside.ReadTexts.{follows, netlist_with}
+use Rattle.net_text.specs.inside.View.{line_of}
 use Rattle.net_text.proofs.NameLemmas.{Extends-itself}
 use Rattle.net_text.proofs.NetLemmas.{Adds, next_is, next_none, stays_settled}
 use Rattle.net_text.proofs.netlists.add_line.Goals as goal

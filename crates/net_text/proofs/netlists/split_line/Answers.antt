@@ -2,7 +2,7 @@ use Rattle.std.proofs.Common.{◌≡◌, ℕ, ◌+◌, ◌∷◌, ◌++◌, List
 use Rattle.std.specs.List.{list_all}
 use Rattle.std.proofs.lemmas.List.{take_rest}
 use Rattle.net_text.proofs.WordLemmas.{passes_front, passes_all, splits_at}
-use Rattle.net_text.specs.ReadTexts.{in_line}
+use Rattle.net_text.specs.inside.ReadTexts.{in_line}
 use Rattle.net_text.proofs.netlists.split_line.Goals as goal
 
 pub returns-then-at-text-clause-none : goal.returns-then-at-text-clause-none

@@ -6,7 +6,7 @@ use Rattle.net_core.specs.Guard.{GuardTree, AllOf, AnyOf, guard_tree}
 use Rattle.net_core.specs.Numbers.{GuardHasNumbers}
 use Rattle.net_core.specs.declared.net.Guard.{Guard, the_lemmas}
 use Rattle.net_text.specs.Layout.{guard_text}
-use Rattle.net_text.specs.View.{guards_of}
+use Rattle.net_text.specs.inside.View.{guards_of}
 use Rattle.net_text.proofs.GuardRows.{all_tree, any_tree, all_numbers, any_numbers}
 use Rattle.net_text.proofs.PrintLemmas.{OnOk-is, guards_step}
 use Rattle.net_text.proofs.print.+guards.Goals.{put_guards-then-not-first+in_ok-put-2, put_guards-else-not-first}

@@ -5,7 +5,7 @@ use Rattle.net_core.specs.declared.net.Guard.{size-Guard}
 use Rattle.net_core.specs.Guard.{guard_tree}
 use Rattle.net_core.specs.Numbers.{GuardHasNumbers}
 use Rattle.net_text.specs.Layout.{guard_text, guards_text}
-use Rattle.net_text.specs.View.{guards_of}
+use Rattle.net_text.specs.inside.View.{guards_of}
 use Rattle.net_text.proofs.print.+guards.Given as goal
 
 abbrev pub invariant-put_guard-loop-rest : goal.invariant-put_guard-loop-rest

@@ -3,7 +3,7 @@ use Rattle.std.proofs.lemmas.Bool.Decides.{nat_tests}
 use Rattle.std.proofs.lemmas.List.{nil_from_length}
 use Rattle.hw_names.specs.Name.{Text}
 use Rattle.net_core.specs.Netlist.{netlist_of}
-use Rattle.net_text.specs.ReadTexts.{front_text}
+use Rattle.net_text.specs.inside.ReadTexts.{front_text}
 use Rattle.net_text.proofs.TextLaws.{last_line, refused_more}
 use Rattle.net_text.proofs.NumberedLaws.{HasNumbers-from_text}
 use Rattle.net_text.proofs.read.finished.Goals as goal

@@ -2,7 +2,7 @@ use Rattle.std.proofs.Common.{◌++◌, ◌-◌, length, subst, sym, ◌∙◌, 
 use Rattle.hw_names.specs.Name.{Text}
 use Rattle.net_core.specs.Netlist.{netlist_of}
 use Rattle.net_text.specs.Reading.{IsRefusedAt}
-use Rattle.net_text.specs.ReadTexts.{front_text}
+use Rattle.net_text.specs.inside.ReadTexts.{front_text}
 use Rattle.net_text.proofs.ReadLemmas.{next_is_read, differ}
 use Rattle.net_text.proofs.TextLaws.{refused_line, refused_end}
 use Rattle.net_text.proofs.read.read_lines.Goals.{in-Some+else-eq+in-Err-Grammar, in_default}

@@ -1,5 +1,5 @@
 use Rattle.std.proofs.Common.{length}
-use Rattle.net_text.specs.ReadTexts.{IsRead}
+use Rattle.net_text.specs.inside.ReadTexts.{IsRead}
 use Rattle.net_text.proofs.read.read_lines.Given as goal
 
 abbrev pub invariant-loop-line : goal.invariant-loop-line

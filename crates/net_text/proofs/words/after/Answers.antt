@@ -1,7 +1,7 @@
 use Rattle.std.proofs.Common.{◌≡◌, ◌+◌, true, false, List, ℕ, take, drop, length, Option, Some, None, MatchOption, nat_eq, Bor, ap, sym, ◌∙◌}
 use Rattle.std.specs.Option.{option_copied}
 use lib.Pointwise.{pointwise}
-use Rattle.net_text.specs.ReadWords.{after}
+use Rattle.net_text.specs.inside.ReadWords.{after}
 use Rattle.net_text.proofs.WordLemmas.{after_strip, after_none}
 use Rattle.net_text.proofs.words.after.Goals as goal
 

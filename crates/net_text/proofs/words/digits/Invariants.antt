@@ -1,5 +1,5 @@
 use Rattle.std.proofs.Common.{◌≡◌, drop}
-use Rattle.net_text.specs.ReadWords.{digits_after}
+use Rattle.net_text.specs.inside.ReadWords.{digits_after}
 use Rattle.net_text.proofs.words.digits.Given as goal
 
 abbrev pub invariant-loop-byte : goal.invariant-loop-byte

@@ -1,7 +1,7 @@
 use Rattle.std.proofs.Common.{◌<◌, ◌∙◌, ℕ, List, All, IfOk, ap, sym, subst₂}
 use Rattle.hw_graph.specs.Groups.{IsGathered}
 use Rattle.hw_graph.specs.declared.groups.Entry.{Entry}
-use Rattle.ver_print.specs.Drivers.{entries_of}
+use Rattle.ver_print.specs.inside.Drivers.{entries_of}
 use Rattle.ver_print.proofs.DriverLemmas.{entries_below}
 use Rattle.ver_print.proofs.drives.drivers.Goals as goal
 

@@ -1,7 +1,7 @@
 use Rattle.std.proofs.Common.{◌≡◌, ◌+◌, ◌<◌, ◌∙◌, ℕ, List, All, length, sym, subst, arith}
 use Rattle.std.proofs.lemmas.Option.{same_Some, slice_get_within}
 use Rattle.hw_graph.specs.Groups.{with_key}
-use Rattle.ver_print.specs.Drivers.{entries_of}
+use Rattle.ver_print.specs.inside.Drivers.{entries_of}
 use Rattle.ver_print.proofs.DriverLemmas.{absent_where_none, none_drives, numbers_within, picked_are}
 use Rattle.ver_print.proofs.drives.drivers_of.Goals as goal
 

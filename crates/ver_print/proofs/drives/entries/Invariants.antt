@@ -1,5 +1,5 @@
 use Rattle.std.proofs.Common.{◌≡◌, take}
-use Rattle.ver_print.specs.Drivers.{entries_of}
+use Rattle.ver_print.specs.inside.Drivers.{entries_of}
 use Rattle.ver_print.proofs.drives.entries.Given as goal
 
 abbrev pub invariant-loop-number : goal.invariant-loop-number

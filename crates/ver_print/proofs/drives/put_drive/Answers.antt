@@ -1,6 +1,6 @@
 use Rattle.std.proofs.Common.{map}
 use Rattle.net_core.specs.Netlist.{netlist_of, set_of}
-use Rattle.ver_print.specs.Drivers.{picked}
+use Rattle.ver_print.specs.inside.Drivers.{picked}
 use Rattle.ver_print.proofs.DriveLemmas.{drive_put}
 use Rattle.ver_print.proofs.PutLemmas.{OnOk-is}
 use Rattle.ver_print.proofs.drives.put_drive.Goals as goal

@@ -3,7 +3,7 @@ use Rattle.std.proofs.lemmas.Option.{slice_get_read}
 use Rattle.hw_names.specs.Name.{Text}
 use Rattle.net_core.specs.Netlist.{set_of}
 use Rattle.net_core.specs.Numbers.{SetHasNumbers}
-use Rattle.ver_print.specs.Putting.{PutsGuarded}
+use Rattle.ver_print.specs.inside.Putting.{PutsGuarded}
 use Rattle.ver_print.proofs.DriveLemmas.{value_end, value_from, value_next}
 use Rattle.ver_print.proofs.PutLemmas.{OnOk-is}
 use Rattle.ver_print.proofs.drives.put_value.Goals as goal

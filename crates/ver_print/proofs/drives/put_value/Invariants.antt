@@ -1,6 +1,6 @@
 use Rattle.std.proofs.Common.{◌≡◌, ◌++◌, drop, map}
 use Rattle.net_core.specs.Netlist.{set_of}
-use Rattle.ver_print.specs.Drivers.{picked}
+use Rattle.ver_print.specs.inside.Drivers.{picked}
 use Rattle.ver_print.specs.Values.{value_text}
 use Rattle.ver_print.proofs.drives.put_value.Given as goal
 

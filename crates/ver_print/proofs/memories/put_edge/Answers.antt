@@ -1,5 +1,5 @@
 use Rattle.std.proofs.Common.{codes}
-use Rattle.ver_print.specs.Shapes.{place_text, within_text}
+use Rattle.ver_print.specs.inside.Shapes.{place_text, within_text}
 use Rattle.ver_print.specs.Words.{part}
 use Rattle.ver_print.proofs.LineLemmas.{edge_put}
 use Rattle.ver_print.proofs.PutLemmas.{OnOk-is}

@@ -1,6 +1,6 @@
 use Rattle.std.proofs.Common.{◌++◌, codes}
 use Rattle.ver_print.specs.Cells.{keeps, memory_edge, memory_read, memory_start, memory_words, shows}
-use Rattle.ver_print.specs.Shapes.{count_of, place_text, within_text}
+use Rattle.ver_print.specs.inside.Shapes.{count_of, place_text, within_text}
 use Rattle.ver_print.specs.Words.{part}
 use Rattle.ver_print.proofs.LineLemmas.{seven_lines}
 use Rattle.ver_print.proofs.PutLemmas.{OnOk-is}

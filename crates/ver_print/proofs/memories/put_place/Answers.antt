@@ -1,6 +1,6 @@
 use Rattle.std.proofs.Common.{◌++◌, codes, decimal, sym, ap, ◌∙◌, append-nil}
 use Rattle.hw_names.specs.Name.{Text}
-use Rattle.ver_print.specs.Shapes.{place_text}
+use Rattle.ver_print.specs.inside.Shapes.{place_text}
 use Rattle.ver_print.specs.Words.{part}
 use Rattle.ver_print.specs.declared.memories.Shape.{Shape}
 use Rattle.ver_print.proofs.LineLemmas.{d2_place_text}

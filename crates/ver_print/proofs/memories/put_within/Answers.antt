@@ -1,6 +1,6 @@
 use Rattle.std.proofs.Common.{◌++◌, codes, decimal, sym, ap, ◌∙◌}
 use Rattle.hw_names.specs.Name.{Text}
-use Rattle.ver_print.specs.Shapes.{within_text}
+use Rattle.ver_print.specs.inside.Shapes.{within_text}
 use Rattle.ver_print.specs.Words.{part}
 use Rattle.ver_print.specs.declared.memories.Shape.{Shape}
 use Rattle.ver_print.proofs.LineLemmas.{below_text, d2_within_text}

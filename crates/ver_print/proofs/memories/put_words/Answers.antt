@@ -1,5 +1,5 @@
 use Rattle.std.proofs.Common.{ℕ, ◌-◌, ◌++◌, codes, decimal, ap, ◌∙◌}
-use Rattle.ver_print.specs.Shapes.{count_of}
+use Rattle.ver_print.specs.inside.Shapes.{count_of}
 use Rattle.ver_print.specs.Words.{part}
 use Rattle.ver_print.proofs.LineLemmas.{words_put}
 use Rattle.ver_print.proofs.PutLemmas.{OnOk-is}

@@ -1,5 +1,5 @@
 use Rattle.std.proofs.Common.{◌≡◌, ◌++◌, take}
-use Rattle.ver_print.specs.Pieces.{pieces_text}
+use Rattle.ver_print.specs.inside.Pieces.{pieces_text}
 use Rattle.ver_print.proofs.pieces.put_pieces.Given as goal
 
 abbrev pub invariant-loop-piece : goal.invariant-loop-piece

@@ -1,6 +1,6 @@
 use Rattle.std.proofs.Common.{rules, ℕ, ◌+◌, ◌<◌, ◌^◌, length, List, [], ◌∷◌, ◌++◌, Ok, Contains, ap, sym, subst, ◌∙◌, arith}
 use Rattle.hw_names.specs.Name.{Text}
-use Rattle.fil_flow.specs.Body.{outputs_of}
+use Rattle.fil_flow.specs.inside.Body.{outputs_of}
 use Rattle.fil_flow.proofs.BodyLemmas.{body_invocation, places_fit}
 use Rattle.fil_flow.proofs.PortLemmas.{added}
 use Rattle.fil_flow.proofs.body.Body.add_invocation.Goals as goal

@@ -2,7 +2,7 @@ use Rattle.std.proofs.Common.{◌≡◌, List, map, subst}
 use Rattle.hw_names.specs.Name.{AreDistinct}
 use Rattle.fil_ast.specs.Tree.{component_tree, port_tree}
 use Rattle.fil_ast.specs.declared.tree.FilPort.{FilPort}
-use Rattle.fil_flow.specs.Body.{data_names}
+use Rattle.fil_flow.specs.inside.Body.{data_names}
 use Rattle.fil_flow.proofs.BodyLemmas.{body_start}
 use Rattle.fil_flow.proofs.PortLemmas.{inputs_differ}
 use Rattle.fil_flow.proofs.body.Body.new.Goals as goal

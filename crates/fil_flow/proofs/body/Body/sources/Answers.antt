@@ -6,7 +6,7 @@ use Rattle.fil_ast.specs.Tree.{ValueTree, value_tree}
 use Rattle.fil_ast.specs.Typing.{LiteralFits}
 use Rattle.fil_ast.specs.declared.tree.Value.{Value}
 use Rattle.fil_sig.proofs.ListLemmas.{All-unmap, map_more}
-use Rattle.fil_flow.specs.Body.{IsSourceOf}
+use Rattle.fil_flow.specs.inside.Body.{IsSourceOf}
 use Rattle.fil_flow.specs.declared.plan.Source.{Source}
 use Rattle.fil_flow.proofs.PairLemmas.{zip_push}
 use Rattle.fil_flow.proofs.body.Body.sources.Goals as goal

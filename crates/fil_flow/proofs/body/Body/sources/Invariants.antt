@@ -2,7 +2,7 @@ use Rattle.std.proofs.Common.{List, map, take}
 use Rattle.std.specs.List.{AllZip}
 use Rattle.fil_ast.specs.Scope.{Scope}
 use Rattle.fil_ast.specs.Tree.{ValueTree, value_tree}
-use Rattle.fil_flow.specs.Body.{IsBody, IsSourceOf}
+use Rattle.fil_flow.specs.inside.Body.{IsBody, IsSourceOf}
 use Rattle.fil_flow.proofs.body.Body.sources.Given as goal
 
 abbrev pub invariant-loop-value : goal.invariant-loop-value

@@ -6,7 +6,7 @@ use Rattle.fil_ast.specs.Naming.{component_names}
 use Rattle.fil_ast.specs.Rules.{F1}
 use Rattle.fil_ast.specs.Tree.{component_tree, port_tree}
 use Rattle.fil_ast.specs.declared.tree.FilPort.{FilPort}
-use Rattle.fil_flow.specs.Body.{data_names}
+use Rattle.fil_flow.specs.inside.Body.{data_names}
 use Rattle.fil_flow.proofs.PortLemmas.{added, earlier_more, outputs_differ}
 use Rattle.fil_flow.proofs.earlier.Earlier.add.Goals as goal
 

@@ -5,8 +5,8 @@ use Rattle.hw_names.specs.Name.{text_of}
 use Rattle.fil_ast.specs.Scope.{Instance, Invocation}
 use Rattle.fil_ast.specs.Tree.{giving, statement_tree, value_tree}
 use Rattle.fil_ast.specs.declared.tree.Stmt.{Stmt}
-use Rattle.fil_flow.specs.Body.{plus_instance}
-use Rattle.fil_flow.specs.Planning.{IsPlanning, KeepsStatement, grown}
+use Rattle.fil_flow.specs.inside.Body.{plus_instance}
+use Rattle.fil_flow.specs.inside.Planning.{IsPlanning, KeepsStatement, grown}
 use Rattle.fil_flow.proofs.PlanningLemmas.{both_can, both_new, call_can, planning_both, planning_call, planning_new}
 use Rattle.fil_flow.proofs.planning.Planning.add.Goals as goal
 

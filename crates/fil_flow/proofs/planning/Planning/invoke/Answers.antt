@@ -5,7 +5,7 @@ use Rattle.hw_names.proofs.NameLemmas.{text_of-slice_get}
 use Rattle.fil_ast.specs.Naming.{IsKnownValue, invocation_names}
 use Rattle.fil_ast.specs.Scope.{instance_named}
 use Rattle.fil_ast.specs.Tree.{ValueTree}
-use Rattle.fil_flow.specs.Body.{IsSourceOf}
+use Rattle.fil_flow.specs.inside.Body.{IsSourceOf}
 use Rattle.fil_flow.specs.declared.plan.Call.{Call}
 use Rattle.fil_flow.proofs.PlanningLemmas.{can_instance, known_values, planning_invocation}
 use Rattle.fil_flow.proofs.planning.Planning.invoke.Goals as goal

@@ -2,7 +2,7 @@ use Rattle.std.proofs.Common.{◌≡◌, ℕ, List, sym, subst₂, ◌∙◌}
 use Rattle.std.proofs.lemmas.Result.{on_ok_weaker}
 use Rattle.hw_names.specs.Name.{Text}
 use Rattle.hw_names.proofs.NameLemmas.{text_of-slice_get}
-use Rattle.fil_flow.specs.Body.{IsCallee}
+use Rattle.fil_flow.specs.inside.Body.{IsCallee}
 use Rattle.fil_flow.proofs.PlanningLemmas.{planning_instance}
 use Rattle.fil_flow.proofs.planning.Planning.make.Goals as goal
 

@@ -6,8 +6,8 @@ use Rattle.fil_ast.specs.Tree.{DataPort, InputValue, Literal, component_tree, po
 use Rattle.fil_ast.specs.Typing.{IsWidth}
 use Rattle.fil_ast.specs.declared.tree.FilPort.{FilPort}
 use Rattle.fil_sig.proofs.ListLemmas.{All-unmap}
-use Rattle.fil_flow.specs.Body.{IsSourceOf, data_names}
-use Rattle.fil_flow.specs.Planning.{ShowsCalls, ShowsOutput}
+use Rattle.fil_flow.specs.inside.Body.{IsSourceOf, data_names}
+use Rattle.fil_flow.specs.inside.Planning.{ShowsCalls, ShowsOutput}
 use Rattle.fil_flow.specs.declared.plan.Call.{Call}
 use Rattle.fil_flow.proofs.CallLemmas.{calls_start, source_kept}
 use Rattle.fil_flow.proofs.PairLemmas.{zip_mapped, zip_weaker}

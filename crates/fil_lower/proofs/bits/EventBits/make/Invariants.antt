@@ -1,6 +1,6 @@
 use Rattle.hw_names.specs.Name.{KeepsTexts}
 use Rattle.fil_ast.specs.Scope.{Scope}
-use Rattle.fil_lower.specs.Place.{ShowsBody}
+use Rattle.fil_lower.specs.inside.Place.{ShowsBody}
 use Rattle.fil_lower.proofs.RegisterLemmas.{IsMade}
 use Rattle.fil_lower.proofs.bits.EventBits.make.Given as goal
 

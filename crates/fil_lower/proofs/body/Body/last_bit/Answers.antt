@@ -1,6 +1,6 @@
 use Rattle.std.proofs.Common.{◌≡◌, max, map, flat_map, sym, ap, ◌∙◌}
 use Rattle.fil_share.specs.Uses.{held_by, shown_use}
-use Rattle.fil_lower.specs.Place.{greatest, wanted_by_ports, wanted_by_uses}
+use Rattle.fil_lower.specs.inside.Place.{greatest, wanted_by_ports, wanted_by_uses}
 use Rattle.fil_lower.proofs.WantLemmas.{greatest_wanted}
 use Rattle.fil_lower.proofs.body.Body.last_bit.Goals as goal
 

@@ -4,7 +4,7 @@ use Rattle.fil_ast.specs.Numbers.{StatementHasNumbers}
 use Rattle.fil_ast.specs.Scope.{Scope, invocations_at}
 use Rattle.fil_ast.specs.Tree.{Component, Statement, statement_tree}
 use Rattle.fil_share.proofs.Lookup.{at_mapped}
-use Rattle.fil_lower.specs.Place.{greatest, wanted_by_ports}
+use Rattle.fil_lower.specs.inside.Place.{greatest, wanted_by_ports}
 use Rattle.fil_lower.proofs.BodyLemmas.{item_at}
 use Rattle.fil_lower.proofs.StepLemmas.{All-at, greatest_walk, ord_max-max, whole_taken}
 use Rattle.fil_lower.proofs.body.Body.last_of_arguments.Goals as goal

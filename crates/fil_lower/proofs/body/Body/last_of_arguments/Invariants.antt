@@ -2,7 +2,7 @@ use Rattle.std.proofs.Common.{◌≡◌, ◌<◌, flat_map, take}
 use Rattle.fil_ast.specs.Scope.{invocations_at}
 use Rattle.fil_fsm.specs.declared.shift.TheConstants.{MOST_BITS}
 use Rattle.fil_lower.specs.Lowering.{Lowering}
-use Rattle.fil_lower.specs.Place.{ShowsBody, greatest, wanted_by_ports}
+use Rattle.fil_lower.specs.inside.Place.{ShowsBody, greatest, wanted_by_ports}
 use Rattle.fil_lower.proofs.body.Body.last_of_arguments.Given as goal
 
 abbrev pub invariant-loop-stmt : goal.invariant-loop-stmt

@@ -10,7 +10,7 @@ use Rattle.fil_ast.specs.declared.tree.FilComp.{FilComp}
 use Rattle.fil_ast.specs.declared.tree.FilDesign.{FilDesign}
 use Rattle.fil_share.specs.Uses.{held_by}
 use Rattle.fil_share.proofs.Lookup.{at_mapped}
-use Rattle.fil_lower.specs.Place.{ShowsCalls}
+use Rattle.fil_lower.specs.inside.Place.{ShowsCalls}
 use Rattle.fil_lower.proofs.GoodLemmas.{IsGood, good_before, good_instances}
 use Rattle.fil_lower.proofs.body.Body.make.Goals as goal
 

@@ -6,7 +6,7 @@ use Rattle.hw_names.specs.Name.{Text, text_of}
 use Rattle.fil_ast.specs.Numbers.{IsNumberOf}
 use Rattle.fil_ast.specs.Scope.{Invocation}
 use Rattle.fil_share.proofs.Lookup.{find_at_place}
-use Rattle.fil_lower.specs.Place.{ShowsCalls}
+use Rattle.fil_lower.specs.inside.Place.{ShowsCalls}
 use Rattle.fil_lower.specs.declared.calls.Calls.{Calls}
 use Rattle.fil_lower.proofs.StepLemmas.{All-at}
 use Rattle.fil_lower.proofs.calls.Calls.inst.Goals as goal

@@ -7,8 +7,8 @@ use Rattle.fil_ast.specs.Scope.{Invocation, invocations_at}
 use Rattle.fil_ast.specs.Tree.{component_tree, statement_tree}
 use Rattle.fil_share.proofs.Lookup.{at_mapped}
 use Rattle.fil_share.proofs.MakesLemmas.{flat_next}
-use Rattle.fil_lower.specs.Parts.{invocation_shown}
-use Rattle.fil_lower.specs.Place.{ShowsCalls}
+use Rattle.fil_lower.specs.inside.Parts.{invocation_shown}
+use Rattle.fil_lower.specs.inside.Place.{ShowsCalls}
 use Rattle.fil_lower.proofs.BodyLemmas.{item_at, new_invocation}
 use Rattle.fil_lower.proofs.StepLemmas.{All-at}
 use Rattle.fil_lower.proofs.calls.Calls.of_component.Goals.{in-Some+in_ok-add, in_default}

@@ -1,7 +1,7 @@
 use Rattle.std.proofs.Common.{flat_map, take}
 use Rattle.fil_ast.specs.Scope.{invocations_at}
 use Rattle.fil_ast.specs.Tree.{component_tree}
-use Rattle.fil_lower.specs.Place.{ShowsCalls}
+use Rattle.fil_lower.specs.inside.Place.{ShowsCalls}
 use Rattle.fil_lower.proofs.calls.Calls.of_component.Given as goal
 
 abbrev pub invariant-loop-stmt : goal.invariant-loop-stmt

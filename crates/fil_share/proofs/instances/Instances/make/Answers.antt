@@ -6,7 +6,7 @@ use Rattle.fil_ast.specs.Tree.{Component, Design, component_tree, design_of}
 use Rattle.fil_ast.specs.Wires.{whole_scope}
 use Rattle.fil_ast.specs.declared.tree.FilComp.{FilComp}
 use Rattle.fil_ast.specs.declared.tree.FilDesign.{FilDesign}
-use Rattle.fil_share.specs.Instances.{MakesInstances, Shows}
+use Rattle.fil_share.specs.Instances.{MakesInstances, ShowsScope}
 use Rattle.fil_share.specs.declared.instances.Instances.{Instances}
 use Rattle.fil_share.proofs.Lookup.{at_mapped}
 use Rattle.fil_share.proofs.MakesLemmas.{makes_instances, map_take}
@@ -43,5 +43,5 @@ returns c tree there =
     ap (λ (cs : List FilComp). map (component_tree d.names) (take n cs)) c.deref.ensures.value ∙ map_take (component_tree d.names) n d.comps.items
     ∙ ap (λ (e : FilDesign). take n (design_of e)) c.design-design.ensures.same in
     let same : component_tree d.names x ≡ tree = same_Some (component_tree d.names x) tree (sym at ∙ ap (λ (e : FilDesign). slice_get (design_of e) n) c.design-design.ensures.same ∙ there) in
-    let Q : Design → Component → Type 0 = λ ds k. IfOk c.of_body.result (λ (i : Instances). Shows i (whole_scope ds k)) in
+    let Q : Design → Component → Type 0 = λ ds k. IfOk c.of_body.result (λ (i : Instances). ShowsScope i (whole_scope ds k)) in
     subst (λ (ds : Design). Q ds tree) before (subst (λ (k : Component). Q (map (component_tree d.names) (take n c.deref.result.now)) k) same c.of_body.ensures)

@@ -1,6 +1,6 @@
 use Rattle.std.proofs.Common.{◌<◌, ◌∙◌, [], length, get_or, refl, sym, subst, arith}
 use Rattle.hw_graph.proofs.SearchLemmas.{step_closed, step_done, step_opened, step_cycle, read_in_range, read_mark}
-use Rattle.hw_graph.specs.Unread.{TakesRead}
+use Rattle.hw_graph.specs.inside.Unread.{TakesRead}
 use Rattle.hw_graph.specs.declared.search.Mark.TheVariants.{Unseen, Open, Done}
 use Rattle.hw_graph.specs.declared.search.Search.{Search}
 use Rattle.hw_graph.proofs.search.Search.step.Goals.{In-Some}

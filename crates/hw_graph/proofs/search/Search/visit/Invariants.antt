@@ -1,6 +1,6 @@
 use Rattle.std.proofs.Common.{ℕ, List}
 use Rattle.hw_graph.specs.declared.search.Search.{Search}
-use Rattle.hw_graph.specs.Search.{IsSearch, IsSeen, KeepsSeen, work_of}
+use Rattle.hw_graph.specs.inside.Search.{IsSearch, IsSeen, KeepsSeen, work_of}
 use Rattle.hw_graph.proofs.search.Search.visit.Given as goal
 
 -- the search goes on, and the port is seen

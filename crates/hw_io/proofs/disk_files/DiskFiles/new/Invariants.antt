@@ -1,5 +1,5 @@
 use Rattle.std.proofs.Common.{◌≡◌, ℕ, List, map, take}
-use Rattle.hw_io.specs.DiskFiles.{names_in, faults_in}
+use Rattle.hw_io.specs.inside.DiskFiles.{names_in, faults_in}
 use Rattle.hw_io.proofs.disk_files.DiskFiles.new.Given as goal
 
 -- the names so far are known, and no fault is counted

@@ -1,5 +1,5 @@
 use Rattle.std.proofs.Common.{sym, subst}
-use Rattle.net_guard.specs.Folding.{IsFoldOf}
+use Rattle.net_guard.specs.inside.Folding.{IsFoldOf}
 use Rattle.net_guard.specs.declared.tops.Open.{Open}
 use Rattle.net_guard.proofs.list.Gathered.add.Goals as goal
 

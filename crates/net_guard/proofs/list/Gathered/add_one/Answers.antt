@@ -1,6 +1,6 @@
 use Rattle.std.proofs.Common.{◌≡◌, subst}
 use Rattle.net_guard.proofs.GatherLemmas.{first_put, guard_put}
-use Rattle.net_guard.specs.Folding.{IsListFoldOf}
+use Rattle.net_guard.specs.inside.Folding.{IsListFoldOf}
 use Rattle.net_guard.specs.declared.list.Gathered.{Gathered}
 use Rattle.net_guard.specs.declared.list.Gathered.TheVariants.{Empty}
 use Rattle.net_guard.proofs.list.Gathered.add_one.Goals as goal

@@ -1,7 +1,7 @@
 use Rattle.std.proofs.Common.{sym, subst, ◌∙◌}
 use Rattle.net_guard.proofs.GatherLemmas.{list_folded, one_folded}
 use Rattle.net_guard.proofs.ListLemmas.{none_left}
-use Rattle.net_guard.specs.Folding.{IsListFoldOf}
+use Rattle.net_guard.specs.inside.Folding.{IsListFoldOf}
 use Rattle.net_guard.specs.declared.list.Gathered.{Gathered}
 use Rattle.net_guard.proofs.list.Gathered.folded.Goals as goal
 

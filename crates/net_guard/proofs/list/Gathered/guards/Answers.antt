@@ -2,7 +2,7 @@ use Rattle.std.proofs.Common.{◌++◌, ◌∷◌, [], List, ap, refl, sym, subs
 use Rattle.hw_names.specs.declared.names.NameId.{NameId}
 use Rattle.net_core.specs.declared.net.Guard.{Guard}
 use Rattle.net_guard.proofs.GatherLemmas.{no_guards, one_guard}
-use Rattle.net_guard.specs.Folding.{AreGuardsOf, GatheredHasNumbers, gathered_trees, open_tree}
+use Rattle.net_guard.specs.inside.Folding.{AreGuardsOf, GatheredHasNumbers, gathered_trees, open_tree}
 use Rattle.net_guard.specs.declared.list.Gathered.{Gathered}
 use Rattle.net_guard.proofs.list.Gathered.guards.Goals as goal
 

@@ -1,6 +1,6 @@
 use Rattle.std.proofs.Common.{◌≡◌, false, subst}
 use Rattle.net_guard.proofs.GatherLemmas.{list_skip}
-use Rattle.net_guard.specs.Folding.{FoldsTo, decides}
+use Rattle.net_guard.specs.inside.Folding.{FoldsTo, decides}
 use Rattle.net_guard.specs.declared.fold.Folded.{Folded}
 use Rattle.net_guard.proofs.list.Gathered.put.Goals as goal
 

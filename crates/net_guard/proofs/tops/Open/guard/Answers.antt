@@ -1,7 +1,7 @@
 use Rattle.std.proofs.Common.{Bool, sym, subst}
 use Rattle.net_core.specs.declared.net.Guard.TheVariants as variants
 use Rattle.net_guard.proofs.TopLemmas.{negated_guard}
-use Rattle.net_guard.specs.Folding.{IsGuardOf, core_tree, negated_tree}
+use Rattle.net_guard.specs.inside.Folding.{IsGuardOf, core_tree, negated_tree}
 use Rattle.net_guard.proofs.tops.Open.guard.Goals as goal
 
 pub returns-in_ok-new : goal.returns-in_ok-new

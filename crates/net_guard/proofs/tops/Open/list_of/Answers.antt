@@ -1,7 +1,7 @@
 use denote.Enum.Bare.{same_true, true_same}
 use Rattle.std.proofs.Common.{◌≡◌, Bool, false, refl, ap, ap₂, sym, subst, inl, inr, ◌∙◌}
 use Rattle.net_guard.proofs.TopLemmas.{negated_no_list, no_list_core, other_no_list}
-use Rattle.net_guard.specs.Folding.{IsNoListOf}
+use Rattle.net_guard.specs.inside.Folding.{IsNoListOf}
 use Rattle.net_guard.specs.contracts.tops.Joint.{the_type}
 use Rattle.net_guard.specs.declared.tops.Core.{Core}
 use Rattle.net_guard.specs.declared.tops.Core.TheVariants as cores

@@ -4,7 +4,7 @@ use Rattle.std.proofs.lemmas.Option.{slice_get_read}
 use Rattle.hw_bits.specs.Values.{values_of}
 use Rattle.hw_prims.specs.Cell.{CellValue}
 use Rattle.hw_prims.specs.Memory.{word_width}
-use Rattle.hw_prims.specs.State.{words_of}
+use Rattle.hw_prims.specs.State.{memory_words}
 use Rattle.net_core.specs.Netlist.{netlist_of}
 use Rattle.net_sim.proofs.ShownLemmas.{shown_number, shown_within, shown_prim, shown_state, shown_once}
 use Rattle.net_sim.specs.Shown.{HasWord, HasWordWidth}
@@ -49,7 +49,7 @@ returns-clause-value c =
     let here = slice_get_read states.items (length states.items) c.index-number.result.now c.index.result.now refl within c.index.ensures in
     let now : SimValue = record { net = plan.net.now; states = map (λ (s : CellValue). s.state) states.items; values = values_of c.self.inside.values.items; phase = c.self.inside.phase } in
     let word : IsWordOfSim now c.args.mem c.args.at c.word.result.value = λ cell prim is.
-    c.word.ensures.value ∙ ap (λ s. slice_index (words_of s) c.args.at) (sym (shown_state n plan.cells.items compiled.valid compiled.listed plan.shown.items are states.items c.self.invariant.prims c.args.mem c.index-number.result.now cell prim at is c.index.result.now here)) in
+    c.word.ensures.value ∙ ap (λ s. slice_index (memory_words s) c.args.at) (sym (shown_state n plan.cells.items compiled.valid compiled.listed plan.shown.items are states.items c.self.invariant.prims c.args.mem c.index-number.result.now cell prim at is c.index.result.now here)) in
     subst (λ (o : SimValue). IsWordOfSim o c.args.mem c.args.at c.word.result.value) c.self.view_is word
 
 pub returns-clause-width : goal.returns-clause-width

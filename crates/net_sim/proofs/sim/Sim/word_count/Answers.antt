@@ -3,7 +3,7 @@ use Rattle.std.proofs.lemmas.Option.{slice_get_read}
 use Rattle.hw_bits.specs.Values.{values_of}
 use Rattle.hw_prims.specs.Cell.{CellValue}
 use Rattle.hw_prims.specs.Memory.{word_count}
-use Rattle.hw_prims.specs.State.{words_of}
+use Rattle.hw_prims.specs.State.{memory_words}
 use Rattle.net_core.specs.Netlist.{netlist_of}
 use Rattle.net_sim.proofs.ShownLemmas.{shown_number, shown_within, shown_prim, shown_state, shown_once}
 use Rattle.net_sim.specs.Shown.{shown_cells}
@@ -35,6 +35,6 @@ returns c =
     let now : SimValue = record { net = plan.net.now; states = map (λ (s : CellValue). s.state) states.items; values = values_of c.self.inside.values.items; phase = c.self.inside.phase } in
     let count : IsWordCountOfSim now c.args.mem c.word_count.result = λ cell prim is. (
       c.word_count.ensures.prim ∙ ap word_count (shown_once n c.args.mem mine.0 cell c.index.result.now.prim prim mine.1 is),
-      c.word_count.ensures.state ∙ ap (λ s. length (words_of s)) (sym (shown_state n plan.cells.items compiled.valid compiled.listed plan.shown.items are states.items c.self.invariant.prims c.args.mem c.index-number.result.now cell prim at is c.index.result.now here)),
+      c.word_count.ensures.state ∙ ap (λ s. length (memory_words s)) (sym (shown_state n plan.cells.items compiled.valid compiled.listed plan.shown.items are states.items c.self.invariant.prims c.args.mem c.index-number.result.now cell prim at is c.index.result.now here)),
     ) in
     subst (λ (o : SimValue). IsWordCountOfSim o c.args.mem c.word_count.result) c.self.view_is count

@@ -5,7 +5,7 @@ use Rattle.net_core.specs.Guard.{GuardTree, GuardTrees, Reads, Compares, Negates
 use Rattle.net_core.specs.declared.net.Cmp.{Cmp}
 use Rattle.net_core.specs.declared.net.Cmp.TheVariants.{Eq, Neq, Lt, Gt, Le, Ge}
 use Rattle.net_core.specs.declared.net.Src.{Src}
-use Rattle.net_text.specs.ReadWords.{Read, ◌>>=◌, after, where_after, source_at}
+use Rattle.net_text.specs.inside.ReadWords.{Read, ◌>>=◌, after, where_after, source_at}
 
 -- an operator with the spaces round it
 unfoldable pub operator_at : Text → Read Cmp

@@ -6,9 +6,9 @@ use Rattle.net_core.specs.Netlist.{Netlist, netlist_of, lines_of, Line, InLine, 
 use Rattle.net_core.specs.declared.net.Net.{Net}
 use Rattle.net_text.specs.Layout.{line_text, ended}
 use Rattle.net_text.specs.Names.{HasText, is_segment}
-use Rattle.net_text.specs.ReadWords.{◌>>=◌, whole, after, word_at}
-use Rattle.net_text.specs.ReadLines.{line_of_text}
-use Rattle.net_text.specs.ReadResults.{Extends, HasRoom}
+use Rattle.net_text.specs.inside.ReadWords.{◌>>=◌, whole, after, word_at}
+use Rattle.net_text.specs.inside.ReadLines.{line_of_text}
+use Rattle.net_text.specs.inside.ReadResults.{Extends, HasRoom}
 
 -- a byte that ends no line
 abbrev pub in_line : ℕ → Bool

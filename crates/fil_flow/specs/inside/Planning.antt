@@ -12,7 +12,7 @@ use Rattle.fil_ast.specs.Signature.{SigPort, Signature}
 use Rattle.fil_ast.specs.Tree.{DataPort, Statement, ValueTree, Literal, value_tree}
 use Rattle.fil_ast.specs.Typing.{LiteralFits, KeepsNumbers, KeepsWidths, value_width}
 use Rattle.fil_ast.specs.declared.tree.Value.{Value}
-use Rattle.fil_flow.specs.Body.{IsBody, IsSourceOf, data_names}
+use Rattle.fil_flow.specs.inside.Body.{IsBody, IsSourceOf, data_names}
 use Rattle.fil_flow.specs.Plans.{Shape, HasShape, HaveWidths, values_after}
 use Rattle.fil_flow.specs.Shown.{component_shape, flow_at, port_widths}
 use Rattle.fil_flow.specs.declared.earlier.Earlier.{Earlier}

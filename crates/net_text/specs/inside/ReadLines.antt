@@ -6,8 +6,8 @@ use Rattle.net_core.specs.Guard.{GuardTree, Reads}
 use Rattle.net_core.specs.Netlist.{Line, InLine, OutLine, WireLine, CellOf, SetOf, CellLine, SetLine}
 use Rattle.net_core.specs.declared.net.Src.{Src}
 use Rattle.net_text.specs.Names.{is_segment, is_path}
-use Rattle.net_text.specs.ReadGuards.{guard_at}
-use Rattle.net_text.specs.ReadWords.{Read, ◌>>=◌, whole, after, word_at, number_at, source_at, where_after}
+use Rattle.net_text.specs.inside.ReadGuards.{guard_at}
+use Rattle.net_text.specs.inside.ReadWords.{Read, ◌>>=◌, whole, after, word_at, number_at, source_at, where_after}
 
 -- a port of this name, from the space before its width on
 unfoldable pub pin_from : Text → Text → Option Pin

@@ -18,14 +18,14 @@ use Rattle.fil_ast.specs.Timeline as timeline
 use Rattle.fil_ast.specs.Timeline.{interval_at}
 use Rattle.fil_ast.specs.Tree.{Design, Event, ValueTree, InputValue, OutputValue, Literal, component_tree}
 use Rattle.fil_ast.specs.Wires.{whole_scope}
-use Rattle.fil_share.specs.Instances.{Shows}
+use Rattle.fil_share.specs.Instances.{ShowsScope}
 use Rattle.fil_share.specs.Uses.{Held, IsGoodUse, held_by, is_on, shown_use}
 use Rattle.fil_share.specs.declared.uses.Use.{Use}
 use Rattle.fil_fsm.specs.Chain.{IsGenerated, chain_bits, chain_sets, register}
 use Rattle.fil_fsm.specs.Registers.{PartsHaveNumbers}
 use Rattle.fil_fsm.specs.declared.shift.FsmParts.{FsmParts}
 use Rattle.fil_lower.specs.Lowering.{Lowering, Registers, HasEnoughBits, HasNewRegisters, bits_of, inputs_of_callee, last_bit, register_sets, wants_in}
-use Rattle.fil_lower.specs.Parts.{IsGoodPort, NamesAllPorts}
+use Rattle.fil_lower.specs.inside.Parts.{IsGoodPort, NamesAllPorts}
 use Rattle.fil_lower.specs.declared.bits.EventBits.{EventBits}
 use Rattle.fil_lower.specs.declared.body.Body.{Body}
 use Rattle.fil_lower.specs.declared.calls.Calls.{Calls}
@@ -52,7 +52,7 @@ pub record ShowsBody (body : Body) (scope : Scope) : Type 0 where
   pub ports : HasGoodPorts scope
   pub numbers : ComponentHasNumbers body.names.now body.comp.now
   pub small : KeepsLimits body.comp.now
-  pub instances : Shows body.instances scope
+  pub instances : ShowsScope body.instances scope
   pub calls : ShowsCalls body.names.now scope.invocations body.calls
   pub uses : map (shown_use body.names.now) body.uses.items ≡ flat_map (held_by scope) scope.invocations
   pub good : All (IsGoodUse body.names.now) body.uses.items

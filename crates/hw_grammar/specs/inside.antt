@@ -1,0 +1,4 @@
+-- What only the functions inside the crate are specified by.
+pub mod Ends
+pub mod Renaming
+pub mod Showing
