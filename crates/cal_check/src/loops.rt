@@ -14,30 +14,16 @@ use crate::keys::name_in;
 use crate::texts::text_at;
 use crate::wire_graph::WireGraph;
 use hw_bits::Memory;
-use hw_graph::{Groups, OrderEnd, order_or_least_loop};
+use hw_graph::{Groups, OrderEnd, order_or_least_loop, read_order};
 use hw_names::{Names, Word};
 use std::alloc::Global;
 
-/// So many names, of which nothing matters.
-fn some_names(alloc: Global, count: usize) -> Result<Names, Memory>
-    requires { count < 2 ^ 32 }
-    ensures { IfOk result (λ names. length names ≡ count) }
-{
-    let mut names = Names::new(alloc);
-    for number in 0..count {
-        let _number = names.intern(&number.to_be_bytes())?;
-    }
-    Ok(names)
-}
-
-/// Whether there is an order in which each port comes after all that it reads. No name is looked at.
+/// Whether there is an order in which each port comes after all that it reads.
 fn has_order(alloc: Global, reads: &Groups) -> Result<bool, Memory>
-    requires in_range { AreInRange reads.now }
-    requires room { length reads.now < 2 ^ 32 }
+    requires { AreInRange reads.now }
     ensures { IfOk result (λ has. IsTrue has → HasOrder reads.now) }
 {
-    let names = some_names(alloc, reads.len())?;
-    match order_or_least_loop(alloc, reads, &names) {
+    match read_order(alloc, reads) {
         Ok(_order) => Ok(true),
         Err(OrderEnd::Loop { ports: _some }) => Ok(false),
         Err(OrderEnd::Memory) => Err(Memory),

@@ -20,7 +20,7 @@ use cal_copy::{add_name, copy_cells, copy_groups, copy_names, copy_sets};
 use hw_bits::Memory;
 use hw_names::{NameId, Names};
 use hw_prims::{Prim, Primitive};
-use itoa::Buffer;
+use hw_print::numbered;
 use net_core::Src;
 use std::alloc::Global;
 
@@ -79,10 +79,7 @@ fn port_names(names: &mut Names) -> Result<PortNames, Memory>
 fn group_name(alloc: Global, item: u64) -> Result<Vec<u8>, Memory>
     ensures { IfOk result (λ name. name.items ≡ codes "c$invoke" ++ decimal item) }
 {
-    let mut buffer = Buffer::new();
-    let mut name = Vec::from_slice(alloc, b"c$invoke")?;
-    name.extend_from_slice(buffer.format(item).as_bytes())?;
-    Ok(name)
+    numbered(alloc, b"c$invoke", item)
 }
 
 /// The port that starts a cell that can be invoked: `go` of a component and of `std_mult_pipe`, `write_en` of registers and memories.

@@ -1,12 +1,12 @@
 //! Names of wires and registers of control, as texts and as numbers.
-ghost use Rattle.std.specs.Prelude.{◌≡◌, ◌++◌, Some, decimal, slice_get, IfOk};
+ghost use Rattle.std.specs.Prelude.{◌≡◌, ◌++◌, Some, slice_get, IfOk};
 ghost use Rattle.hw_names.specs.Name.{KeepsTexts};
 ghost use Rattle.cal_lower.specs.inside.Labels.{LabelHasNumber, label_text};
 
 use cal_copy::add_name;
 use hw_bits::Memory;
 use hw_names::{NameId, Names};
-use itoa::Buffer;
+use hw_print::numbered;
 use std::alloc::Global;
 
 /// What a wire or a register of control tells of a row: the parts of a plan have numbers, and groups have names.
@@ -41,14 +41,6 @@ fn joined(alloc: Global, first: &[u8], second: &[u8]) -> Result<Vec<u8>, Memory>
     let mut text = Vec::from_slice(alloc, first)?;
     text.extend_from_slice(second)?;
     Ok(text)
-}
-
-/// A text with the decimal digits of a number after it.
-fn numbered(alloc: Global, first: &[u8], number: u64) -> Result<Vec<u8>, Memory>
-    ensures { IfOk result (λ text. text.items ≡ first.now ++ decimal number) }
-{
-    let mut buffer = Buffer::new();
-    joined(alloc, first, buffer.format(number).as_bytes())
 }
 
 /// The name of what tells this.

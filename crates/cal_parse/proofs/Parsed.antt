@@ -18,7 +18,7 @@ use Rattle.hw_grammar.proofs.Whole.{Judged, place_of}
 use Rattle.hw_grammar.proofs.Texts.{text_spelled, length-AreTerminals}
 use Rattle.cal_ast.specs.declared.tree.CalDesign.{CalDesign}
 use Rattle.cal_ast.specs.Tree.{Design, design_of}
-use Rattle.cal_parse.specs.declared.parse.TheConstants.{MOST_NESTING}
+use Rattle.hw_limits.specs.declared.limits.TheConstants.{MOST_NESTING}
 use Rattle.cal_parse.specs.declared.parse.CalTextEnd.{CalTextEnd}
 use Rattle.cal_parse.specs.declared.parse.CalTextEnd.TheVariants as ends
 use Rattle.cal_parse.specs.Grammar.{IsFile}

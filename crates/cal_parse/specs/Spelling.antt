@@ -12,7 +12,7 @@ use Rattle.hw_grammar.specs.Sort.{has}
 use Rattle.hw_grammar.specs.Place.{Place}
 use Rattle.hw_grammar.specs.TextPlace.{IsLexed, SpellsText, byte_of}
 use Rattle.cal_ast.specs.Tree.{Design}
-use Rattle.cal_parse.specs.declared.parse.TheConstants.{MOST_NESTING}
+use Rattle.hw_limits.specs.declared.limits.TheConstants.{MOST_NESTING}
 use Rattle.cal_parse.specs.declared.parse.CalTextEnd.{CalTextEnd}
 use Rattle.cal_parse.specs.declared.parse.CalTextEnd.TheVariants as ends
 use Rattle.cal_parse.specs.Grammar.{IsFile}

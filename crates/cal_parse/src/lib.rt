@@ -33,4 +33,4 @@ mod pin;
 mod port;
 mod setting;
 
-pub use parse::{CalTextEnd, MOST_NESTING, one_calyx, parse_calyx};
+pub use parse::{CalTextEnd, one_calyx, parse_calyx};

@@ -4,10 +4,11 @@ ghost use Rattle.cal_ast.specs.Numbers.{PinHasNumber, CellHasNumbers};
 ghost use Rattle.cal_ast.specs.Tree.{pin_tree, cell_tree};
 ghost use Rattle.cal_print.specs.Layout.{joined, line_text, pin_text, cell_text};
 
-use crate::put::{put, put_if, put_name, put_number, put_numbers};
+use crate::put::put_numbers;
 use cal_ast::{CalCell, CalPin};
 use hw_bits::Memory;
 use hw_names::Names;
+use hw_print::{put, put_if, put_name, put_number};
 
 fn put_pin(out: &mut Vec<u8>, names: &Names, pin: CalPin) -> Result<(), Memory>
     requires { PinHasNumber names.now pin }

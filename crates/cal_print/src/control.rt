@@ -7,10 +7,10 @@ ghost use Rattle.cal_ast.specs.Tree.{in_tree, out_tree, port_tree, statement_tre
 ghost use Rattle.cal_print.specs.Layout.{joined, line_text, deeper, in_text, out_text, port_text, with_text, invoke_text, is_empty_seq, statement_text, control_text};
 
 use crate::port::{put_port, put_source};
-use crate::put::{put, put_name};
 use cal_ast::{CalPort, Control, ControlPart, InBind, OutBind};
 use hw_bits::Memory;
 use hw_names::{NameId, Names};
+use hw_print::{put, put_name};
 use std::alloc::Global;
 
 fn put_in(out: &mut Vec<u8>, names: &Names, bind: InBind) -> Result<(), Memory>

@@ -8,10 +8,10 @@ ghost use Rattle.cal_print.specs.Printed.{PrintsWhatIsRead};
 use crate::cell::{put_cells, put_pins};
 use crate::control::put_control;
 use crate::group::{put_assignments, put_groups};
-use crate::put::{put, put_name};
 use cal_ast::{CalComp, CalDesign};
 use hw_bits::Memory;
 use hw_names::Names;
+use hw_print::{put, put_name};
 use std::alloc::Global;
 
 /// What a component begins with.

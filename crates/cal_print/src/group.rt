@@ -6,10 +6,10 @@ ghost use Rattle.cal_print.specs.Layout.{line_text, assignment_text, done_text, 
 
 use crate::guard::put_when;
 use crate::port::{put_port, put_source};
-use crate::put::{put, put_if, put_name};
 use cal_ast::{Assign, DoneSet, Group};
 use hw_bits::Memory;
 use hw_names::Names;
+use hw_print::{put, put_if, put_name};
 
 fn put_assignment(out: &mut Vec<u8>, names: &Names, set: &Assign) -> Result<(), Memory>
     requires { SetHasNumbers names.now set.now }

@@ -7,10 +7,10 @@ ghost use Rattle.cal_ast.specs.Tree.{port_tree};
 ghost use Rattle.cal_print.specs.Layout.{operator_text, is_list, is_compound, guard_text, guards_text, when_text};
 
 use crate::port::put_source;
-use crate::put::{put, put_if};
 use cal_ast::CalPort;
 use hw_bits::Memory;
 use hw_names::Names;
+use hw_print::{put, put_if};
 use net_core::{Cmp, Guard, Src};
 
 fn operator(op: Cmp) -> &'static [u8]

@@ -7,10 +7,10 @@ ghost use Rattle.cal_ast.specs.Numbers.{PortHasNumbers, SourceHasNumbers};
 ghost use Rattle.cal_ast.specs.Tree.{port_tree};
 ghost use Rattle.cal_print.specs.Layout.{cell_part, port_text, source_text};
 
-use crate::put::{put, put_name, put_number};
 use cal_ast::CalPort;
 use hw_bits::Memory;
 use hw_names::{NameId, Names};
+use hw_print::{put, put_name, put_number};
 use net_core::Src;
 
 /// The cell of a port and a dot; nothing where the port is the component's own.

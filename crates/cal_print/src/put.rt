@@ -6,28 +6,7 @@ ghost use Rattle.cal_print.specs.Layout.{joined};
 
 use hw_bits::Memory;
 use hw_names::{NameId, Names};
-use itoa::Buffer;
-
-pub(crate) fn put(out: &mut Vec<u8>, text: &[u8]) -> Result<(), Memory>
-    ensures { OnOk result (out.new.items ≡ out.old.items ++ text.now) }
-{
-    out.extend_from_slice(text)?;
-    Ok(())
-}
-
-/// The text, where it is wanted.
-pub(crate) fn put_if(out: &mut Vec<u8>, wanted: bool, text: &[u8]) -> Result<(), Memory>
-    ensures { OnOk result (out.new.items ≡ out.old.items ++ (if wanted then text.now else [])) }
-{
-    if wanted { put(out, text) } else { Ok(()) }
-}
-
-pub(crate) fn put_number(out: &mut Vec<u8>, number: u128) -> Result<(), Memory>
-    ensures { OnOk result (out.new.items ≡ out.old.items ++ decimal number) }
-{
-    let mut buffer = Buffer::new();
-    put(out, buffer.format(number).as_bytes())
-}
+use hw_print::{put, put_number};
 
 pub(crate) fn put_numbers(out: &mut Vec<u8>, numbers: &[u128]) -> Result<(), Memory>
     ensures { OnOk result (out.new.items ≡ out.old.items ++ joined decimal numbers.now) }
@@ -41,11 +20,4 @@ pub(crate) fn put_numbers(out: &mut Vec<u8>, numbers: &[u128]) -> Result<(), Mem
         put_number(out, *number)?;
     }
     Ok(())
-}
-
-pub(crate) fn put_name(out: &mut Vec<u8>, names: &Names, name: NameId) -> Result<(), Memory>
-    requires { IsNumberOf names.now name }
-    ensures { OnOk result (out.new.items ≡ out.old.items ++ text_of names.now name) }
-{
-    put(out, names.text(name))
 }

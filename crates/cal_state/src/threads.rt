@@ -15,7 +15,7 @@ use cal_ast::{Assign, CalCell, CalPort};
 use cal_copy::add_name;
 use hw_bits::Memory;
 use hw_names::{NameId, Names};
-use itoa::Buffer;
+use hw_print::numbered;
 use net_core::{Cmp, Guard, Src};
 use std::alloc::Global;
 
@@ -94,10 +94,7 @@ fn width_of(last: u64) -> u128
 fn register_text(alloc: Global, part: u64) -> Result<Vec<u8>, Memory>
     ensures { IfOk result (λ text. text.items ≡ codes "c$fsm" ++ decimal part) }
 {
-    let mut text = Vec::from_slice(alloc, b"c$fsm")?;
-    let mut buffer = Buffer::new();
-    text.extend_from_slice(buffer.format(part).as_bytes())?;
-    Ok(text)
+    numbered(alloc, b"c$fsm", part)
 }
 
 impl Thread {

@@ -4,7 +4,8 @@ ghost use Rattle.cal_ast.specs.Numbers.{HasNumbers};
 
 use cal_ast::CalDesign;
 use cal_check::{CalEnd, check_calyx};
-use cal_parse::{CalTextEnd, MOST_NESTING, parse_calyx};
+use cal_parse::{CalTextEnd, parse_calyx};
+use hw_limits::MOST_NESTING;
 use hw_names::{NameId, Names, Word};
 use std::alloc::Global;
 use std::process::Abort;

@@ -15,9 +15,9 @@
 //! strongly connected components (`components`), and the least port on a loop is looked for (`least_loop`). A search keeps its
 //! path in a list, so a long chain of ports takes no stack.
 //!
-//! What the layer above uses: `order_or_least_loop` gives an order (`IsReadOrder`) or a least loop (`IsLeastCycle`);
-//! `Reach::from` gives exactly the ports that a port reads, directly or through others (`Reaches`), each once; `gather` gives
-//! each key its values in their order (`IsGathered`).
+//! What the layer above uses: `order_or_least_loop` gives an order (`IsReadOrder`) or a least loop (`IsLeastCycle`), and
+//! `read_order` an order or some loop (`IsCycle`), without names; `Reach::from` gives exactly the ports that a port reads,
+//! directly or through others (`Reaches`), each once; `gather` gives each key its values in their order (`IsGathered`).
 #![tactic(auto)]
 
 mod by_name;
@@ -35,3 +35,4 @@ pub use groups::{Entry, Groups, gather};
 pub use least_loop::order_or_least_loop;
 pub use order_end::OrderEnd;
 pub use reach::Reach;
+pub use search::read_order;

@@ -5,7 +5,7 @@ use hw_bits::Memory;
 #[derive(Debug, Drop)]
 pub enum OrderEnd {
     /// Each of these ports reads the next, and the last reads the first; no port occurs twice.
-    /// The first is the least, by the bytes of its name, that lies on any loop.
+    /// Where names are asked for, the first is the least, by the bytes of its name, that lies on any loop.
     Loop { ports: Vec<usize> },
     /// There was no memory.
     Memory,

@@ -31,7 +31,7 @@ pub struct Search {
     pub order: Vec<usize>,
 }
 
-/// The ports in an order in which each comes after all that it reads.
+/// The ports in an order in which each comes after all that it reads, or some loop.
 pub fn read_order(alloc: Global, reads: &Groups) -> Result<Vec<usize>, OrderEnd>
     requires { AreInRange reads.now }
     ensures order { IfOk result (λ order. IsReadOrder reads.now order.items) }

@@ -40,7 +40,7 @@ mod words;
 
 pub use net::{Cmp, Guard, Net, NetAssign, NetCell, NetPort, Src};
 pub use rules::{NetEnd, valid};
-pub use stimulus::{CycleList, InputSet, MemLoad, MemShape};
+pub use stimulus::{CycleList, InputSet, InputShape, MemLoad, MemShape};
 pub use table::{PortInfo, Table};
 pub use weight::{guard_nodes, net_weight};
 pub use words::net_words;

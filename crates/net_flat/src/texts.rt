@@ -7,14 +7,8 @@ ghost use Rattle.net_flat.specs.inside.Placed.{port_text};
 use cal_ast::CalPort;
 use hw_bits::Memory;
 use hw_names::{NameId, Names};
+use hw_print::put;
 use std::alloc::Global;
-
-fn put(out: &mut Vec<u8>, text: &[u8]) -> Result<(), Memory>
-    ensures { OnOk result (out.new.items ≡ out.old.items ++ text.now) }
-{
-    out.extend_from_slice(text)?;
-    Ok(())
-}
 
 /// What full names below a cell begin with: what those of its instance begin with, the cell's name and a dot.
 pub(crate) fn prefix_below(alloc: Global, prefix: &[u8], cell: &[u8]) -> Result<Vec<u8>, Memory>

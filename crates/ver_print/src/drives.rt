@@ -12,11 +12,12 @@ ghost use Rattle.ver_print.specs.Values.{drive_line, drives_text, guard_text, se
 ghost use Rattle.ver_print.specs.Words.{zeros};
 
 use crate::guards::put_guard;
-use crate::put::{put, put_escaped, put_number, put_source};
+use crate::put::{put_escaped, put_source};
 use crate::sides::writable_ports;
 use hw_bits::Memory;
 use hw_graph::{Entry, Groups, gather};
 use hw_names::Names;
+use hw_print::{put, put_number};
 use net_core::{Net, NetAssign, Table};
 use std::alloc::Global;
 

@@ -5,9 +5,10 @@ ghost use Rattle.net_core.specs.Guard.{Compares, guard_tree, guards_of, source_t
 ghost use Rattle.net_core.specs.Numbers.{GuardHasNumbers, SourceHasNumbers};
 ghost use Rattle.ver_print.specs.Values.{guard_text, guards_text, operator_text};
 
-use crate::put::{put, put_source};
+use crate::put::put_source;
 use hw_bits::Memory;
 use hw_names::{NameId, Names};
+use hw_print::put;
 use net_core::{Cmp, Guard, Src};
 
 fn operator(op: Cmp) -> &'static [u8]

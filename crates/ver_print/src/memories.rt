@@ -6,9 +6,9 @@ ghost use Rattle.ver_print.specs.Words.{inner_line};
 
 use crate::pieces::Piece::{Number, Part, Words};
 use crate::pieces::{put_line, put_pieces};
-use crate::put::{put, put_number};
 use crate::registers::{put_kept, put_shown};
 use hw_bits::Memory;
+use hw_print::{put, put_number};
 
 /// How many words a memory has, and how they are addressed.
 #[derive(Clone, Copy)]

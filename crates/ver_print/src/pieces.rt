@@ -3,8 +3,8 @@ ghost use Rattle.std.specs.Prelude.{◌≡◌, ◌++◌, OnOk};
 ghost use Rattle.ver_print.specs.inside.Pieces.{piece_text, pieces_text};
 ghost use Rattle.ver_print.specs.Words.{inner_line, part};
 
-use crate::put::{put, put_number};
 use hw_bits::Memory;
+use hw_print::{put, put_number};
 
 /// A piece of a line.
 #[derive(Clone, Copy)]

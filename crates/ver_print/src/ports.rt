@@ -6,9 +6,10 @@ ghost use Rattle.net_core.specs.Rules.{PortLine};
 ghost use Rattle.net_core.specs.Table.{IsTableOf};
 ghost use Rattle.ver_print.specs.Ports.{port_text, ports_text, wire_line, wires_text};
 
-use crate::put::{put, put_escaped, put_range};
+use crate::put::{put_escaped, put_range};
 use hw_bits::Memory;
 use hw_names::Names;
+use hw_print::put;
 use net_core::{Net, NetPort, Table};
 
 /// A port of the module, after another one.

@@ -8,8 +8,9 @@ ghost use Rattle.ver_print.specs.Verilog.{verilog_text};
 use crate::cells::put_cells;
 use crate::drives::put_drives;
 use crate::ports::{put_ports, put_wires};
-use crate::put::{put, put_escaped};
+use crate::put::put_escaped;
 use hw_bits::Memory;
+use hw_print::put;
 use net_core::{Net, Table};
 use std::alloc::Global;
 

@@ -8,22 +8,8 @@ ghost use Rattle.ver_print.specs.Words.{escaped, literal, range};
 
 use hw_bits::Memory;
 use hw_names::{NameId, Names};
-use itoa::Buffer;
+use hw_print::{put, put_number};
 use net_core::Src;
-
-pub(crate) fn put(out: &mut Vec<u8>, text: &[u8]) -> Result<(), Memory>
-    ensures { OnOk result (out.new.items ≡ out.old.items ++ text.now) }
-{
-    out.extend_from_slice(text)?;
-    Ok(())
-}
-
-pub(crate) fn put_number(out: &mut Vec<u8>, number: u128) -> Result<(), Memory>
-    ensures { OnOk result (out.new.items ≡ out.old.items ++ decimal number) }
-{
-    let mut buffer = Buffer::new();
-    put(out, buffer.format(number).as_bytes())
-}
 
 /// A name, escaped.
 pub(crate) fn put_escaped(out: &mut Vec<u8>, name: &[u8]) -> Result<(), Memory>

@@ -3,8 +3,8 @@ use Rattle.hw_graph.proofs.ComponentLemmas.{gathered_in_range}
 use Rattle.cal_check.proofs.NumberLemmas.{no_loop}
 use Rattle.cal_check.proofs.loops.least_loop.Goals as goal
 
-pub has_order-requires-clause-in_range : goal.has_order-requires-clause-in_range
-has_order-requires-clause-in_range c =
+pub has_order-requires : goal.has_order-requires
+has_order-requires c =
     let g = c.args.graph.now in
     gathered_in_range g.entries.items (length g.ports.keys) c.args.reads.now g.in_range c.requires.reads
 
