@@ -1,16 +1,15 @@
 -- Assignments that never act at once, one after another.
-use Rattle.std.proofs.Common.{◌≡◌, ◌==◌, ◌⊎◌, ℕ, Bool, true, false, not, ◌&&◌, ◌||◌, nat_eq, if◌then◌else◌, List, [], ◌∷◌, ◌++◌, refl, sym, ap, ◌∙◌, inl, inr, eq-eqb, eqb-true}
-use Rattle.std.proofs.lemmas.List.Folds.{list_any-append}
-use Rattle.std.specs.List.{list_any}
-use Rattle.std.specs.Prelude.{slice_index}
+use Rattle.std.proofs.Common.{◌≡◌, ◌==◌, ◌⊎◌, ℕ, Bool, true, false, not, cond, ◌&&◌, ◌||◌, nat_eq, List, [], ◌∷◌, ◌++◌, Option, Some, refl, sym, ap, ◌∙◌, inl, inr, eq-eqb, eqb-true}
+use Rattle.std.specs.Prelude.{slice_index, unwrap_or}
 use Rattle.hw_prims.specs.Meaning.{bit}
-use Rattle.net_steps.specs.Apart.{AreNeverBoth, HasNoTwo, Implies}
+use Rattle.net_steps.specs.Apart.{AreNeverBoth, HasNoTwo, Implies, Joins, empty_group, has_true}
 use Rattle.net_steps.specs.Drivers.{acting}
 use Rattle.net_steps.specs.Operations.{has_two, is_on, IsStep}
 use Rattle.net_steps.specs.Steps.{IsRowOf, IsConstant}
 use Rattle.net_steps.specs.StepsValue.{StepsValue}
 use Rattle.net_steps.specs.Truths.{is_true, IsBothOf}
 use Rattle.net_steps.specs.declared.apart.Equality.{Equality}
+use Rattle.net_steps.specs.declared.apart.Group.{Group}
 use Rattle.net_steps.specs.declared.drivers.Driver.{Driver}
 use Rattle.net_steps.specs.declared.operation.Operation.TheVariants.{Equal}
 use Rattle.net_steps.specs.declared.other.Other.{Other}
@@ -84,9 +83,77 @@ pub differ : (b : Bool) → not b ≡ true → b ≡ true → ⊥
 differ true off on = cc
 differ false off on = cc
 
-pub off_of : (r b : Bool) → r ≡ not b → r ≡ true → b ≡ false
-off_of r true is on = cc
-off_of r false is on = refl
+-- a number that a truth asks of a slot, by the slot's name
+pub implied_at : (steps : StepsValue) (truth : Truth) (asked : Equality) (slot : ℕ) → Implies steps truth asked → asked.slot ≡ slot → Implies steps truth (record { slot = slot; number = asked.number })
+implied_at steps truth asked slot is same others slots row on = ap (slice_index slots) (sym same) ∙ is others slots row on
+
+-- ---- one that denies the other
+
+both_on : (a b : Bool) → a ≡ true → b ≡ true → (a && b) ≡ false → ⊥
+both_on true true on too never = cc
+both_on true false on too never = cc
+both_on false b on too never = cc
+
+pub denied_by : (steps : StepsValue) (truth part whole : Truth) → Follows steps whole part → AreNeverBoth steps truth part → AreNeverBoth steps truth whole
+denied_by steps truth part whole follows never others slots row =
+    not_both_true (is_true slots truth) (is_true slots whole) (λ on too. both_on (is_true slots truth) (is_true slots part) on (follows others slots row too) (never others slots row))
+
+pub part_denied : (steps : StepsValue) (whole part other : Truth) → Follows steps whole part → AreNeverBoth steps part other → AreNeverBoth steps whole other
+part_denied steps whole part other follows never others slots row =
+    not_both_true (is_true slots whole) (is_true slots other) (λ on too. both_on (is_true slots part) (is_true slots other) (follows others slots row on) too (never others slots row))
+
+pub second_follows : (steps : StepsValue) (truth rest one other : Truth) → Follows steps truth rest → IsBothOf steps rest one other → Follows steps truth other
+second_follows steps truth rest one other follows is others slots row on =
+    both_second (is_true slots one) (is_true slots other) (is_true slots rest) (is others slots row) (follows others slots row on)
+
+pub never_fixed : (steps : StepsValue) (one other : Truth) → ((slots : List ℕ) → is_true slots one ≡ false) → AreNeverBoth steps one other
+never_fixed steps one other never others slots row = ap (λ b. b && is_true slots other) (never slots)
+
+and_not : (a b : Bool) → b ≡ not a → (a && b) ≡ false
+and_not true b e = e
+and_not false b e = refl
+
+pub never_opposite : (steps : StepsValue) (one other : Truth) → ((slots : List ℕ) → is_true slots other ≡ not (is_true slots one)) → AreNeverBoth steps one other
+never_opposite steps one other opposite others slots row = and_not (is_true slots one) (is_true slots other) (opposite slots)
+
+and_turned : (a b : Bool) → (a && b) ≡ (b && a)
+and_turned true true = refl
+and_turned true false = refl
+and_turned false true = refl
+and_turned false false = refl
+
+pub never_turned : (steps : StepsValue) (one other : Truth) → AreNeverBoth steps one other → AreNeverBoth steps other one
+never_turned steps one other never others slots row = and_turned (is_true slots other) (is_true slots one) ∙ never others slots row
+
+-- ---- some that ask for one number
+
+none_beside : (a b c d t : Bool) → (a && t) ≡ false → (b && t) ≡ false → (c && t) ≡ false → d ≡ false → ((a || (b || (c || d))) && t) ≡ false
+none_beside true b c d t one two three four = one
+none_beside false true c d t one two three four = two
+none_beside false false true d t one two three four = three
+none_beside false false false true t one two three four = cc
+none_beside false false false false t one two three four = refl
+
+one_more : (t a b c d : Bool) → d ≡ false → (t || (a || (b || c))) ≡ ((a || (b || (c || d))) || t)
+one_more true true b c d four = refl
+one_more true false true c d four = refl
+one_more true false false true d four = refl
+one_more true false false false true four = refl
+one_more true false false false false four = refl
+one_more false true b c d four = refl
+one_more false false true c d four = refl
+one_more false false false true d four = refl
+one_more false false false false true four = cc
+one_more false false false false false four = refl
+
+pub joins : (steps : StepsValue) (g : Group) (truth : Truth) → AreNeverBoth steps g.first truth → AreNeverBoth steps g.second truth → AreNeverBoth steps g.third truth → ((slots : List ℕ) → is_true slots g.fourth ≡ false) → Joins steps g truth (record { first = truth; second = g.first; third = g.second; fourth = g.third })
+joins steps g truth one two three four = record {
+  apart = λ others slots row.
+      none_beside (is_true slots g.first) (is_true slots g.second) (is_true slots g.third) (is_true slots g.fourth) (is_true slots truth)
+      (one others slots row) (two others slots row) (three others slots row) (four slots);
+  joined = λ others slots row.
+      one_more (is_true slots truth) (is_true slots g.first) (is_true slots g.second) (is_true slots g.third) (is_true slots g.fourth) (four slots);
+}
 
 -- ---- one after another
 
@@ -106,10 +173,6 @@ some_of [] true value some = inr refl
 some_of [] false value some = cc
 some_of (v ∷ values) on value some = inl refl
 
-or_false : (b : Bool) → b ≡ true → (b || false) ≡ true
-or_false true e = refl
-or_false false e = cc
-
 or_first : (a b : Bool) → a ≡ true → (a || b) ≡ true
 or_first true b e = refl
 or_first false b e = cc
@@ -118,38 +181,56 @@ or_second : (a b : Bool) → b ≡ true → (a || b) ≡ true
 or_second true b e = refl
 or_second false b e = e
 
--- no two of the first drivers act at once, and where one acts the slot has one of the numbers
-pub record AreApartUpto (steps : StepsValue) (slot : ℕ) (drivers : List Driver) (numbers : List ℕ) : Type 0 where
+abbrev group_at : (ℕ → Option Group) → ℕ → Group
+group_at groups number = unwrap_or (groups number) empty_group
+
+-- no two of the first drivers act at once, and where one acts it is of those that ask for the slot's number
+pub record AreApartUpto (steps : StepsValue) (slot : ℕ) (drivers : List Driver) (groups : ℕ → Option Group) : Type 0 where
   pub alone : HasNoTwo steps drivers
-  pub among : (others : List Other) (slots : List ℕ) → IsRowOf steps others slots → has_some (acting slots drivers) ≡ true → list_any (nat_eq (slice_index slots slot)) numbers ≡ true
+  pub among : (others : List Other) (slots : List ℕ) → IsRowOf steps others slots → has_some (acting slots drivers) ≡ true → has_true slots (group_at groups (slice_index slots slot)) ≡ true
 
-pub apart_none : (steps : StepsValue) (slot : ℕ) → AreApartUpto steps slot [] []
-apart_none steps slot = record { alone = λ others slots row. refl; among = λ others slots row some. cc }
+pub apart_none : (steps : StepsValue) (slot : ℕ) (groups : ℕ → Option Group) → AreApartUpto steps slot [] groups
+apart_none steps slot groups = record { alone = λ others slots row. refl; among = λ others slots row some. cc }
 
-pub apart_more : (steps : StepsValue) (slot : ℕ) (drivers : List Driver) (numbers more : List ℕ) (d : Driver) (asked : Equality) → AreApartUpto steps slot drivers numbers → Implies steps d.truth asked → asked.slot ≡ slot → list_any (nat_eq asked.number) numbers ≡ false → more ≡ numbers ++ asked.number ∷ [] → AreApartUpto steps slot (drivers ++ d ∷ []) more
-apart_more steps slot drivers numbers more d asked so_far is at new pushed = record {
-  alone = λ others slots row.
+-- what was put in at a number is true, or what was there before
+still_true : (slots : List ℕ) (number v : ℕ) (same : Bool) (group : Group) (old new : ℕ → Option Group) → nat_eq number v ≡ same → new v ≡ cond same (Some group) (old v) → has_true slots (group_at old v) ≡ true → (number ≡ v → has_true slots group ≡ true) → has_true slots (group_at new v) ≡ true
+still_true slots number v true group old new same put there joined =
+    ap (λ o. has_true slots (unwrap_or o empty_group)) put ∙ joined (eqb-true number v same)
+still_true slots number v false group old new same put there joined =
+    ap (λ o. has_true slots (unwrap_or o empty_group)) put ∙ there
+
+put_there : (slots : List ℕ) (number v : ℕ) (group : Group) (old new : ℕ → Option Group) → nat_eq number v ≡ true → new v ≡ cond (nat_eq number v) (Some group) (old v) → group_at new v ≡ group
+put_there slots number v group old new same put =
+    ap (λ o. unwrap_or o empty_group) (put ∙ ap (λ b. cond b (Some group) (old v)) same)
+
+-- one driver more
+module _ (steps : StepsValue) (slot : ℕ) (drivers : List Driver) (old new : ℕ → Option Group) (d : Driver) (number : ℕ) (group : Group) (so_far : AreApartUpto steps slot drivers old) (is : Implies steps d.truth (record { slot = slot; number = number })) (joined : Joins steps (group_at old number) d.truth group) (put : (q : ℕ) → new q ≡ cond (nat_eq number q) (Some group) (old q)) where
+  alone_more : HasNoTwo steps (drivers ++ d ∷ [])
+  alone_more others slots row =
       let before = acting slots drivers in
       ap has_two (acting_more slots drivers d)
       ∙ none_with before (is_true slots d.truth) (slice_index slots d.source) (so_far.alone others slots row)
       (λ on. not_true (has_some before) (λ some.
-      let there = so_far.among others slots row some in
-      let number = ap (λ v. list_any (nat_eq v) numbers) (number_is others slots row on) in
-      absurd (let e : true ≡ false = sym there ∙ number ∙ new in cc)));
-  among = λ others slots row some.
-      let before = acting slots drivers in
-      let this = slice_index slots slot in
-      ap (list_any (nat_eq this)) pushed
-      ∙ list_any-append (nat_eq this) numbers (asked.number ∷ [])
-      ∙ elim (some_of before (is_true slots d.truth) (slice_index slots d.source) (ap has_some (sym (acting_more slots drivers d)) ∙ some)) [
-        | inl earlier ↦ or_first (list_any (nat_eq this) numbers) (nat_eq this asked.number || false) (so_far.among others slots row earlier)
-        | inr on ↦ or_second (list_any (nat_eq this) numbers) (nat_eq this asked.number || false) (or_false (nat_eq this asked.number) (eq-eqb this asked.number (number_is others slots row on)))
-      ];
-}
-  where
-    number_is : (others : List Other) (slots : List ℕ) → IsRowOf steps others slots → is_true slots d.truth ≡ true → slice_index slots slot ≡ asked.number
-    number_is others slots row on = ap (slice_index slots) (sym at) ∙ is others slots row on
+      both_on (has_true slots (group_at old number)) (is_true slots d.truth)
+      (ap (λ v. has_true slots (group_at old v)) (sym (is others slots row on)) ∙ so_far.among others slots row some) on
+      (joined.apart others slots row)))
 
--- a number that was not there is put last
-pub number_added : (numbers more : List ℕ) (number : ℕ) → list_any (nat_eq number) numbers ≡ false → more ≡ (if list_any (nat_eq number) numbers then numbers else numbers ++ number ∷ []) → more ≡ numbers ++ number ∷ []
-number_added numbers more number new is = is ∙ ap (λ b. if b then numbers else numbers ++ number ∷ []) new
+  true_of_group : (others : List Other) (slots : List ℕ) → IsRowOf steps others slots → (has_true slots (group_at old number) || is_true slots d.truth) ≡ true → has_true slots group ≡ true
+  true_of_group others slots row one = joined.joined others slots row ∙ one
+
+  among_more : (others : List Other) (slots : List ℕ) → IsRowOf steps others slots → has_some (acting slots (drivers ++ d ∷ [])) ≡ true → has_true slots (group_at new (slice_index slots slot)) ≡ true
+  among_more others slots row some =
+      let before = acting slots drivers in
+      let v = slice_index slots slot in
+      elim (some_of before (is_true slots d.truth) (slice_index slots d.source) (ap has_some (sym (acting_more slots drivers d)) ∙ some)) [
+        | inl earlier ↦ (
+            let there = so_far.among others slots row earlier in
+            still_true slots number v (nat_eq number v) group old new refl (put v) there
+            (λ same. true_of_group others slots row (or_first (has_true slots (group_at old number)) (is_true slots d.truth) (ap (λ q. has_true slots (group_at old q)) same ∙ there))))
+        | inr on ↦
+            ap (has_true slots) (put_there slots number v group old new (eq-eqb number v (sym (is others slots row on))) (put v))
+            ∙ true_of_group others slots row (or_second (has_true slots (group_at old number)) (is_true slots d.truth) on)
+      ]
+
+  pub apart_more : AreApartUpto steps slot (drivers ++ d ∷ []) new
+  apart_more = record { alone = alone_more; among = among_more }

@@ -1,14 +1,16 @@
--- Assignments that never act at once, since each asks a slot for another number. This project's.
-use Rattle.std.specs.Prelude.{◌≡◌, ℕ, true, false, ◌&&◌, List, slice_index}
+-- Assignments that never act at once, since what one asks is denied by what the other asks. This project's.
+use Rattle.std.specs.Prelude.{◌≡◌, ℕ, Bool, true, false, ◌&&◌, ◌||◌, List, slice_index}
 use Rattle.net_steps.specs.Drivers.{acting}
 use Rattle.net_steps.specs.Operations.{has_two}
 use Rattle.net_steps.specs.Steps.{IsRowOf}
 use Rattle.net_steps.specs.StepsValue.{StepsValue}
 use Rattle.net_steps.specs.Truths.{is_true}
 use Rattle.net_steps.specs.declared.apart.Equality.{Equality}
+use Rattle.net_steps.specs.declared.apart.Group.{Group}
 use Rattle.net_steps.specs.declared.drivers.Driver.{Driver}
 use Rattle.net_steps.specs.declared.other.Other.{Other}
 use Rattle.net_steps.specs.declared.truth.Truth.{Truth}
+use Rattle.net_steps.specs.declared.truth.Truth.TheVariants.{Fixed}
 
 -- in each row in which it is true the slot has this number
 abbrev pub Implies : StepsValue → Truth → Equality → Type 0
@@ -24,3 +26,16 @@ AreNeverBoth steps one other =
 abbrev pub HasNoTwo : StepsValue → List Driver → Type 0
 HasNoTwo steps drivers =
     (others : List Other) (slots : List ℕ) → IsRowOf steps others slots → has_two (acting slots drivers) ≡ false
+
+-- no truths
+abbrev pub empty_group : Group
+empty_group = record { first = Fixed false; second = Fixed false; third = Fixed false; fourth = Fixed false }
+
+-- one of the truths is true
+abbrev pub has_true : List ℕ → Group → Bool
+has_true slots group = is_true slots group.first || (is_true slots group.second || (is_true slots group.third || is_true slots group.fourth))
+
+-- a truth was added that is never true beside one of the others
+pub record Joins (steps : StepsValue) (old : Group) (truth : Truth) (new : Group) : Type 0 where
+  pub apart : (others : List Other) (slots : List ℕ) → IsRowOf steps others slots → (has_true slots old && is_true slots truth) ≡ false
+  pub joined : (others : List Other) (slots : List ℕ) → IsRowOf steps others slots → has_true slots new ≡ (has_true slots old || is_true slots truth)

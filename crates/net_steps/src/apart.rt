@@ -1,15 +1,16 @@
-//! Assignments that never act at once, since each asks a slot for another number.
-ghost use Rattle.std.specs.Prelude.{◌≡◌, ◌⊎◌, true, false, IfOk, IfSome};
-ghost use Rattle.net_steps.specs.Apart.{AreNeverBoth, HasNoTwo, Implies};
+//! Assignments that never act at once, since what one asks is denied by what the other asks.
+ghost use Rattle.std.specs.Prelude.{◌≡◌, ◌⊎◌, true, false, nat_eq, unwrap_or, IfOk, IfSome};
+ghost use Rattle.indexmap.specs.IndexMap.{get};
+ghost use Rattle.net_steps.specs.Apart.{AreNeverBoth, HasNoTwo, Implies, empty_group};
 ghost use Rattle.net_steps.specs.Steps.{IsConstant};
 ghost use Rattle.net_steps.specs.declared.truth.Truth.TheVariants.{Slot};
 
 use crate::drivers::Driver;
 use crate::operation::Operation;
 use crate::steps::Steps;
-use crate::truth::{Truth, parts};
+use crate::truth::{Truth, are_opposite, parts};
 use hw_bits::Memory;
-use indexmap::IndexSet;
+use indexmap::IndexMap;
 use std::alloc::Global;
 
 /// The most steps of a guard that are looked through.
@@ -22,40 +23,146 @@ pub struct Equality {
     pub number: u64,
 }
 
-/// Whether the two never act at once, by a slot of which each asks another number.
-pub fn never_both(steps: &Steps, one: Driver, other: Driver) -> bool
-    ensures { result ≡ true → AreNeverBoth steps.now one.truth other.truth }
-{
-    let Some(slot) = asked_slot(steps, &[one, other]) else {
-        return false;
-    };
-    let Some(first) = asked_of(steps, one.truth, Some(slot)) else {
-        return false;
-    };
-    let Some(second) = asked_of(steps, other.truth, Some(slot)) else {
-        return false;
-    };
-    first.slot == second.slot && first.number != second.number
+/// Up to four truths that ask one number of a slot; a place that is free has one that is never true.
+#[derive(Clone, Copy, Debug)]
+pub struct Group {
+    pub first: Truth,
+    pub second: Truth,
+    pub third: Truth,
+    pub fourth: Truth,
 }
 
-/// Whether no two of the drivers act at once, by a slot of which each asks another number.
+impl Group {
+    ghost use Rattle.std.specs.Prelude.{◌≡◌, IfSome};
+    ghost use Rattle.net_steps.specs.Apart.{Joins, empty_group};
+
+    /// No truths.
+    fn empty() -> Group
+        ensures { result ≡ empty_group }
+    {
+        let never = Truth::Fixed(false);
+        Group {
+            first: never,
+            second: never,
+            third: never,
+            fourth: never,
+        }
+    }
+
+    /// With one truth more, unless there is no room for it or it may be true beside another.
+    fn joined(self, steps: &Steps, truth: Truth) -> Option<Group>
+        ensures { IfSome result (Joins steps.now self truth) }
+    {
+        if never_both(steps, self.first, truth)
+            && never_both(steps, self.second, truth)
+            && never_both(steps, self.third, truth)
+            && self.fourth.is_never()
+        {
+            return Some(Group {
+                first: truth,
+                second: self.first,
+                third: self.second,
+                fourth: self.third,
+            });
+        }
+        None
+    }
+}
+
+/// Whether no two of the drivers act at once: each asks a slot for a number, and those that ask for the same one deny each other.
 pub fn never_two(alloc: Global, steps: &Steps, drivers: &[Driver]) -> Result<bool, Memory>
     ensures { IfOk result (λ apart. apart ≡ true → HasNoTwo steps.now drivers.now) }
 {
     let Some(slot) = asked_slot(steps, drivers) else {
         return Ok(false);
     };
-    let mut numbers: IndexSet<u64> = IndexSet::new(alloc);
+    let mut groups: IndexMap<u64, Group> = IndexMap::new(alloc);
     for driver in drivers {
-        let Some(asked) = asked_of(steps, driver.truth, Some(slot)) else {
+        let Some(number) = asked_number(steps, driver.truth, slot) else {
             return Ok(false);
         };
-        let (_, is_new) = numbers.insert_full(asked.number)?;
-        if asked.slot != slot || !is_new {
+        let Some(group) = group_of(&groups, number).joined(steps, driver.truth) else {
             return Ok(false);
-        }
+        };
+        groups.insert(number, group)?;
     }
     Ok(true)
+}
+
+/// The truths that ask for this number.
+fn group_of(groups: &IndexMap<u64, Group>, number: u64) -> Group
+    ensures { result ≡ unwrap_or (get nat_eq groups.now number) empty_group }
+{
+    match groups.get(&number) {
+        Some(group) => *group,
+        None => Group::empty(),
+    }
+}
+
+/// Whether the two are never both true: a part of the one is denied by the other.
+pub fn never_both(steps: &Steps, one: Truth, other: Truth) -> bool
+    ensures { result ≡ true → AreNeverBoth steps.now one other }
+{
+    if denies(steps, other, one) {
+        return true;
+    }
+    let mut rest = one;
+    for _ in 0..LOOKS {
+        let Some((left, right)) = parts(steps, rest) else {
+            return false;
+        };
+        if denies(steps, other, left) || denies(steps, other, right) {
+            return true;
+        }
+        rest = deeper(steps, left, right);
+    }
+    false
+}
+
+/// Whether the two are never both true: the one is denied by a part of the other.
+fn denies(steps: &Steps, whole: Truth, truth: Truth) -> bool
+    ensures { result ≡ true → AreNeverBoth steps.now truth whole }
+{
+    if are_contrary(steps, truth, whole) {
+        return true;
+    }
+    let mut rest = whole;
+    for _ in 0..LOOKS {
+        let Some((left, right)) = parts(steps, rest) else {
+            return false;
+        };
+        if are_contrary(steps, truth, left) || are_contrary(steps, truth, right) {
+            return true;
+        }
+        rest = deeper(steps, left, right);
+    }
+    false
+}
+
+/// Whether the two are never both true, by the last step of each.
+fn are_contrary(steps: &Steps, one: Truth, other: Truth) -> bool
+    ensures { result ≡ true → AreNeverBoth steps.now one other }
+{
+    if one.is_never() {
+        return true;
+    }
+    if are_opposite(one, other) {
+        return true;
+    }
+    ask_apart(steps, one, other) || ask_apart(steps, other, one)
+}
+
+/// Whether the two ask different numbers of a slot that the first compares, by the last step of each.
+fn ask_apart(steps: &Steps, one: Truth, other: Truth) -> bool
+    ensures { result ≡ true → AreNeverBoth steps.now one other }
+{
+    let Some(first) = told(steps, one, None) else {
+        return false;
+    };
+    let Some(second) = told(steps, other, Some(first.slot)) else {
+        return false;
+    };
+    first.slot == second.slot && first.number != second.number
 }
 
 /// A slot of which one of the drivers asks a number.
@@ -68,31 +175,47 @@ fn asked_slot(steps: &Steps, drivers: &[Driver]) -> Option<u32> {
     None
 }
 
+/// The number that the slot has to have for this to be true, if steps tell it.
+fn asked_number(steps: &Steps, truth: Truth, slot: u32) -> Option<u64>
+    ensures { IfSome result (λ number. Implies steps.now truth (record { slot = slot; number = number })) }
+{
+    let asked = asked_of(steps, truth, Some(slot))?;
+    if asked.slot == slot {
+        Some(asked.number)
+    } else {
+        None
+    }
+}
+
 /// What a slot has to be for this to be true, if steps tell it: the wanted slot, or any.
 fn asked_of(steps: &Steps, truth: Truth, wanted: Option<u32>) -> Option<Equality>
     ensures { IfSome result (Implies steps.now truth) }
 {
+    if let Some(asked) = told(steps, truth, wanted) {
+        return Some(asked);
+    }
     let mut rest = truth;
     for _ in 0..LOOKS {
-        if let Some(asked) = told(steps, rest, wanted) {
+        let (left, right) = parts(steps, rest)?;
+        if let Some(asked) = told(steps, left, wanted) {
             return Some(asked);
         }
-        let (one, other) = parts(steps, rest)?;
-        if let Some(asked) = told(steps, one, wanted) {
+        if let Some(asked) = told(steps, right, wanted) {
             return Some(asked);
         }
-        rest = deeper(one, other);
+        rest = deeper(steps, left, right);
     }
     None
 }
 
-/// The one of two that may have parts.
-fn deeper(one: Truth, other: Truth) -> Truth
+/// The one of two that has parts, if one has.
+fn deeper(steps: &Steps, one: Truth, other: Truth) -> Truth
     ensures { (result ≡ one) ⊎ (result ≡ other) }
 {
-    match other {
-        Truth::Slot { negated: false, .. } => other,
-        _ => one,
+    if parts(steps, other).is_some() {
+        other
+    } else {
+        one
     }
 }
 

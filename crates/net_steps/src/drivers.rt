@@ -1,5 +1,5 @@
 //! What the assignments to a port give it.
-ghost use Rattle.std.specs.Prelude.{◌≡◌, ◌==◌, [], ◌∷◌, ℕ, List, not, true, false, if◌then◌else◌, slice_index, IfOk};
+ghost use Rattle.std.specs.Prelude.{◌≡◌, ◌==◌, [], ◌∷◌, ℕ, List, true, false, if◌then◌else◌, slice_index, IfOk};
 ghost use Rattle.net_steps.specs.Drivers.{AddsChoices, AddsPort, SameWhere};
 ghost use Rattle.net_steps.specs.Operations.{is_on};
 ghost use Rattle.net_steps.specs.Steps.{AddsSlot};
@@ -10,7 +10,7 @@ use crate::choice::Choice;
 use crate::clashes::Clash;
 use crate::operation::Operation;
 use crate::steps::Steps;
-use crate::truth::{Truth, plain};
+use crate::truth::{Truth, are_opposite, plain};
 use hw_bits::Memory;
 use std::alloc::Global;
 
@@ -107,25 +107,6 @@ fn same_where_off(steps: &Steps, on: u32, slot: u32) -> u32
     }
 }
 
-/// Whether one is true exactly where the other is not, by their slots.
-fn are_opposite(first: Truth, second: Truth) -> bool
-    ensures { result ≡ true → (slots : List ℕ) → is_true slots second ≡ not (is_true slots first) }
-{
-    match (first, second) {
-        (
-            Truth::Slot {
-                slot: a,
-                negated: not_a,
-            },
-            Truth::Slot {
-                slot: b,
-                negated: not_b,
-            },
-        ) => a == b && not_a != not_b,
-        _ => false,
-    }
-}
-
 /// The slot of a port with two drivers. It adds that they clash, unless they never act both.
 fn drive_by_two(
     steps: &mut Steps,
@@ -163,7 +144,7 @@ fn pick(
         second,
         other: other.source,
     })?;
-    if never_both(steps, driver, other) {
+    if never_both(steps, driver.truth, other.truth) {
         return Ok(slot);
     }
     clashes.push(Clash {

@@ -9,7 +9,8 @@
 //!
 //! comes one step, `Choose { on: 3, value: 4, other: 5 }`: the two never act at once, so no Conflict has to be looked for. A port
 //! with three assignments or more has a part of the table, a `Choice { on, value }` for each: `Only` makes the value of the one
-//! that is on, and `Several` tells the Conflict, unless the guards ask one slot for different numbers.
+//! that is on, and `Several` tells the Conflict, unless the guards ask one slot for numbers, and those that ask for the same one
+//! deny each other.
 //!
 //! A row is one walk over the steps: each makes its slot of slots below its own, without a branch on what is there. The steps are
 //! first cut into runs (`cut`): many of one kind, one after another, have a loop of their own, and those between go by their kind,

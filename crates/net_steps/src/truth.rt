@@ -1,5 +1,5 @@
 //! The truth of guards, as slots.
-ghost use Rattle.std.specs.Prelude.{◌≡◌, ◌==◌, ◌&&◌, ◌||◌, nat_lt, not, false, if◌then◌else◌, slice_index, IfOk, IfSome};
+ghost use Rattle.std.specs.Prelude.{◌≡◌, ◌==◌, ◌&&◌, ◌||◌, ℕ, List, nat_lt, not, true, false, if◌then◌else◌, slice_index, IfOk, IfSome};
 ghost use Rattle.net_core.specs.Guard.{compare_values};
 ghost use Rattle.net_steps.specs.Operations.{is_on};
 ghost use Rattle.net_steps.specs.Steps.{AddsSlot};
@@ -18,7 +18,7 @@ pub enum Truth {
 }
 
 impl Truth {
-    ghost use Rattle.std.specs.Prelude.{ℕ, List, ◌≡◌, not};
+    ghost use Rattle.std.specs.Prelude.{ℕ, List, ◌≡◌, true, false, not};
     ghost use Rattle.net_steps.specs.Truths.{is_true};
 
     /// What is true where this is not.
@@ -32,6 +32,35 @@ impl Truth {
                 negated: !negated,
             },
         }
+    }
+
+    /// Whether this is fixed as false.
+    pub fn is_never(self) -> bool
+        ensures { result ≡ true → (slots : List ℕ) → is_true slots self ≡ false }
+    {
+        match self {
+            Truth::Fixed(on) => !on,
+            Truth::Slot { .. } => false,
+        }
+    }
+}
+
+/// Whether one is true exactly where the other is not, by their slots.
+pub fn are_opposite(first: Truth, second: Truth) -> bool
+    ensures { result ≡ true → (slots : List ℕ) → is_true slots second ≡ not (is_true slots first) }
+{
+    match (first, second) {
+        (
+            Truth::Slot {
+                slot: a,
+                negated: not_a,
+            },
+            Truth::Slot {
+                slot: b,
+                negated: not_b,
+            },
+        ) => a == b && not_a != not_b,
+        _ => false,
     }
 }
 
