@@ -7,7 +7,7 @@ use Rattle.hw_names.specs.Name.{Text, Path}
 use Rattle.hw_prims.specs.Filament.{behaviour_of}
 use Rattle.hw_prims.specs.Timed.{Delay, Fixed, Chosen, TimedEvent, TimedPort, TimedSignature, Values, Behaviour, Transaction}
 use Rattle.hw_prims.specs.declared.prim.Primitive.{Primitive}
-use Rattle.fil_ast.specs.Flow.{Named, value_named, value_in, with_values, outcomes_of, component_flow, flow_of}
+use Rattle.fil_ast.specs.Flow.{Named, value_named, value_in_body, with_values, component_flow, flow_of}
 use Rattle.fil_ast.specs.Holds.{uses_of}
 use Rattle.fil_ast.specs.Primitives.{filament_primitive, is_filament_primitive}
 use Rattle.fil_ast.specs.Scope.{Instance, Invocation, instance_named, instance_signature}
@@ -54,9 +54,7 @@ argument_named event ports values name = 0
 
 -- the values that an invocation gives its callee's inputs, in a transaction with these values
 abbrev pub arguments_in : Design → Component → Values → Invocation → List ℕ
-arguments_in earlier c values v =
-    let inputs = inputs_with c values in
-    map (value_in inputs (outcomes_of (flow_of (reverse earlier)) c.body inputs)) v.gives.args
+arguments_in earlier c values v = map (value_in_body (flow_of (reverse earlier)) c.body (inputs_with c values)) v.gives.args
 
 abbrev pub inputs_of_callee : Design → Component → Text → List SigPort
 inputs_of_callee earlier c inst = option_map_or (λ (s : Signature). s.ins) (instance_signature (whole_scope earlier c) inst) []

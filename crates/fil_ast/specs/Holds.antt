@@ -1,10 +1,11 @@
 -- Transactions, legal lists of them, and what they hold. Filament, PLDI 2023.
 use Rattle.std.specs.Prelude.{◌≡◌, ◌⊎◌, ℕ, suc, ◌+◌, ◌<◌, ◌≤◌, List, [], ◌∷◌, ◌++◌, map, filter, flat_map, slice_get, bytes_eq, Option, Some, None, option_map}
-use Rattle.std.specs.Prelude.{option_and_then, AllPairs, Contains}
+use Rattle.std.specs.Prelude.{AllPairs, Contains}
 use Rattle.hw_names.specs.Name.{Text}
 use Rattle.fil_ast.specs.Scope.{Scope, Invocation, instance_signature}
+use Rattle.fil_ast.specs.Sharing.{IsUseOf}
 use Rattle.fil_ast.specs.Signature.{SigEvent, Signature}
-use Rattle.fil_ast.specs.Timeline.{Use, hold_of}
+use Rattle.fil_ast.specs.Timeline.{Use, use_of}
 use Rattle.fil_ast.specs.Tree.{TimeAt, Event, Component}
 use Rattle.fil_ast.specs.declared.tx.Tx.{Tx}
 
@@ -31,11 +32,22 @@ pub record Hold : Type 0 where
   pub call : Text
   pub tx : ℕ
 
--- the use of event k of a callee: none where it triggers nothing
-abbrev pub use_of : ℕ → SigEvent → Text → List TimeAt → Option Use
-use_of k e inst times =
-    option_and_then (λ t. option_map (λ rows. record { inst = inst; event = k; go = e.go; at = t; hold = rows }) (hold_of e.delay t (slice_get times (k + 1))))
-    (slice_get times k)
+-- the use as transaction n, which starts in this row, makes it
+abbrev pub hold_from : ℕ → ℕ → Text → Use → Hold
+hold_from n row call u = record { inst = u.inst; event = u.event; from = row + u.at.plus; to = row + u.at.plus + u.hold; call = call; tx = n }
+
+-- what is held by transactions that start so: what the transaction with the hold's number makes of a use, by an invocation, on the event at which it starts
+pub record IsHold (scope : Scope) (starts : List Start) (h : Hold) : Type 0 where
+  pub start : Start
+  pub started : slice_get starts h.tx ≡ Some start
+  pub invocation : Invocation
+  pub invoked : Contains scope.invocations invocation
+  pub use_at : Use
+  pub uses : IsUseOf scope invocation use_at
+  pub on_event : use_at.at.event ≡ start.event
+  pub held : h ≡ hold_from h.tx start.row invocation.name use_at
+
+-- The same as a list: transaction by transaction, in each the invocations, in each the callee's events.
 
 abbrev pub uses_listed : Option Use → List Use
 uses_listed None = []
@@ -54,14 +66,11 @@ uses_by v (Some sig) = uses_from 0 sig.events v.inst v.gives.times
 abbrev pub uses_of : Scope → Invocation → List Use
 uses_of scope v = uses_by v (instance_signature scope v.inst)
 
--- the use as transaction n, which starts in this row, makes it
-abbrev pub hold_from : ℕ → ℕ → Text → Use → Hold
-hold_from n row call u = record { inst = u.inst; event = u.event; from = row + u.at.plus; to = row + u.at.plus + u.hold; call = call; tx = n }
-
+-- what transaction n holds by an invocation
 abbrev pub holds_by : Scope → ℕ → Start → Invocation → List Hold
 holds_by scope n s v = map (hold_from n s.row v.name) (filter (λ (u : Use). bytes_eq u.at.event s.event) (uses_of scope v))
 
--- what transactions hold, numbered from n on: transaction by transaction, in each the invocations, in each the callee's events
+-- what transactions hold that are numbered from n on
 abbrev pub holds_from : Scope → ℕ → List Start → List Hold
 holds_from scope n [] = []
 holds_from scope n (s ∷ starts) = flat_map (holds_by scope n s) scope.invocations ++ holds_from scope (suc n) starts

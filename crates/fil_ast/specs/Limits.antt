@@ -7,7 +7,7 @@ use Rattle.fil_ast.specs.declared.tree.FilComp.{FilComp}
 use Rattle.fil_ast.specs.declared.tree.FilDesign.{FilDesign}
 use Rattle.fil_ast.specs.declared.tree.Stmt.{Stmt}
 use Rattle.fil_ast.specs.declared.tree.Stmt.TheVariants as stmts
-use Rattle.fil_ast.specs.declared.tree.TheConstants.{MOST_OFFSET}
+use Rattle.hw_limits.specs.declared.limits.TheConstants.{MOST_OFFSET}
 
 abbrev pub KeepsDelayLimit : EventDef → Type 0
 KeepsDelayLimit e = e.delay ≤ MOST_OFFSET

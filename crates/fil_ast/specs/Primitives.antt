@@ -1,46 +1,12 @@
 -- Filament's primitives: which primitive of the table each is, and its signature. Filament, PLDI 2023, in this project's profile.
-use Rattle.std.specs.Prelude.{ℕ, ◌+◌, Bool, ◌||◌, List, [], ◌∷◌, map, filter, codes, if◌then◌else◌, bytes_eq, Option, Some, None, option_map, option_and_then}
+use Rattle.std.specs.Prelude.{ℕ, ◌+◌, Bool, ◌||◌, List, [], ◌∷◌, map, filter, find, codes, bytes_eq, Option, Some, None, option_map, option_and_then}
 use Rattle.std.specs.Prelude.{is_some}
+use Rattle.std.specs.Option.{option_map_or}
 use Rattle.hw_names.specs.Name.{Text}
 use Rattle.hw_prims.specs.Filament.{is_data_pin}
 use Rattle.hw_prims.specs.Table.{Pin, prim_of, is_primitive, inputs_of, outputs_of}
 use Rattle.hw_prims.specs.declared.prim.Primitive.{Primitive}
 use Rattle.fil_ast.specs.Signature.{Delay, Fixed, Gap, End, SigEvent, Offset, SigPort, Signature}
-
--- Filament's name of a primitive of the table, and that primitive's name
-abbrev pub named : Text → Text → Text → Option Text → Option Text
-named name filament table others = if bytes_eq name filament then Some table else others
-
--- the table's primitive of a Filament name
-abbrev pub table_name : Text → Option Text
-table_name name =
-    named name (codes "Add") (codes "std_add")
-    (named name (codes "Sub") (codes "std_sub")
-    (named name (codes "And") (codes "std_and")
-    (named name (codes "Or") (codes "std_or")
-    (named name (codes "Xor") (codes "std_xor")
-    (named name (codes "Eq") (codes "std_eq")
-    (named name (codes "Lt") (codes "std_lt")
-    (named name (codes "Not") (codes "std_not")
-    (named name (codes "Mux") (codes "fil_mux")
-    (named name (codes "Slice") (codes "fil_slice")
-    (named name (codes "Extend") (codes "std_pad")
-    (named name (codes "Concat") (codes "fil_concat")
-    (named name (codes "Delay") (codes "fil_delay")
-    (named name (codes "FastMult") (codes "fil_fast_mult")
-    (named name (codes "Reg") (codes "std_reg")
-    (named name (codes "SeqMult") (codes "fil_seq_mult") None)))))))))))))))
-
-abbrev pub is_filament_primitive : Text → Bool
-is_filament_primitive name = is_some (table_name name)
-
--- a name in either table of primitives
-abbrev pub is_any_primitive : Text → Bool
-is_any_primitive name = is_filament_primitive name || is_primitive name
-
--- a Filament primitive with these parameters, where their number and range are right
-abbrev pub filament_primitive : Text → List ℕ → Option Primitive
-filament_primitive name params = option_and_then (λ table. prim_of table params) (table_name name)
 
 -- rows of a use: how long its event is held, and how many rows after the start the output comes
 pub record Timing : Type 0 where
@@ -68,13 +34,62 @@ register_timing =
       to = record { event = 1; plus = 0 };
     }
 
+-- a primitive of Filament: its name, the table's name of it, and its timing
+pub record FilamentPrimitive : Type 0 where
+  pub name : Text
+  pub table : Text
+  pub timing : Timing
+
+abbrev pub primitive : Text → Text → Timing → FilamentPrimitive
+primitive name table timing = record { name = name; table = table; timing = timing }
+
+-- the timing of what is computed in the row of the start
+abbrev pub same_row : Timing
+same_row = timing 1 None 0
+
+-- Filament's primitives
+abbrev pub filament_primitives : List FilamentPrimitive
+filament_primitives =
+    primitive (codes "Add") (codes "std_add") same_row ∷
+    primitive (codes "Sub") (codes "std_sub") same_row ∷
+    primitive (codes "And") (codes "std_and") same_row ∷
+    primitive (codes "Or") (codes "std_or") same_row ∷
+    primitive (codes "Xor") (codes "std_xor") same_row ∷
+    primitive (codes "Eq") (codes "std_eq") same_row ∷
+    primitive (codes "Lt") (codes "std_lt") same_row ∷
+    primitive (codes "Not") (codes "std_not") same_row ∷
+    primitive (codes "Mux") (codes "fil_mux") same_row ∷
+    primitive (codes "Slice") (codes "fil_slice") same_row ∷
+    primitive (codes "Extend") (codes "std_pad") same_row ∷
+    primitive (codes "Concat") (codes "fil_concat") same_row ∷
+    primitive (codes "Delay") (codes "fil_delay") (timing 1 None 1) ∷
+    primitive (codes "FastMult") (codes "fil_fast_mult") (timing 1 None 2) ∷
+    primitive (codes "Reg") (codes "std_reg") register_timing ∷
+    primitive (codes "SeqMult") (codes "fil_seq_mult") (timing 3 (Some (codes "go")) 2) ∷
+    []
+
+-- the primitive of this name
+abbrev pub primitive_named : Text → Option FilamentPrimitive
+primitive_named name = find (λ (p : FilamentPrimitive). bytes_eq name p.name) filament_primitives
+
+-- the table's name of the primitive of this name
+abbrev pub table_name : Text → Option Text
+table_name name = option_map (λ (p : FilamentPrimitive). p.table) (primitive_named name)
+
+-- the timing of the primitive of this name; another name has no signature, whatever its timing
 abbrev pub timing_of : Text → Timing
-timing_of name =
-    if bytes_eq name (codes "Reg") then register_timing
-    else if bytes_eq name (codes "SeqMult") then timing 3 (Some (codes "go")) 2
-    else if bytes_eq name (codes "FastMult") then timing 1 None 2
-    else if bytes_eq name (codes "Delay") then timing 1 None 1
-    else timing 1 None 0
+timing_of name = option_map_or (λ (p : FilamentPrimitive). p.timing) (primitive_named name) same_row
+
+abbrev pub is_filament_primitive : Text → Bool
+is_filament_primitive name = is_some (table_name name)
+
+-- a name in either table of primitives
+abbrev pub is_any_primitive : Text → Bool
+is_any_primitive name = is_filament_primitive name || is_primitive name
+
+-- a Filament primitive with these parameters, where their number and range are right
+abbrev pub filament_primitive : Text → List ℕ → Option Primitive
+filament_primitive name params = option_and_then (λ table. prim_of table params) (table_name name)
 
 -- inputs are needed in the row of the start
 abbrev pub input_port : Pin → SigPort

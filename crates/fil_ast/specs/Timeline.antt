@@ -85,14 +85,17 @@ pub record Use : Type 0 where
   pub at : TimeAt
   pub hold : ℕ
 
--- event k of the callee in an invocation of an instance
-pub record IsUse (sig : Signature) (inst : Text) (times : List TimeAt) (use_at : Use) : Type 0 where
-  pub named : use_at.inst ≡ inst
+-- the use of event k of a callee: none where it triggers nothing
+abbrev pub use_of : ℕ → SigEvent → Text → List TimeAt → Option Use
+use_of k e inst times =
+    option_and_then (λ t. option_map (λ rows. record { inst = inst; event = k; go = e.go; at = t; hold = rows }) (hold_of e.delay t (slice_get times (k + 1))))
+    (slice_get times k)
+
+-- the use of the callee's event with its number, in an invocation of an instance
+pub record IsUse (sig : Signature) (inst : Text) (times : List TimeAt) (u : Use) : Type 0 where
   pub event : SigEvent
-  pub of : slice_get sig.events use_at.event ≡ Some event
-  pub go : use_at.go ≡ event.go
-  pub time : slice_get times use_at.event ≡ Some use_at.at
-  pub held : hold_of event.delay use_at.at (slice_get times (use_at.event + 1)) ≡ Some use_at.hold
+  pub of : slice_get sig.events u.event ≡ Some event
+  pub is : use_of u.event event inst times ≡ Some u
 
 -- F10: an event of the callee has at most the delay of the event that its time names
 abbrev pub KeepsDelays : Scope → Signature → Text → Giving → Type 0

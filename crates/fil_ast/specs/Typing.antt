@@ -2,6 +2,7 @@
 use Rattle.std.specs.Prelude.{◌≡◌, ℕ, ◌^◌, ◌<◌, ◌≤◌, List, length, map, slice_get, Option, Some, None, option_map, IsSome, IfSome, All, AllPairs}
 use Rattle.hw_names.specs.Name.{Text, AreDistinct}
 use Rattle.hw_bits.specs.declared.bits.TheConstants.{MAX_WIDTH}
+use Rattle.hw_limits.specs.declared.limits.TheConstants.{MOST_EVENTS}
 use Rattle.fil_ast.specs.Scope.{Scope, Result, signature_in, instance_signature, input_of, output_of, result_of}
 use Rattle.fil_ast.specs.Signature.{Gap, SigEvent, SigPort, Signature}
 use Rattle.fil_ast.specs.Tree.{TimeAt, Event, Interface, DataPort, Giving, Statement, New, Call, Both, Connect, Component, ValueTree, InputValue, OutputValue}
@@ -73,7 +74,7 @@ IsInterval p = (p.from.event ≡ p.to.event) × (p.from.plus < p.to.plus)
 
 -- F5 at the signature
 pub record HasShape (c : Component) : Type 0 where
-  pub few : length c.events ≤ 16
+  pub few : length c.events ≤ MOST_EVENTS
   pub delays : All (λ (e : Event). 1 ≤ e.delay) c.events
   pub one_interface : AreDistinct (map (λ (g : Interface). g.event) c.interfaces)
   pub one_bit : All (λ (g : Interface). g.width ≡ 1) c.interfaces

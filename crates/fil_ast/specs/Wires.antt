@@ -24,21 +24,49 @@ pub data IsPortOf (scope : Scope) : ValueTree → Text → Type 0 where
 
 -- an output of an instance depends on an input of it within a row; `through name output input` says it of a component
 pub data DependsWithin (through : Text → Text → Text → Type 0) (i : Instance) (output input : Text) : Type 0 where
-  OfPrimitive : (prim : Primitive) → filament_primitive i.made i.params ≡ Some prim → is_through prim input output ≡ true → DependsWithin through i output input
+  OfPrimitive : (prim : Primitive) → filament_primitive i.made i.params ≡ Some prim → is_through prim input output ≡ true →
+      DependsWithin through i output input
   OfComponent : through i.made output input → DependsWithin through i output input
+
+-- the port is that of an argument of an invocation, and the other is the port of the value that is given there
+pub record ReadsByArgument (scope : Scope) (port other : Text) : Type 0 where
+  pub invocation : Invocation
+  pub invoked : Contains scope.invocations invocation
+  pub signature : Signature
+  pub signed : instance_signature scope invocation.inst ≡ Some signature
+  pub place : ℕ
+  pub value : ValueTree
+  pub given : slice_get invocation.gives.args place ≡ Some value
+  pub input : SigPort
+  pub taken : slice_get signature.ins place ≡ Some input
+  pub is_port : dotted invocation.inst input.name ≡ port
+  pub is_other : IsPortOf scope value other
+
+-- the port is an output of the component, and the other is the port of a value that is connected to it
+pub record ReadsByConnection (scope : Scope) (port other : Text) : Type 0 where
+  pub value : ValueTree
+  pub connected : Contains scope.comp.body (Connect port value)
+  pub is_other : IsPortOf scope value other
+
+-- the ports are an output and an input of an instance, and the one depends on the other within a row
+pub record ReadsByInstance (through : Text → Text → Text → Type 0) (scope : Scope) (port other : Text) : Type 0 where
+  pub instance : Instance
+  pub has : Contains scope.instances instance
+  pub signature : Signature
+  pub signed : instance_signature scope instance.name ≡ Some signature
+  pub input : SigPort
+  pub output : SigPort
+  pub has_input : Contains signature.ins input
+  pub has_output : Contains signature.outs output
+  pub depends : DependsWithin through instance output.name input.name
+  pub is_port : dotted instance.name output.name ≡ port
+  pub is_other : dotted instance.name input.name ≡ other
 
 -- within a row a port of the component reads another
 pub data ReadsPort (through : Text → Text → Text → Type 0) (scope : Scope) (port other : Text) : Type 0 where
-  -- an argument port reads the port of each value that some invocation gives it
-  ByArgument : (v : Invocation) (sig : Signature) (k : ℕ) (arg : ValueTree) (input : SigPort) → Contains scope.invocations v →
-      instance_signature scope v.inst ≡ Some sig → slice_get v.gives.args k ≡ Some arg → slice_get sig.ins k ≡ Some input → dotted v.inst input.name ≡ port →
-      IsPortOf scope arg other → ReadsPort through scope port other
-  -- an output reads what is connected to it
-  ByConnection : (value : ValueTree) → Contains scope.comp.body (Connect port value) → IsPortOf scope value other → ReadsPort through scope port other
-  -- an output of an instance reads each input on which it depends within a row
-  ByInstance : (i : Instance) (sig : Signature) (input output : SigPort) → Contains scope.instances i → instance_signature scope i.name ≡ Some sig →
-      Contains sig.ins input → Contains sig.outs output → DependsWithin through i output.name input.name → dotted i.name output.name ≡ port →
-      dotted i.name input.name ≡ other → ReadsPort through scope port other
+  ByArgument : ReadsByArgument scope port other → ReadsPort through scope port other
+  ByConnection : ReadsByConnection scope port other → ReadsPort through scope port other
+  ByInstance : ReadsByInstance through scope port other → ReadsPort through scope port other
 
 -- the port reads the other, at once or over ports between
 pub data Reaches (through : Text → Text → Text → Type 0) (scope : Scope) (other : Text) : Text → Type 0 where

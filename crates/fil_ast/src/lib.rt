@@ -27,5 +27,5 @@ mod tree;
 mod tx;
 
 pub use ok::FilOk;
-pub use tree::{EventDef, FilComp, FilDesign, FilPort, GoPort, MOST_OFFSET, Stmt, Time, Value};
+pub use tree::{EventDef, FilComp, FilDesign, FilPort, GoPort, Stmt, Time, Value};
 pub use tx::{Tx, TxList};

@@ -1,9 +1,6 @@
 //! The tree of a Filament text. Each name is a number of the design's names.
 use hw_names::{NameId, Names};
 
-/// The greatest number of rows after an event, and the greatest delay, of a design that is judged.
-pub const MOST_OFFSET: u128 = 4096;
-
 /// An event, and so many rows after it.
 #[derive(Clone, Copy, Debug, PartialEq, Eq)]
 pub struct Time {

@@ -10,6 +10,7 @@ use Rattle.std.proofs.lemmas.List.Elements.{All-cons, All-contains, All-head, Al
 use Rattle.std.proofs.lemmas.Option.{none-some, same_Some, slice_get-get_or, slice_get_within, get_or_from_slice_get}
 use Rattle.std.proofs.lemmas.Slice.Eq.{bytes_eq-Decides}
 use Rattle.hw_names.specs.Name.{Text, AreDistinct}
+use Rattle.fil_ast.proofs.UseLemmas.{parts_of}
 use Rattle.fil_ast.specs.Evidence.{AreKeptApart, Fits}
 use Rattle.fil_ast.specs.Holds as held
 use Rattle.fil_ast.specs.Holds.{Start, Hold, AreLegalStarts, IsHeldIn, holds_of}
@@ -24,6 +25,7 @@ use Rattle.fil_ast.specs.Timeline.{HoldsSome, IsUse, Use, hold_of, until}
 use Rattle.fil_ast.specs.Tree.{Component, Design, Event, Statement, New, Call, Both, Connect, TimeAt}
 use Rattle.fil_ast.specs.Typing.{HasShape}
 use Rattle.fil_ast.specs.Wires.{whole_scope}
+use Rattle.fil_share.proofs.HoldLemmas.{in_flat}
 use Rattle.fil_share.specs.Instances.{signature_of}
 use Rattle.fil_share.proofs.CalleeLemmas.{named_among}
 use Rattle.fil_share.proofs.ListLemmas.{All-flat_map, Contains-at}
@@ -32,7 +34,7 @@ use Rattle.fil_check.specs.inside.Callees.{HasGoodDelay, IsGoodDelay}
 use Rattle.fil_check.specs.Needed.{Collide, HoldsTwice, NothingIsHeldTwice, SharingRulesAreExact, first_ten, gap_starts, later_of, meeting_starts, sharing_rules}
 use Rattle.fil_check.specs.Held.{AreHeld}
 use Rattle.fil_check.proofs.MadeLemmas.{primitive_times}
-use Rattle.fil_check.proofs.NeededLemmas.{in_flat, meet, overrun}
+use Rattle.fil_check.proofs.NeededLemmas.{meet, overrun}
 
 -- a delay is a row or more
 abbrev IsARow : Delay → Type 0
@@ -46,13 +48,13 @@ LastsARow e = IsARow e.delay
 -- a use is held for a row or more, where delays are, and a register's times are apart
 use_held : (sig : Signature) (inst : Text) (times : List TimeAt) (u : Use) → All LastsARow sig.events → HoldsSome sig times → IsUse sig inst times u → 0 < u.hold
 use_held sig inst times u long some used =
-    by used.event.delay refl (slice_get times (u.event + 1)) refl used.held (All-contains LastsARow sig.events used.event long (Contains-at sig.events u.event used.event used.of))
+    by used.event.delay refl (slice_get times (u.event + 1)) refl (parts_of used).held (All-contains LastsARow sig.events used.event long (Contains-at sig.events u.event used.event used.of))
   where
     by : (d : Delay) → used.event.delay ≡ d → (o : Option TimeAt) → slice_get times (u.event + 1) ≡ o → hold_of d u.at o ≡ Some u.hold → IsARow d → 0 < u.hold
     by (Fixed rows) is o next held least = let same = same_Some rows u.hold held in omega arith
     by Gap is None next held least = absurd (none-some u.hold held)
     by Gap is (Some t) next held least =
-        let apart = some u.event used.event used.of is u.at t used.time next in
+        let apart = some u.event used.event used.of is u.at t (parts_of used).time next in
         let same = same_Some (until u.at t) u.hold held in
         omega arith
     by End is o next held least = absurd (none-some u.hold held)

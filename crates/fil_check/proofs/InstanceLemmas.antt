@@ -15,14 +15,14 @@ use Rattle.hw_prims.specs.Memory.{keeps_words}
 use Rattle.hw_prims.specs.Table.{Pin, inputs_of, outputs_of, is_memory, is_primitive, prim_names, prim_of}
 use Rattle.hw_prims.specs.declared.prim.Primitive.{Primitive}
 use Rattle.hw_prims.specs.declared.prim.Primitive.TheVariants.{StdMemD1, StdMemD2}
+use Rattle.fil_ast.proofs.PrimitiveLemmas.{OfEach, row_of}
 use Rattle.fil_ast.specs.Items.{TheSignature}
-use Rattle.fil_ast.specs.Primitives.{filament_primitive, input_port, is_filament_primitive, output_port, primitive_signature, signature_by, table_name, timing_of}
+use Rattle.fil_ast.specs.Primitives.{FilamentPrimitive, filament_primitive, filament_primitives, input_port, is_filament_primitive, output_port, primitive_signature, signature_by, table_name, timing_of}
 use Rattle.fil_ast.specs.Rules.{F1, KeepsRules, all_rules}
 use Rattle.fil_ast.specs.Scope.{Scope, Instance, bare_signature, component_named, instance_signature, signature_in}
 use Rattle.fil_ast.specs.Signature.{SigPort, Signature, component_signature, sig_port}
 use Rattle.fil_ast.specs.Tree.{Component, DataPort, Design}
 use Rattle.fil_ast.specs.Wires.{DependsWithin, OfComponent, OfPrimitive, Reaches, through_before, through_of, whole_scope}
-use Rattle.fil_sig.specs.inside.Kinds.{table_name_in}
 use Rattle.fil_check.proofs.Lookup.{find_at_place}
 use Rattle.fil_check.proofs.ReadingLemmas.{instance_found}
 use Rattle.fil_check.specs.inside.PortGraph.{Below}
@@ -42,36 +42,19 @@ same_through (StdMemD1 w size idx) e a b c d = absurd (cc)
 same_through (StdMemD2 w size0 size1 idx0 idx1) e a b c d = absurd (cc)
 same_through prim e a b c d = refl
 
-abbrev HaveNoMemory : List (Text × Text) → Type 0
-HaveNoMemory [] = Unit {0}
-HaveNoMemory (row ∷ rows) = (is_memory row.1 ≡ false) × HaveNoMemory rows
+abbrev HasNoMemory : FilamentPrimitive → Type 0
+HasNoMemory p = is_memory p.table ≡ false
 
-rows_without_memory : (rows : List (Text × Text)) → HaveNoMemory rows → (name table : Text) → table_name_in rows name ≡ Some table → is_memory table ≡ false
-rows_without_memory [] none name table e = absurd (cc)
-rows_without_memory ((filament, first) ∷ rows) none name table e = by (rows_without_memory rows none.1 name table) (bytes_eq name filament) e
-  where
-    by : (table_name_in rows name ≡ Some table → is_memory table ≡ false) → (b : Bool) → (if b then Some first else table_name_in rows name) ≡ Some table → is_memory table ≡ false
-    by rest true same = ap is_memory (sym (same_Some first table same)) ∙ none.0
-    by rest false later = rest later
+none_has_memory : OfEach HasNoMemory filament_primitives
+unfolding is_memory prim_names
+none_has_memory = (refl, (refl, (refl, (refl, (refl, (refl, (refl, (refl, (refl, (refl, (refl, (refl, (refl, (refl, (refl, (refl, tt))))))))))))))))
 
-filament_rows : List (Text × Text)
-filament_rows =
-    (codes "Add", codes "std_add") ∷ (codes "Sub", codes "std_sub") ∷ (codes "And", codes "std_and") ∷ (codes "Or", codes "std_or") ∷ (codes "Xor", codes "std_xor")
-    ∷ (codes "Eq", codes "std_eq") ∷ (codes "Lt", codes "std_lt") ∷ (codes "Not", codes "std_not") ∷ (codes "Mux", codes "fil_mux") ∷ (codes "Slice", codes "fil_slice")
-    ∷ (codes "Extend", codes "std_pad") ∷ (codes "Concat", codes "fil_concat") ∷ (codes "Delay", codes "fil_delay") ∷ (codes "FastMult", codes "fil_fast_mult") ∷ (codes "Reg", codes "std_reg")
-    ∷ (codes "SeqMult", codes "fil_seq_mult") ∷ []
-
-no_filament_memory : HaveNoMemory filament_rows
-unfolding filament_rows is_memory prim_names
-no_filament_memory = (refl, (refl, (refl, (refl, (refl, (refl, (refl, (refl, (refl, (refl, (refl, (refl, (refl, (refl, (refl, (refl, tt))))))))))))))))
-
-by_rows : (name : Text) → table_name_in filament_rows name ≡ table_name name
-unfolding filament_rows
-by_rows name = refl
+no_memory : (made table : Text) → table_name made ≡ Some table → is_memory table ≡ false
+no_memory made table told = let p = row_of HasNoMemory none_has_memory made table told in ap is_memory (sym p.tabled) ∙ p.holds
 
 pub through_alike : (made table : Text) (params : List ℕ) (prim : Primitive) (a b c d : Text) → table_name made ≡ Some table → prim_of table params ≡ Some prim → is_through prim a b ≡ is_through prim c d
 through_alike made table params prim a b c d told is =
-    same_through prim (keeps_words-made table params prim is ∙ rows_without_memory filament_rows no_filament_memory made table (by_rows made ∙ told)) a b c d
+    same_through prim (keeps_words-made table params prim is ∙ no_memory made table told) a b c d
 
 pub table_prim : (made table : Text) (params : List ℕ) (prim : Primitive) → table_name made ≡ Some table → filament_primitive made params ≡ Some prim → prim_of table params ≡ Some prim
 table_prim made table params prim told is = sym (ap (option_and_then (λ (t : Text). prim_of t params)) told) ∙ is

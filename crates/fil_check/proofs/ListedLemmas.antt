@@ -7,6 +7,7 @@ use Rattle.std.proofs.lemmas.List.Elements.{Contains-append_left, Contains-appen
 use Rattle.std.proofs.lemmas.Option.{none-some, same_Some, get_or_from_slice_get, slice_get_past, slice_get-get_or}
 use Rattle.hw_names.specs.Name.{Text, AreDistinct}
 use Rattle.hw_names.proofs.NameLemmas.{KeepsTexts-append, same_number}
+use Rattle.fil_ast.proofs.UseLemmas.{parts_of}
 use Rattle.fil_ast.specs.Evidence.{AreKeptApart}
 use Rattle.fil_ast.specs.Naming.{MakesNewNames, instance_names}
 use Rattle.fil_ast.specs.Scope.{Scope, Instance, Invocation, instance_signature, instances_at, invocations_at}
@@ -89,7 +90,7 @@ module _ (names : List Text) (comp : FilComp) (tables : Tables) (instance : ℕ)
         w = known.invocation
 
         named : w.inst ≡ v.inst
-        named = sym known.uses.2.named ∙ known.same_instance ∙ (own u is_u).named
+        named = sym (parts_of known.uses.2).named ∙ known.same_instance ∙ (parts_of (own u is_u)).named
 
         held_e : 0 < e.hold
         held_e = is.held w e known.is_earlier known.uses
@@ -104,7 +105,7 @@ module _ (names : List Text) (comp : FilComp) (tables : Tables) (instance : ℕ)
           two : AreAlike e s.use_then ⊎ (AreShared with e s.use_then ⊎ AreShared with s.use_then e)
           two =
               two_earlier names comp tables (calls_at tables instance) sig at with v is w s.invocation e s.use_then known.is_earlier s.is_earlier known.uses s.triggered
-              (known.uses.2.named ∙ named ∙ sym s.named ∙ sym s.triggered.2.named) (known.same_event ∙ here ∙ sym s.same_event)
+              ((parts_of known.uses.2).named ∙ named ∙ sym s.named ∙ sym (parts_of s.triggered.2).named) (known.same_event ∙ here ∙ sym s.same_event)
 
           held_y : 0 < s.use_then.hold
           held_y = is.held s.invocation s.use_then s.is_earlier s.triggered

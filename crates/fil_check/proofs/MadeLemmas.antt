@@ -13,6 +13,7 @@ use Rattle.hw_prims.specs.Filament.{is_data_pin}
 use Rattle.hw_prims.specs.Table.{inputs_of, outputs_of}
 use Rattle.hw_prims.specs.declared.prim.Primitive.{Primitive}
 use Rattle.hw_prims.specs.declared.prim.Primitive.TheVariants.{StdConst, StdWire, StdAdd, StdSub, StdAnd, StdOr, StdXor, StdNot, StdEq, StdNeq, StdLt, StdGt, StdLe, StdGe, StdLsh, StdRsh, StdSlice, StdPad, FilMux, FilSlice, FilConcat, StdReg, StdMemD1, StdMemD2, StdMultPipe, FilDelay, FilFastMult, FilSeqMult}
+use Rattle.fil_ast.proofs.PrimitiveLemmas.{each_timing}
 use Rattle.fil_ast.specs.Primitives.{Timing, event, filament_primitive, input_port, is_filament_primitive, output_port, register_timing, table_name, primitive_signature, signature_by, timing, timing_of}
 use Rattle.fil_ast.specs.Scope.{bare_signature, component_named, signature_in}
 use Rattle.fil_ast.specs.Signature.{Fixed, Gap, End, SigPort, Signature, component_signature}
@@ -21,7 +22,7 @@ use Rattle.fil_sig.specs.Refusals.{IsCause, ByF2, ByF3, ByF5, TellsCause}
 use Rattle.fil_sig.specs.declared.named.SigEnd.{SigEnd}
 use Rattle.fil_sig.specs.declared.named.SigEnd.TheVariants.{Refused}
 use Rattle.fil_sig.proofs.UseLemmas.{primitive_shape, primitive_signed, primitive_usable}
-use Rattle.fil_ast.specs.declared.tree.TheConstants.{MOST_OFFSET}
+use Rattle.hw_limits.specs.declared.limits.TheConstants.{MOST_OFFSET}
 use Rattle.fil_sig.proofs.ListLemmas.{All-mapped}
 use Rattle.fil_check.specs.inside.Callees.{HasGoodDelay, HasGoodTimes, HasSmallInterval}
 use Rattle.fil_check.specs.inside.Outputs.{output_names}
@@ -79,10 +80,6 @@ primitive_outputs name params sig is = by (filament_primitive name params) is
 abbrev HasGoodTiming : Timing → Type 0
 HasGoodTiming t = All HasGoodDelay t.events × (t.from.plus ≤ MOST_OFFSET) × (t.to.plus ≤ MOST_OFFSET)
 
-chosen : (b : Bool) (t u : Timing) → HasGoodTiming t → HasGoodTiming u → HasGoodTiming (if b then t else u)
-chosen true t u good others = good
-chosen false t u good others = others
-
 one_event : (delay latency : ℕ) (go : Option Text) → 1 ≤ delay → delay ≤ MOST_OFFSET → latency + 1 ≤ MOST_OFFSET → HasGoodTiming (timing delay go latency)
 one_event delay latency go some few soon =
     (All-cons HasGoodDelay (event (codes "G") (Fixed delay) go) [] (some, few) (All-nil HasGoodDelay), omega arith, soon)
@@ -94,11 +91,8 @@ register_good =
 
 timing_good : (name : Text) → HasGoodTiming (timing_of name)
 timing_good name =
-    chosen (bytes_eq name (codes "Reg")) _ _ register_good
-    (chosen (bytes_eq name (codes "SeqMult")) _ _ (one_event 3 2 (Some (codes "go")) (omega arith) (omega arith) (omega arith))
-    (chosen (bytes_eq name (codes "FastMult")) _ _ (one_event 1 2 None (omega arith) (omega arith) (omega arith))
-    (chosen (bytes_eq name (codes "Delay")) _ _ (one_event 1 1 None (omega arith) (omega arith) (omega arith))
-    (one_event 1 0 None (omega arith) (omega arith) (omega arith)))))
+    each_timing HasGoodTiming register_good (one_event 3 2 (Some (codes "go")) (omega arith) (omega arith) (omega arith)) (one_event 1 2 None (omega arith) (omega arith) (omega arith))
+    (one_event 1 1 None (omega arith) (omega arith) (omega arith)) (one_event 1 0 None (omega arith) (omega arith) (omega arith)) name
 
 times_good : (t : Timing) (prim : Primitive) → HasGoodTiming t → HasGoodTimes (signature_by t prim)
 times_good t prim good = record {

@@ -4,6 +4,7 @@ use Rattle.std.specs.Prelude.{IsSome}
 use Rattle.std.proofs.lemmas.Bool.{cases_lt}
 use Rattle.std.proofs.lemmas.Option.{none-some, same_Some, slice_get-get_or, slice_get_within, get_or_from_slice_get}
 use Rattle.hw_names.specs.Name.{Text, text_of}
+use Rattle.fil_ast.proofs.UseLemmas.{by_parts, parts_of}
 use Rattle.fil_ast.specs.Naming.{event_names}
 use Rattle.fil_ast.specs.Scope.{Scope, Invocation}
 use Rattle.fil_ast.specs.Sharing.{HasInterface, IsEarlierUse, IsUseOf, KeepsUsesApart, TriggersWithInterface}
@@ -54,21 +55,21 @@ module _ (sig : Signature) (inst : Text) (times : List TimeAt) (k : ℕ) where
   by_hold e s at_e at_s (Some hold) held =
       inl (
         record { inst = inst; event = k; go = e.go; at = s; hold = hold },
-        record { named = refl; event = e; of = at_e; go = refl; time = at_s; held = held },
+        by_parts e at_e (record { named = refl; go = refl; time = at_s; held = held }),
         refl,
       )
   by_hold e s at_e at_s None held = inr (λ (u, is, same).
       let event : is.event ≡ e = same_Some is.event e (sym is.of ∙ ap (slice_get sig.events) same ∙ at_e) in
-      let time : u.at ≡ s = same_Some u.at s (sym is.time ∙ ap (slice_get times) same ∙ at_s) in
+      let time : u.at ≡ s = same_Some u.at s (sym (parts_of is).time ∙ ap (slice_get times) same ∙ at_s) in
       let told : Some u.hold ≡ None =
-      sym is.held ∙ ap (λ (x : SigEvent). hold_of x.delay u.at (slice_get times (u.event + 1))) event
+      sym (parts_of is).held ∙ ap (λ (x : SigEvent). hold_of x.delay u.at (slice_get times (u.event + 1))) event
       ∙ ap (λ (t : TimeAt). hold_of e.delay t (slice_get times (u.event + 1))) time
       ∙ ap (λ (n : ℕ). hold_of e.delay s (slice_get times (n + 1))) same ∙ held in
       none-some u.hold (sym told))
 
   by_time : (e : SigEvent) → slice_get sig.events k ≡ Some e → (o : Option TimeAt) → slice_get times k ≡ o → Triggers ⊎ (Triggers → ⊥)
   by_time e at_e (Some s) at_s = by_hold e s at_e at_s (hold_of e.delay s (slice_get times (k + 1))) refl
-  by_time e at_e None at_s = inr (λ (u, is, same). none-some u.at (sym at_s ∙ ap (slice_get times) (sym same) ∙ is.time))
+  by_time e at_e None at_s = inr (λ (u, is, same). none-some u.at (sym at_s ∙ ap (slice_get times) (sym same) ∙ (parts_of is).time))
 
   by_event : (o : Option SigEvent) → slice_get sig.events k ≡ o → Triggers ⊎ (Triggers → ⊥)
   by_event (Some e) at_e = by_time e at_e (slice_get times k) refl
@@ -93,12 +94,12 @@ module _ (sig : Signature) (inst : Text) (times others : List TimeAt) (longer : 
 
   pub triggers_too : (u : Use) → IsUse sig inst times u → Triggers sig inst others u.event
   triggers_too u is =
-      let within = slice_get_within times u.event u.at is.time in
+      let within = slice_get_within times u.event u.at (parts_of is).time in
       let s = get_or others u.event u.at in
       let at_s : slice_get others u.event ≡ Some s = slice_get-get_or others u.event u.at (omega arith) in
-      let held = held_too is.event.delay u.at s (u.event + 1) u.hold is.held in (
+      let held = held_too is.event.delay u.at s (u.event + 1) u.hold (parts_of is).held in (
         record { inst = inst; event = u.event; go = is.event.go; at = s; hold = held.0 },
-        record { named = refl; event = is.event; of = is.of; go = refl; time = at_s; held = held.1 },
+        by_parts is.event is.of (record { named = refl; go = refl; time = at_s; held = held.1 }),
         refl,
       )
 
@@ -126,7 +127,7 @@ module _ (names : List Text) (comp : FilComp) (tables : Tables) (calls : List �
                   let y = now.0 in
                   let is_y = to_own names comp tables calls sig at with v is y now.1 in
                   let port = marked x.event y is_y now.2 (inr (record { earlier = w; is_earlier = has; same_instance = named; use_then = x; triggered = is_x; same_event = refl })) in
-                  let on = (kept y x is_y (record { invocation = w; is_earlier = has; uses = is_x; same_instance = then.named ∙ sym now.1.named; same_event = sym now.2 })).0 in
+                  let on = (kept y x is_y (record { invocation = w; is_earlier = has; uses = is_x; same_instance = (parts_of then).named ∙ sym (parts_of now.1).named; same_event = sym now.2 })).0 in
                   subst (HasInterface with.comp) (sym on ∙ same) port
               | inr not_now ↦
                   let fewer = more_times sig v.inst v.gives.times w.gives.times u own never in
@@ -140,7 +141,7 @@ module _ (names : List Text) (comp : FilComp) (tables : Tables) (calls : List �
       | inl some ↦ keeps.triggers u is_u some
       | inr b ↦
           let own = from_own names comp tables calls sig at with v is u is_u in
-          let known : IsEarlierUse with u b.use_then = record { invocation = b.earlier; is_earlier = b.is_earlier; uses = b.triggered; same_instance = b.triggered.2.named ∙ b.same_instance ∙ sym own.named; same_event = b.same_event ∙ sym here } in
+          let known : IsEarlierUse with u b.use_then = record { invocation = b.earlier; is_earlier = b.is_earlier; uses = b.triggered; same_instance = (parts_of b.triggered.2).named ∙ b.same_instance ∙ sym (parts_of own).named; same_event = b.same_event ∙ sym here } in
           keeps.once b.earlier u b.use_then b.is_earlier b.same_instance is_u b.triggered (kept u b.use_then is_u known).0
     ]
 
@@ -153,7 +154,7 @@ module _ (names : List Text) (comp : FilComp) (tables : Tables) (calls : List �
     its_go : (u : Use) → IsUseOf with v u → u.event ≡ k → u.go ≡ has.0.go
     its_go u is_u here =
         let own = from_own names comp tables calls sig at with v is u is_u in
-        own.go ∙ ap (λ (e : SigEvent). e.go) (same_Some own.event has.0 (sym own.of ∙ ap (slice_get sig.events) here ∙ has.1))
+        (parts_of own).go ∙ ap (λ (e : SigEvent). e.go) (same_Some own.event has.0 (sym own.of ∙ ap (slice_get sig.events) here ∙ has.1))
 
     pub marked_free : (IsSome has.0.go ⊎ IsUsedBefore with v k → ⊥) → IsMarkedAt with v k
     marked_free none u is_u here why = absurd (none (elim why [

@@ -10,41 +10,18 @@ use Rattle.std.proofs.lemmas.List.Elements.{All-contains, Contains-append_left, 
 use Rattle.std.proofs.lemmas.Option.{same_Some, slice_get-get_or, slice_get_within, get_or_from_slice_get}
 use Rattle.std.proofs.lemmas.Slice.Eq.{bytes_eq-Decides}
 use Rattle.hw_names.specs.Name.{Text, AreDistinct}
+use Rattle.fil_ast.proofs.UseLemmas.{parts_of}
 use Rattle.fil_ast.specs.Evidence.{AreKeptApart, Fits, UsesEvent, Own, Another}
-use Rattle.fil_ast.specs.Holds.{Start, Hold, Follows, AreLegalStarts, IsHeldIn, uses_listed, use_of, uses_from, uses_by, uses_of, hold_from, holds_by, holds_of}
+use Rattle.fil_ast.specs.Holds.{Start, Hold, Follows, AreLegalStarts, IsHeldIn, uses_listed, uses_from, uses_by, uses_of, hold_from, holds_by, holds_of}
 use Rattle.fil_ast.specs.Naming.{event_names}
 use Rattle.fil_ast.specs.Scope.{Scope, Invocation}
 use Rattle.fil_ast.specs.Sharing.{IsUseOf, KeepsUsesApart}
 use Rattle.fil_ast.specs.Signature.{SigEvent, Signature}
-use Rattle.fil_ast.specs.Timeline.{Use, IsUse, hold_of}
+use Rattle.fil_ast.specs.Timeline.{Use, IsUse, hold_of, use_of}
 use Rattle.fil_ast.specs.Tree.{TimeAt, Event, Component}
 use Rattle.fil_ast.specs.Typing.{HasShape}
+use Rattle.fil_share.proofs.HoldLemmas.{hold_there, in_flat}
 use Rattle.fil_check.specs.Needed.{HoldsTwice, Collide, MeetingIsReal, GapIsReal, gap_starts, later_of, meeting_starts, start_at, with_invocation}
-
--- elements of lists that are made of others
-in_map : {X Y : Type 0} (f : X → Y) (xs : List X) (x : X) → Contains xs x → Contains (map f xs) (f x)
-in_map f [] x (k, within, same) = absurd (omega arith)
-in_map f (y ∷ xs) x (zero, within, same) = (zero, omega arith, ap f same)
-in_map f (y ∷ xs) x (suc k, within, same) =
-    let there = in_map f xs x (k, omega arith, same) in (suc there.0, omega (arith, there.1), there.2)
-
-pub in_filter : {X : Type 0} (p : X → Bool) (xs : List X) (x : X) → Contains xs x → p x ≡ true → Contains (filter p xs) x
-in_filter p [] x (k, within, same) is = absurd (omega arith)
-in_filter {X} p (y ∷ xs) x (zero, within, same) is =
-    let here : p y ≡ true = ap p same ∙ is in
-    subst (λ (b : Bool). Contains (cond b (y ∷ filter p xs) (filter p xs)) x) (sym here) (zero, omega arith, same)
-in_filter {X} p (y ∷ xs) x (suc k, within, same) is = by (p y) (in_filter p xs x (k, omega arith, same) is)
-  where
-    by : (b : Bool) → Contains (filter p xs) x → Contains (cond b (y ∷ filter p xs) (filter p xs)) x
-    by true there = (suc there.0, omega (arith, there.1), there.2)
-    by false there = there
-
-pub in_flat : {X Y : Type 0} (f : X → List Y) (xs : List X) (x : X) (y : Y) → Contains xs x → Contains (f x) y → Contains (flat_map f xs) y
-in_flat f [] x y (k, within, same) has = absurd (omega arith)
-in_flat f (z ∷ xs) x y (zero, within, same) has =
-    Contains-append_left (f z) (flat_map f xs) y (subst (λ z. Contains (f z) y) (sym same) has)
-in_flat f (z ∷ xs) x y (suc k, within, same) has =
-    Contains-append_right (f z) (flat_map f xs) y (in_flat f xs x y (k, omega arith, same) has)
 
 -- two elements stand at different places
 pub record StandApart (X : Type 0) (xs : List X) (x y : X) : Type 0 where
@@ -82,35 +59,6 @@ apart_left xs ys x y two = record {
   at_x = at_left xs ys two.i x two.at_x;
   at_y = at_left xs ys two.j y two.at_y;
 }
-
--- each use of a callee's event is uses_listed
-module _ (sig : Signature) (inst : Text) (times : List TimeAt) (u : Use) (used : IsUse sig inst times u) where
-  use_there : use_of u.event used.event inst times ≡ Some u
-  use_there =
-      let made : TimeAt → ℕ → Use = λ t rows. record { inst = inst; event = u.event; go = used.event.go; at = t; hold = rows } in
-      let held : TimeAt → Option ℕ = λ t. hold_of used.event.delay t (slice_get times (u.event + 1)) in
-      ap (option_and_then (λ (t : TimeAt). option_map (made t) (held t))) used.time ∙ ap (option_map (made u.at)) used.held
-      ∙ ap₂ (λ (i : Text) (g : Option Text). Some (record { inst = i; event = u.event; go = g; at = u.at; hold = u.hold })) (sym used.named) (sym used.go)
-
-  listed_from : (k : ℕ) (es : List SigEvent) (j : ℕ) → u.event ≡ k + j → slice_get es j ≡ Some used.event → Contains (uses_from k es inst times) u
-  listed_from k [] j number at = absurd (cc)
-  listed_from k (e ∷ es) zero number at =
-      let here : use_of k e inst times ≡ Some u =
-      ap₂ (λ (k : ℕ) (e : SigEvent). use_of k e inst times) (omega arith) (same_Some e used.event at) ∙ use_there in
-      Contains-append_left (uses_listed (use_of k e inst times)) (uses_from (suc k) es inst times) u
-      (subst (λ (o : Option Use). Contains (uses_listed o) u) (sym here) (0, omega arith, refl))
-  listed_from k (e ∷ es) (suc j) number at =
-      Contains-append_right (uses_listed (use_of k e inst times)) (uses_from (suc k) es inst times) u (listed_from (suc k) es j (omega arith) at)
-
-use_listed : (scope : Scope) (v : Invocation) (u : Use) → IsUseOf scope v u → Contains (uses_of scope v) u
-use_listed scope v u (sig, is, used) =
-    subst (λ (o : Option Signature). Contains (uses_by v o) u) (sym is) (listed_from sig v.inst v.gives.times u used 0 sig.events u.event (omega arith) used.of)
-
--- a use by a transaction on its event is among the holds
-pub hold_there : (scope : Scope) (m : ℕ) (s : Start) (v : Invocation) (u : Use) → IsUseOf scope v u → u.at.event ≡ s.event → Contains (holds_by scope m s v) (hold_from m s.row v.name u)
-hold_there scope m s v u used on =
-    let test = λ (u : Use). bytes_eq u.at.event s.event in
-    in_map (hold_from m s.row v.name) (filter test (uses_of scope v)) u (in_filter test (uses_of scope v) u (use_listed scope v u used) ((bytes_eq-Decides u.at.event s.event).1 on))
 
 legal_two : (c : Component) (s t : Start) → Follows c s t → AreLegalStarts c (s ∷ t ∷ [])
 legal_two c s t follows zero zero d less within = absurd (omega arith)
@@ -243,18 +191,18 @@ module _ (scope : Scope) (v : Invocation) where
     pub of : u.inst ≡ v.inst
 
   pub user : (event : ℕ) (u : Use) → UsesEvent scope v event u → IsUser event u
-  user event u (Own used number) = record { user = v; among = has_own; uses = used; number = number; of = used.2.named }
+  user event u (Own used number) = record { user = v; among = has_own; uses = used; number = number; of = (parts_of used.2).named }
   user event u (Another own used number earlier) = record {
     user = earlier.invocation;
     among = has_earlier earlier.invocation earlier.is_earlier;
     uses = earlier.uses;
     number = earlier.same_event ∙ number;
-    of = earlier.same_instance ∙ used.2.named;
+    of = earlier.same_instance ∙ (parts_of used.2).named;
   }
 
   one_use : (u x : Use) → IsUseOf scope v u → IsUseOf scope v x → u.event ≡ x.event → u.at ≡ x.at
   one_use u x (sig, is, used) (sig', is', used') same =
-      same_Some u.at x.at (sym used.time ∙ ap (slice_get v.gives.times) same ∙ used'.time)
+      same_Some u.at x.at (sym (parts_of used).time ∙ ap (slice_get v.gives.times) same ∙ (parts_of used').time)
 
   -- under F11 all uses of the event are on one event of the component
   pub on_one : KeepsUsesApart scope v → (event : ℕ) (u x : Use) → UsesEvent scope v event u → UsesEvent scope v event x → u.at.event ≡ x.at.event
@@ -276,7 +224,7 @@ meeting_is_real scope v cycle held m =
     let C : Text → ℕ → ℕ → Type 0 = Collide with (meeting_starts m.other.at m.own.at) in
     subst (C v.inst m.own.event) (sym m.later)
     (subst (λ (k : ℕ). C v.inst k (later_of m.other.at m.own.at)) m.same_event
-    (subst (λ (i : Text). C i m.other.event (later_of m.other.at m.own.at)) (m.same_instance ∙ m.triggers.2.named) found))
+    (subst (λ (i : Text). C i m.other.event (later_of m.other.at m.own.at)) (m.same_instance ∙ (parts_of m.triggers.2).named) found))
 
 pub gap_is_real : GapIsReal
 gap_is_real scope v gap cycle held distinct shape kept g =

@@ -8,6 +8,7 @@ use Rattle.std.proofs.lemmas.List.Elements.{All-cons, All-head, All-nil, Contain
 use Rattle.std.proofs.lemmas.Option.{none-some, same_Some, get_or_from_slice_get, slice_get-get_or, slice_get_within}
 use Rattle.std.proofs.lemmas.Slice.Eq.{bytes_eq-Decides}
 use Rattle.hw_names.specs.Name.{Text, AreDistinct}
+use Rattle.fil_ast.proofs.UseLemmas.{parts_of}
 use Rattle.fil_ast.specs.Connections.{connected_at}
 use Rattle.fil_ast.specs.Naming.{MakesNewNames, instance_names}
 use Rattle.fil_ast.specs.Rules.{Rule, F1, F7, F10, F11, F12, F13}
@@ -119,7 +120,7 @@ unsigned_kept with v none = record {
 -- a used is held for a row or more, where delays are, and a register's times are apart
 use_held : (sig : Signature) (inst : Text) (times : List TimeAt) (u : Use) → HasGoodTimes sig → HoldsSome sig times → IsUse sig inst times u → 0 < u.hold
 use_held sig inst times u good some used =
-    by used.event.delay refl (slice_get times (u.event + 1)) refl used.held (among_delay used.event.delay refl)
+    by used.event.delay refl (slice_get times (u.event + 1)) refl (parts_of used).held (among_delay used.event.delay refl)
   where
     among_delay : (d : Delay) → used.event.delay ≡ d → IsGoodDelay d
     among_delay d is =
@@ -133,7 +134,7 @@ use_held sig inst times u good some used =
         let least = good_delay.0 in omega arith
     by Gap is None next held good_delay = absurd (none-some u.hold held)
     by Gap is (Some t) next held good_delay =
-        let apart = some u.event used.event used.of is u.at t used.time next in
+        let apart = some u.event used.event used.of is u.at t (parts_of used).time next in
         let same = same_Some (until u.at t) u.hold held in
         omega arith
     by End is o next held good_delay = absurd (none-some u.hold held)

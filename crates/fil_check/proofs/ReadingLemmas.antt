@@ -76,21 +76,47 @@ module _ (through : Text → Text → Text → Type 0) (earlier : Design) (c : C
       of (Connect output value) there none = absurd none
 
   pub by_statements : ReadsPort through scope port other → Below (ReadsAt through scope c.body) (length c.body) port other
-  by_statements (ByArgument v sig k arg input has signed given taken is_port value) =
-      said_invocation v (in_of (flat_map invocations_at c.body) v has)
-      (sig, signed, k, record { arg = arg; input = input; given = given; taken = taken; is_port = is_port; is_other = port_told scope arg other value })
-  by_statements (ByConnection value has is) = said (Connect port value) (in_of c.body (Connect port value) has) (refl, port_told scope value other is)
-  by_statements (ByInstance i sig input output has signed ins outs depends is_port is_other) =
-      said_instance i (in_of (flat_map instances_at c.body) i has)
-      (sig, signed, record { input = input; output = output; ins = ins; outs = outs; depends = depends; is_port = is_port; is_other = is_other })
+  by_statements (ByArgument r) =
+      said_invocation r.invocation (in_of (flat_map invocations_at c.body) r.invocation r.invoked)
+      (r.signature, r.signed, r.place, record { arg = r.value; input = r.input; given = r.given; taken = r.taken; is_port = r.is_port; is_other = port_told scope r.value other r.is_other })
+  by_statements (ByConnection r) = said (Connect port r.value) (in_of c.body (Connect port r.value) r.connected) (refl, port_told scope r.value other r.is_other)
+  by_statements (ByInstance r) =
+      said_instance r.instance (in_of (flat_map instances_at c.body) r.instance r.has)
+      (r.signature, r.signed, record { input = r.input; output = r.output; ins = r.has_input; outs = r.has_output; depends = r.depends; is_port = r.is_port; is_other = r.is_other })
 
   of_given : (v : Invocation) → In (flat_map invocations_at c.body) v → ReadsGiven scope v.inst v.gives.args port other → ReadsPort through scope port other
   of_given v has (sig, signed, k, r) =
-      ByArgument v sig k r.arg r.input (contains_of (flat_map invocations_at c.body) v has) signed r.given r.taken r.is_port (port_of scope r.arg other r.is_other)
+      ByArgument
+      (record {
+        invocation = v;
+        invoked = contains_of (flat_map invocations_at c.body) v has;
+        signature = sig;
+        signed = signed;
+        place = k;
+        value = r.arg;
+        given = r.given;
+        input = r.input;
+        taken = r.taken;
+        is_port = r.is_port;
+        is_other = port_of scope r.arg other r.is_other;
+      })
 
   of_made : (i : Instance) → In (flat_map instances_at c.body) i → ReadsMade through scope i port other → ReadsPort through scope port other
   of_made i has (sig, signed, r) =
-      ByInstance i sig r.input r.output (contains_of (flat_map instances_at c.body) i has) signed r.ins r.outs r.depends r.is_port r.is_other
+      ByInstance
+      (record {
+        instance = i;
+        has = contains_of (flat_map instances_at c.body) i has;
+        signature = sig;
+        signed = signed;
+        input = r.input;
+        output = r.output;
+        has_input = r.ins;
+        has_output = r.outs;
+        depends = r.depends;
+        is_port = r.is_port;
+        is_other = r.is_other;
+      })
 
   of_statement : (s : Statement) → In c.body s → ReadsBy through scope s port other → ReadsPort through scope port other
   of_statement (New name made params) has by = of_made _ (in_flat_map instances_at c.body (New name made params) _ has (inl refl)) by
@@ -98,7 +124,8 @@ module _ (through : Text → Text → Text → Type 0) (earlier : Design) (c : C
   of_statement (Both name made params gives) has (inl by) = of_made _ (in_flat_map instances_at c.body (Both name made params gives) _ has (inl refl)) by
   of_statement (Both name made params gives) has (inr by) = of_given _ (in_flat_map invocations_at c.body (Both name made params gives) _ has (inl refl)) by
   of_statement (Connect output value) has by =
-      subst (λ (x : Text). ReadsPort through scope x other) by.0 (ByConnection value (contains_of c.body (Connect output value) has) (port_of scope value other by.1))
+      subst (λ (x : Text). ReadsPort through scope x other) by.0
+      (ByConnection (record { value = value; connected = contains_of c.body (Connect output value) has; is_other = port_of scope value other by.1 }))
 
   pub of_statements : Below (ReadsAt through scope c.body) (length c.body) port other → ReadsPort through scope port other
   of_statements (k, lt, (s, at, by)) = of_statement s (in_at c.body k s at) by

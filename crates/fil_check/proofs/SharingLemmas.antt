@@ -7,6 +7,7 @@ use Rattle.std.proofs.lemmas.Option.{same_Some, slice_get-get_or, slice_get_with
 use Rattle.std.proofs.lemmas.Slice.Eq.{bytes_eq-Decides}
 use Rattle.hw_names.specs.Name.{Text, AreDistinct}
 use Rattle.hw_names.proofs.NameLemmas.{same_number}
+use Rattle.fil_ast.proofs.UseLemmas.{by_parts, parts_of}
 use Rattle.fil_ast.specs.Evidence.{AreKeptApart, IsApartFrom, IsMeetingCycle}
 use Rattle.fil_ast.specs.Scope.{Scope, Invocation, instance_signature}
 use Rattle.fil_ast.specs.Sharing.{AreDisjoint, IsEarlierUse, IsUseOf, KeepsUsesApart}
@@ -34,12 +35,12 @@ AreAlike u w = (u.at ≡ w.at) × (u.hold ≡ w.hold)
 
 pub same_use : (sig : Signature) (times : List TimeAt) (inst other : Text) (u w : Use) → IsUse sig inst times u → IsUse sig other times w → u.event ≡ w.event → AreAlike u w
 same_use sig times inst other u w is_u is_w same =
-    let at : u.at ≡ w.at = same_Some u.at w.at (sym is_u.time ∙ ap (slice_get times) same ∙ is_w.time) in
+    let at : u.at ≡ w.at = same_Some u.at w.at (sym (parts_of is_u).time ∙ ap (slice_get times) same ∙ (parts_of is_w).time) in
     let event : is_u.event ≡ is_w.event = same_Some is_u.event is_w.event (sym is_u.of ∙ ap (slice_get sig.events) same ∙ is_w.of) in
     let hold : Some u.hold ≡ Some w.hold =
-    sym is_u.held ∙ ap (λ (e : SigEvent). hold_of e.delay u.at (slice_get times (u.event + 1))) event
+    sym (parts_of is_u).held ∙ ap (λ (e : SigEvent). hold_of e.delay u.at (slice_get times (u.event + 1))) event
     ∙ ap (λ (t : TimeAt). hold_of is_w.event.delay t (slice_get times (u.event + 1))) at
-    ∙ ap (λ (k : ℕ). hold_of is_w.event.delay w.at (slice_get times (k + 1))) same ∙ is_w.held in
+    ∙ ap (λ (k : ℕ). hold_of is_w.event.delay w.at (slice_get times (k + 1))) same ∙ (parts_of is_w).held in
     (at, same_Some u.hold w.hold hold)
 
 pub alike_back : (u w : Use) → AreAlike u w → AreAlike w u
@@ -66,24 +67,18 @@ module _ (events : List Text) (sig : Signature) (inst : Text) (times : List Time
       let delayed : is.event.delay ≡ delay = ap (λ (e : SigEvent). e.delay) event ∙ has.2 in
       none u.at u.hold
       (record {
-        at = ap (slice_get times) (sym same) ∙ is.time;
+        at = ap (slice_get times) (sym same) ∙ (parts_of is).time;
         held =
             ap (λ (n : ℕ). hold_of delay u.at (slice_get times (n + 1))) (sym same)
-            ∙ ap (λ (d : Delay). hold_of d u.at (slice_get times (u.event + 1))) (sym delayed) ∙ is.held;
+            ∙ ap (λ (d : Delay). hold_of d u.at (slice_get times (u.event + 1))) (sym delayed) ∙ (parts_of is).held;
       })
 
   pub a_use : (o : numbers.Use) → ShowsUse events delay times k (Some o) → (u : Use) × IsUse sig inst times u × (u.event ≡ k) × IsShownBy events o u
   a_use o (time, shown, use_at) =
       let parts = shown_parts events o.at time shown in (
         record { inst = inst; event = k; go = has.0.go; at = time; hold = o.hold },
-        record {
-          named = refl;
-          event = has.0;
-          of = has.1;
-          go = refl;
-          time = use_at.at;
-          held = ap (λ (d : Delay). hold_of d time (slice_get times (k + 1))) has.2 ∙ use_at.held;
-        },
+        by_parts has.0 has.1
+            (record { named = refl; go = refl; time = use_at.at; held = ap (λ (d : Delay). hold_of d time (slice_get times (k + 1))) has.2 ∙ use_at.held }),
         refl,
         record { event = parts.0; plus = parts.1; hold = refl },
       )
@@ -275,7 +270,7 @@ module _ (names : List Text) (comp : FilComp) (tables : Tables) (calls : List �
       let w = known.invocation in
       let k = known.is_earlier.0 in
       let at_k : slice_get with.invocations k ≡ Some w = slice_get-get_or with.invocations k w known.is_earlier.1 ∙ ap Some known.is_earlier.2 in
-      let named : w.inst ≡ v.inst = sym (known.uses.2.named) ∙ known.same_instance ∙ (from_own u is_u).named in
+      let named : w.inst ≡ v.inst = sym ((parts_of known.uses.2).named) ∙ known.same_instance ∙ (parts_of (from_own u is_u)).named in
       let place = place_of k w at_k named in
       let within = slice_get_within calls place.0 k place.1 in
       below place.0 k w (omega arith) place.1 at_k u earlier is_u known.uses known.same_instance known.same_event
@@ -289,14 +284,14 @@ module _ (names : List Text) (comp : FilComp) (tables : Tables) (calls : List �
         earlier = w;
         at = there;
         before = λ k other less at_k u x is_u is_x same_inst same_event.
-            (let other_named : other.inst ≡ v.inst = sym (is_x.2.named) ∙ same_inst ∙ (from_own u is_u).named in
+            (let other_named : other.inst ≡ v.inst = sym ((parts_of is_x.2).named) ∙ same_inst ∙ (parts_of (from_own u is_u)).named in
             let place = place_of k other at_k other_named in
             below place.0 k other (place_before place.0 n k call place.1 here less) place.1 at_k u x is_u is_x same_inst same_event);
         own = m.own;
         triggers = to_own m.own m.triggers;
         other = m.other;
         triggered = to_earlier w named m.other m.triggered;
-        same_instance = m.triggered.named ∙ sym m.triggers.named;
+        same_instance = (parts_of m.triggered).named ∙ sym (parts_of m.triggers).named;
         same_event = m.other_event ∙ sym m.own_event;
         events = λ u x less is_u is_x same_inst same_event.
             found.before u.event (let e = m.own_event in omega arith) u x (from_own u is_u) (from_earlier w named x is_x) refl same_event;

@@ -4,6 +4,7 @@ use Rattle.std.specs.Prelude.{max, IfNone, IfSome, MatchOption}
 use Rattle.std.proofs.lemmas.Bool.{cases_lt}
 use Rattle.std.proofs.lemmas.Option.{same_Some, slice_get-get_or, slice_get_within, get_or_from_slice_get}
 use Rattle.hw_names.specs.Name.{Text}
+use Rattle.fil_ast.proofs.UseLemmas.{parts_of}
 use Rattle.fil_ast.specs.Evidence.{AreKeptApart, Fits, IsGap, IsSpan, UsesEvent, Own, Another}
 use Rattle.fil_ast.specs.Naming.{event_names}
 use Rattle.fil_ast.specs.Scope.{Scope, Invocation}
@@ -83,7 +84,7 @@ module _ (names : List Text) (comp : FilComp) (tables : Tables) (calls : List �
         let x = own u is_u in
         let within = slice_get_within sig.events u.event x.event x.of in
         let delay = subst HasGoodDelay (get_or_from_slice_get sig.events u.event x.event x.event x.of) (good.delays u.event x.event within) in
-        held_by x.event.delay u.at (slice_get v.gives.times (u.event + 1)) u.hold delay x.held (λ gap t is_t. is.own_holds u.event x.event x.of gap u.at t x.time is_t)
+        held_by x.event.delay u.at (slice_get v.gives.times (u.event + 1)) u.hold delay (parts_of x).held (λ gap t is_t. is.own_holds u.event x.event x.of gap u.at t (parts_of x).time is_t)
 
     module _ (k : ℕ) where
       abbrev Uses : Use → Type 0
@@ -98,8 +99,8 @@ module _ (names : List Text) (comp : FilComp) (tables : Tables) (calls : List �
       event_of a (Another u is_u here earlier) = earlier.same_event ∙ here
 
       inst_of : (a : Use) → Uses a → a.inst ≡ v.inst
-      inst_of a (Own is_a here) = (own a is_a).named
-      inst_of a (Another u is_u here earlier) = earlier.same_instance ∙ (own u is_u).named
+      inst_of a (Own is_a here) = (parts_of (own a is_a)).named
+      inst_of a (Another u is_u here earlier) = earlier.same_instance ∙ (parts_of (own u is_u)).named
 
       own_other : (u a : Use) → IsUseOf with v u → u.event ≡ k → Uses a → AreAlike u a ⊎ AreKeptApart a u
       own_other u a is_u here (Own is_a there) = inl (alike_in v u a is_u is_a (here ∙ sym there))

@@ -4,6 +4,7 @@ use Rattle.std.specs.Bool.{IsTrue}
 use Rattle.std.specs.Option.{IfSome, IsSome}
 use Rattle.std.specs.Prelude.{IfNone, MatchOption}
 use Rattle.hw_names.specs.Name.{Text}
+use Rattle.fil_ast.proofs.UseLemmas.{parts_of}
 use Rattle.fil_ast.specs.Evidence.{UsesEvent, Own, Another}
 use Rattle.fil_ast.specs.Scope.{Scope, Invocation}
 use Rattle.fil_ast.specs.Sharing.{IsUseOf}
@@ -41,7 +42,7 @@ module _ (names : List Text) (comp : FilComp) (tables : Tables) (instance : ℕ)
 
     of_start : (start : ℕ) (held : numbers.Use) → IsStart tables.events with v.inst k start held → Shown held
     of_start start held s =
-        (s.use_then, s.shown, Another u is_u here (record { invocation = s.invocation; is_earlier = s.is_earlier; uses = s.triggered; same_instance = s.triggered.2.named ∙ s.named ∙ sym (own u is_u).named; same_event = s.same_event ∙ sym here }))
+        (s.use_then, s.shown, Another u is_u here (record { invocation = s.invocation; is_earlier = s.is_earlier; uses = s.triggered; same_instance = (parts_of s.triggered.2).named ∙ s.named ∙ sym (parts_of (own u is_u)).named; same_event = s.same_event ∙ sym here }))
 
     at_start : (start : ℕ) (held : numbers.Use) → IsStart tables.events with v.inst k start held → held.at.plus ≡ start
     at_start start held s = s.shown.plus ∙ s.starts
@@ -49,7 +50,7 @@ module _ (names : List Text) (comp : FilComp) (tables : Tables) (instance : ℕ)
     own_or_listed : (a : Use) → Uses a → AreAlike u a ⊎ IsSome (use_at tables.starts instance k a.at.plus)
     own_or_listed a (Own is_a there) = inl (alike_in names comp tables (calls_at tables instance) sig at with v is v u a is_u is_a (here ∙ sym there))
     own_or_listed a (Another x is_x there e) =
-        let named : e.invocation.inst ≡ v.inst = sym e.uses.2.named ∙ e.same_instance ∙ (own x is_x).named in
+        let named : e.invocation.inst ≡ v.inst = sym (parts_of e.uses.2).named ∙ e.same_instance ∙ (parts_of (own x is_x)).named in
         inr (subst (λ (n : ℕ). IsSome (use_at tables.starts instance n a.at.plus)) (e.same_event ∙ there) (lists.has e.invocation a e.is_earlier named e.uses))
 
     module _ (first last : Option numbers.Use) (first_found : MatchOption first (StartsNoneFrom tables.starts instance k 0) (IsFirstFrom tables.starts instance k 0))

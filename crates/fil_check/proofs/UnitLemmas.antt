@@ -21,11 +21,12 @@ use Rattle.fil_ast.specs.Tree.{Component, Design, Event, Statement}
 use Rattle.fil_share.specs.Sharing as sharing
 use Rattle.fil_share.specs.Uses.{shown_hold}
 use Rattle.fil_share.specs.declared.hold.Hold as shown
-use Rattle.fil_share.proofs.OwnLemmas.{AllPairs-flat, AllPairs-mapped, All-passed, IsHoldBy, KeepsNames, called_in, found_all, found_more, found_own, holds_of_call, made_in, pairs_to, to_with, uses_of_call}
+use Rattle.fil_share.proofs.HoldLemmas.{All-passed, IsHoldBy, hold_there, in_filter, in_flat}
+use Rattle.fil_share.proofs.OwnLemmas.{AllPairs-flat, AllPairs-mapped, KeepsNames, called_in, found_all, found_more, found_own, holds_of_call, made_in, pairs_to, to_with, uses_of_call}
 use Rattle.fil_check.specs.Needed.{first_ten, sharing_rules, start_at}
 use Rattle.fil_check.specs.Units.{IsUseOn, NameOneEvent, Shares, SharesBefore, SharingGoesByEvents, SharingHasOneMeaning, UnitEvent, UseTwice, holds_on, is_hold_on}
 use Rattle.fil_check.proofs.ExactLemmas.{after, before, call_there, cut, distinct, earlier_whole, full, is_after, names, own_whole, with}
-use Rattle.fil_check.proofs.NeededLemmas.{StandApart, across, hold_there, in_filter, in_flat, one_event}
+use Rattle.fil_check.proofs.NeededLemmas.{StandApart, across, one_event}
 
 -- ---- lists
 

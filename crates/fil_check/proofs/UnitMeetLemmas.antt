@@ -17,6 +17,7 @@ use Rattle.fil_ast.specs.Sharing.{AreDisjoint, IsEarlierUse, IsUseOf, KeepsUsesA
 use Rattle.fil_ast.specs.Timeline.{Use}
 use Rattle.fil_ast.specs.Tree.{Component, Design, Event, Statement, TimeAt}
 use Rattle.fil_sig.proofs.ListLemmas.{All-unmap}
+use Rattle.fil_share.proofs.HoldLemmas.{in_flat}
 use Rattle.fil_share.specs.Sharing as sharing
 use Rattle.fil_share.specs.Sharing.{BreaksInTime, IsFirstMeet, IsFirstOverlap}
 use Rattle.fil_share.specs.Uses.{shown_hold}
@@ -27,7 +28,7 @@ use Rattle.fil_share.proofs.OwnLemmas.{FoundIn, HasFineUses, called_in, fine, fo
 use Rattle.fil_check.specs.Needed.{first_ten}
 use Rattle.fil_check.specs.Units.{AreHoldsOn, GapHasOneMeaning, IsFirstAt, IsUseOn, MeetingHasOneMeaning, UnitEvent}
 use Rattle.fil_check.proofs.ExactLemmas.{distinct, earlier_whole, names, own_whole}
-use Rattle.fil_check.proofs.NeededLemmas.{at_left, at_right, in_flat, on_one, one_event, user}
+use Rattle.fil_check.proofs.NeededLemmas.{at_left, at_right, on_one, one_event, user}
 use Rattle.fil_check.proofs.RefusedLemmas.{only_one}
 use Rattle.fil_check.proofs.UnitLemmas.{AreShared, calls_shared, hold_of_use, holds_are, holds_in, holds_of_uses, holds_shared, kept_by_holds, one_hold, whole}
 

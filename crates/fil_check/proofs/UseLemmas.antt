@@ -8,6 +8,7 @@ use Rattle.std.proofs.lemmas.Bool.{leb-true, le-leb}
 use Rattle.std.proofs.lemmas.Option.{get_or_from_slice_get, none-some, same_Some, slice_get-get_or, slice_get_within}
 use Rattle.hw_names.specs.Name.{Text, AreDistinct}
 use Rattle.hw_names.proofs.NameLemmas.{same_number}
+use Rattle.fil_ast.proofs.UseLemmas.{by_parts, parts_of}
 use Rattle.fil_ast.specs.Naming.{event_names}
 use Rattle.fil_ast.specs.Scope.{Scope}
 use Rattle.fil_ast.specs.Signature as tree
@@ -118,14 +119,14 @@ module _ (sig : TimeSig) (times : List TimeAt) where
           let x = unmapped seen_event sig.events.items u.event use_at.event use_at.of in
           let H : tree.Delay → Type 0 = λ d. hold_of d u.at (slice_get times (u.event + 1)) ≡ Some u.hold in
           each u.event x.0 x.1 u.at u.hold
-          (record { at = use_at.time; held = subst H (ap (λ (e : tree.SigEvent). e.delay) (sym x.2)) use_at.held })
+          (record { at = (parts_of use_at).time; held = subst H (ap (λ (e : tree.SigEvent). e.delay) (sym x.2)) (parts_of use_at).held })
           e (subst (λ (c : Component). Contains c.events e) is there) named
 
       pub keeps_of_each : AllKept → (k : ℕ) (e : SigEvent) → slice_get sig.events.items k ≡ Some e → Keeps k e
       keeps_of_each all k x at time hold use_at e there named =
           let u : Use = record { inst = inst; event = k; go = (seen_event x).go; at = time; hold = hold } in
           all u
-          (record { named = refl; event = seen_event x; of = mapped_at seen_event sig.events.items k x at; go = refl; time = use_at.at; held = use_at.held })
+          (by_parts (seen_event x) (mapped_at seen_event sig.events.items k x at) (record { named = refl; go = refl; time = use_at.at; held = use_at.held }))
           e (subst (λ (c : Component). Contains c.events e) (sym is) there) named
 
 -- the one event of a name

@@ -19,7 +19,7 @@ use Rattle.fil_share.specs.Uses.{starts_of}
 use Rattle.stim_read.specs.Fits.{AreLegal, FitsSignature}
 use Rattle.stim_read.specs.TxEvents.{HasFixedDelay}
 use Rattle.stim_read.specs.TxRun.{transaction_seen, tx_run_seen}
-use Rattle.stim_read.specs.declared.limits.TheConstants.{MOST_CYCLES}
+use Rattle.hw_limits.specs.declared.limits.TheConstants.{MOST_CYCLES}
 use Rattle.fil_driven.specs.Shown.{outputs_line, meant_line}
 use Rattle.fil_driven.specs.TxDrive.{HasPortsOf, driven_by}
 

@@ -3,11 +3,11 @@ use Rattle.std.proofs.Common.{◌≡◌, ℕ, List, [], ◌∷◌, ◌++◌, len
 use Rattle.std.specs.List.{AllZip}
 use Rattle.std.specs.Option.{option_and_then, option_map_or}
 use Rattle.std.specs.Str.{bytes_eq}
-use Rattle.std.proofs.lemmas.List.{map-append}
+use Rattle.std.proofs.lemmas.List.{map-append, reverse-append}
 use Rattle.std.proofs.lemmas.Option.{none-some, same_Some, slice_get-map, get_or_from_slice_get}
 use Rattle.std.proofs.lemmas.Simd.{map-map}
 use Rattle.hw_names.specs.Name.{Text, AreDistinct}
-use Rattle.fil_ast.specs.Flow.{Named, Outcome, flow_of, made_flow, value_in, value_named, with_values}
+use Rattle.fil_ast.specs.Flow.{Named, flow_of, made_flow, value_in, value_named, with_values}
 use Rattle.fil_ast.specs.Items.{scope_after}
 use Rattle.fil_ast.specs.Naming.{invocation_names}
 use Rattle.fil_ast.specs.Scope.{Instance, Invocation, Result, Scope, instance_named, invocation_named, result_at, signature_in, sig_port_named}
@@ -15,7 +15,7 @@ use Rattle.fil_ast.specs.Signature.{SigPort, Signature, sig_port}
 use Rattle.fil_ast.specs.Tree.{Component, DataPort, Design, ValueTree, InputValue, OutputValue, Literal}
 use Rattle.fil_ast.specs.Typing.{value_width}
 use Rattle.fil_flow.specs.inside.Body.{Calls, IsEarlier, IsCalleeOf, IsSourceOf, data_names, outputs_from, outputs_of, plus_instance, plus_invocation}
-use Rattle.fil_flow.specs.inside.Planning.{CanInvoke, ShowsCalls, outcomes_in}
+use Rattle.fil_flow.specs.inside.Planning.{CanInvoke, ShowsCalls, value_so_far}
 use Rattle.fil_flow.specs.Plans.{HaveWidths, callee_values, source_value, source_width, values_after}
 use Rattle.fil_flow.specs.Shown.{component_shape, flow_at, port_widths}
 use Rattle.fil_flow.specs.declared.body.Invoked.{Invoked}
@@ -26,7 +26,7 @@ use Rattle.fil_flow.specs.declared.plan.Source.TheVariants as source
 use Rattle.fil_flow.proofs.BodyLemmas.{get_kept}
 use Rattle.fil_flow.proofs.CalleeLemmas.{Gives, gives, named_names, named_values, sig_names, sig_shape, sig_widths}
 use Rattle.fil_flow.proofs.Lookups.{each_found, find_last, find_named, find_nowhere, map_agree, same_name}
-use Rattle.fil_flow.proofs.OutcomeLemmas.{fit_push, outcomes_kept, outcomes_named, outcomes_push, outputs_new, outputs_other, values_push}
+use Rattle.fil_flow.proofs.ValueLemmas.{fit_push, have_called, value_before, value_here, value_kept, values_push}
 use Rattle.fil_flow.proofs.PairLemmas.{zip_maps}
 use Rattle.fil_flow.proofs.ScopeLemmas.{keep_instance, width_output, widths_instance, widths_invocation}
 
@@ -44,12 +44,12 @@ source_width_is scope held widths value (source.Place place) same at =
     ∙ slice_get-map (value_width scope) held place ∙ ap (option_map (value_width scope)) at)
 source_width_is scope held widths value (source.Literal bits) same is = sym (ap (value_width scope) is)
 
-pub source_value_is : (inputs : List Named) (outcomes : List Outcome) (held : List ValueTree) (values : List ℕ) (value : ValueTree) (s : Source)
-    → values ≡ map (value_in inputs outcomes) held → IsSourceOf held value s → source_value values s ≡ value_in inputs outcomes value
-source_value_is inputs outcomes held values value (source.Place place) are at =
-    get_or_from_slice_get values place (value_in inputs outcomes value) 0
-    (ap (λ (vs : List ℕ). slice_get vs place) are ∙ slice_get-map (value_in inputs outcomes) held place ∙ ap (option_map (value_in inputs outcomes)) at)
-source_value_is inputs outcomes held values value (source.Literal bits) are is = sym (ap (value_in inputs outcomes) is)
+pub source_value_is : (scope : Scope) (inputs : List Named) (held : List ValueTree) (values : List ℕ) (value : ValueTree) (s : Source)
+    → values ≡ map (value_so_far scope inputs) held → IsSourceOf held value s → source_value values s ≡ value_so_far scope inputs value
+source_value_is scope inputs held values value (source.Place place) are at =
+    get_or_from_slice_get values place (value_so_far scope inputs value) 0
+    (ap (λ (vs : List ℕ). slice_get vs place) are ∙ slice_get-map (value_so_far scope inputs) held place ∙ ap (option_map (value_so_far scope inputs)) at)
+source_value_is scope inputs held values value (source.Literal bits) are is = sym (ap (value_so_far scope inputs) is)
 
 -- where places are added, a source gives the same
 pub source_kept : (held more : List ValueTree) (value : ValueTree) (s : Source) → IsSourceOf held value s → IsSourceOf (held ++ more) value s
@@ -97,11 +97,11 @@ module _ (before : Design) (c : Component) (distinct : AreDistinct (data_names c
       ∙ ports_found ports (subst D (sym names_are) distinct)
       ∙ ap (map Some) (map-map (λ (p : SigPort). p.width) (sig_port c.events) c.ins)
 
-  input_values : (args : List ℕ) → length args ≡ length c.ins → args ≡ map (value_in (with_values c.ins args) []) (map InputValue (data_names c.ins))
+  input_values : (args : List ℕ) → length args ≡ length c.ins → args ≡ map (value_so_far (scope_after before c []) (with_values c.ins args)) (map InputValue (data_names c.ins))
   input_values args long =
       let D : List Text → Type 0 = AreDistinct in
       let names = with_names c.ins args long in
-      sym (map-map (value_in (with_values c.ins args) []) InputValue (data_names c.ins)
+      sym (map-map (value_so_far (scope_after before c []) (with_values c.ins args)) InputValue (data_names c.ins)
       ∙ ap (map (value_named (with_values c.ins args))) (sym names)
       ∙ values_found (with_values c.ins args) (subst D (sym names) distinct)
       ∙ with_args c.ins args long)
@@ -127,8 +127,9 @@ module _ (earlier : Earlier) (scope : Scope) (held : List ValueTree) (calls : Li
         held_values = λ args long.
             let inputs = with_values scope.comp.ins args in
             shown.held_values args long
-            ∙ ap (λ (os : List Outcome). map (value_in inputs os) held)
-            (sym (outcomes_kept (flow_of (reverse scope.comps)) inputs earlier scope.instances more (keep_instance scope i) [] scope.invocations invoked all));
+            ∙ ap (λ (value : ValueTree → ℕ). map value held)
+            (sym (value_kept (flow_of (reverse scope.comps)) inputs scope.instances more (keep_instance scope i) (reverse scope.invocations)
+            (have_called earlier scope.instances scope.invocations invoked all)));
       }
 
   -- ---- one more invocation
@@ -184,63 +185,63 @@ module _ (earlier : Earlier) (scope : Scope) (held : List ValueTree) (calls : Li
       abbrev inputs : List Named
       inputs = with_values scope.comp.ins args
 
-      abbrev outcomes : List Outcome
-      outcomes = outcomes_in scope inputs
+      abbrev before : List Invocation
+      before = reverse scope.invocations
 
       abbrev given : List ℕ
-      given = map (value_in inputs outcomes) v.gives.args
-
-      abbrev outcome : Outcome
-      outcome = record { invocation = v.name; outputs = made_flow flow i given }
+      given = map (value_so_far scope inputs) v.gives.args
 
       abbrev values : List ℕ
       values = values_after (flow_at scope.comps) calls args
 
+      -- the value with the new invocation
+      abbrev value_now : ValueTree → ℕ
+      value_now = value_in flow scope.instances inputs (v ∷ before)
+
       args_are : map (source_value values) call.args.items ≡ given
       args_are =
-          sym (zip_maps (IsSourceOf held) (value_in inputs outcomes) (source_value values)
-          (λ value s is. sym (source_value_is inputs outcomes held values value s (shown.held_values args long) is)) v.gives.args call.args.items all)
+          sym (zip_maps (IsSourceOf held) (value_so_far scope inputs) (source_value values)
+          (λ value s is. sym (source_value_is scope inputs held values value s (shown.held_values args long) is)) v.gives.args call.args.items all)
 
-      outcomes_are : outcomes_in after inputs ≡ outcomes ++ outcome ∷ []
-      outcomes_are =
-          outcomes_push flow inputs scope.instances [] scope.invocations v
-          ∙ ap (λ o. outcomes ++ record { invocation = v.name; outputs = option_map_or (λ (j : Instance). made_flow flow j given) o [] } ∷ []) found
+      is_now : value_so_far after inputs ≡ value_now
+      is_now = ap (value_in flow scope.instances inputs) (reverse-append scope.invocations (v ∷ []))
 
-      value_kept : (value : ValueTree) (w : ℕ) → value_width scope value ≡ Some w → value_in inputs (outcomes ++ outcome ∷ []) value ≡ value_in inputs outcomes value
-      value_kept (InputValue name) w is = refl
-      value_kept (Literal width n) w is = refl
-      value_kept (OutputValue invocation port) w is =
+      old_value : (value : ValueTree) (w : ℕ) → value_width scope value ≡ Some w → value_now value ≡ value_so_far scope inputs value
+      old_value (InputValue name) w is = refl
+      old_value (Literal width n) w is = refl
+      old_value (OutputValue invocation port) w is =
           let (p, o, width) = width_output scope invocation port w is in
           let there : Contains (invocation_names scope.invocations) invocation = find_named (λ (x : Invocation). x.name) scope.invocations invocation o.v o.named in
-          let apart : v.name ≡ invocation → ⊥ = λ same. can.new (subst (λ (t : Text). Contains (invocation_names scope.invocations) t) (sym same) there) in
-          ap (λ (ps : List Named). value_named ps port) (outputs_other outcomes outcome invocation apart)
+          value_before flow scope.instances inputs v before invocation port (λ same. can.new (subst (λ (t : Text). Contains (invocation_names scope.invocations) t) (sym same) there))
 
-      values_kept : (old : List ValueTree) (widths : List ℕ)
-          → map (value_width scope) old ≡ map Some widths → map (value_in inputs (outcomes ++ outcome ∷ [])) old ≡ map (value_in inputs outcomes) old
-      values_kept [] widths same = refl
-      values_kept (value ∷ old) [] same = absurd (cc)
-      values_kept (value ∷ old) (w ∷ widths) same =
+      old_values : (old : List ValueTree) (widths : List ℕ) → map (value_width scope) old ≡ map Some widths → map value_now old ≡ map (value_so_far scope inputs) old
+      old_values [] widths same = refl
+      old_values (value ∷ old) [] same = absurd (cc)
+      old_values (value ∷ old) (w ∷ widths) same =
           let head : value_width scope value ≡ Some w = cc in
           let tail : map (value_width scope) old ≡ map Some widths = cc in
-          ap₂ ◌∷◌ (value_kept value w head) (values_kept old widths tail)
+          ap₂ ◌∷◌ (old_value value w head) (old_values old widths tail)
 
-      new_values : map (value_in inputs (outcomes ++ outcome ∷ [])) (outputs_from v.name outs) ≡ named_values (made_flow flow i given)
+      new_value : (port : Text) → value_now (OutputValue v.name port) ≡ value_named (made_flow flow i given) port
+      new_value port =
+          value_here flow scope.instances inputs v before port
+          ∙ ap (λ o. value_named (option_map_or (λ (j : Instance). made_flow flow j given) o []) port) found
+
+      new_values : map value_now (outputs_from v.name outs) ≡ named_values (made_flow flow i given)
       new_values =
           let D : List Text → Type 0 = AreDistinct in
-          let absent : Contains (map (λ (o : Outcome). o.invocation) outcomes) v.name → ⊥ = λ there.
-          can.new (subst (λ (ts : List Text). Contains ts v.name) (outcomes_named flow inputs scope.instances [] scope.invocations) there) in
-          map-map (value_in inputs (outcomes ++ outcome ∷ [])) (OutputValue v.name) outs
-          ∙ ap (λ (ps : List Named). map (value_named ps) outs) (outputs_new outcomes outcome absent)
+          map-map value_now (OutputValue v.name) outs
+          ∙ map_agree (λ (t : Text). value_now (OutputValue v.name t)) (value_named (made_flow flow i given)) outs (λ t there. new_value t)
           ∙ ap (map (value_named (made_flow flow i given))) (it.outputs ∙ sym (it.names given))
           ∙ values_found (made_flow flow i given) (subst D (sym (it.names given)) it.distinct)
 
-      all_values : values_after (flow_at scope.comps) (calls ++ call ∷ []) args ≡ map (value_in inputs (outcomes_in after inputs)) (held ++ outputs_from v.name outs)
+      all_values : values_after (flow_at scope.comps) (calls ++ call ∷ []) args ≡ map (value_so_far after inputs) (held ++ outputs_from v.name outs)
       all_values =
           values_push (flow_at scope.comps) calls call args
           ∙ ap (λ (xs : List ℕ). values ++ callee_values (flow_at scope.comps) call.callee xs) args_are
-          ∙ ap₂ ◌++◌ (shown.held_values args long ∙ sym (values_kept held shown.widths shown.held_widths)) (sym (new_values ∙ it.values given))
-          ∙ sym (map-append (value_in inputs (outcomes ++ outcome ∷ [])) held (outputs_from v.name outs))
-          ∙ ap (λ (os : List Outcome). map (value_in inputs os) (held ++ outputs_from v.name outs)) (sym outcomes_are)
+          ∙ ap₂ ◌++◌ (shown.held_values args long ∙ sym (old_values held shown.widths shown.held_widths)) (sym (new_values ∙ it.values given))
+          ∙ sym (map-append value_now held (outputs_from v.name outs))
+          ∙ ap (λ (value : ValueTree → ℕ). map value (held ++ outputs_from v.name outs)) (sym is_now)
 
     pub calls_invocation : ShowsCalls after (held ++ outputs_from v.name outs) (calls ++ call ∷ [])
     calls_invocation = record {

@@ -1,7 +1,7 @@
 mod Lookups
 mod PairLemmas
 mod ScopeLemmas
-mod OutcomeLemmas
+mod ValueLemmas
 mod TableLemmas
 mod CalleeLemmas
 mod PortLemmas

@@ -11,7 +11,7 @@ use Rattle.std.proofs.lemmas.Option.{get_or_from_slice_get, option_and_then_some
 use Rattle.std.proofs.lemmas.Simd.{map-map}
 use Rattle.hw_names.specs.Name.{Text, AreDistinct}
 use Rattle.fil_ast.specs.Connections.{connected_at}
-use Rattle.fil_ast.specs.Flow.{Named, Outcome, connected_to, value_in, with_values}
+use Rattle.fil_ast.specs.Flow.{Named, connected_to, with_values}
 use Rattle.fil_ast.specs.Items.{TheStatement, scope_after}
 use Rattle.fil_ast.specs.Naming.{IsKnownValue, instance_names, invocation_names, port_names}
 use Rattle.fil_ast.specs.Rules.{F1, KeepsComponent, all_rules}
@@ -20,7 +20,7 @@ use Rattle.fil_ast.specs.Signature.{SigPort, Signature, sig_port}
 use Rattle.fil_ast.specs.Tree.{Component, DataPort, Design, Giving, Statement, New, Call, Both, Connect, ValueTree, InputValue, OutputValue, Literal}
 use Rattle.fil_ast.specs.Typing.{GivesEach, GivesWidths, value_width}
 use Rattle.fil_flow.specs.inside.Body.{IsBody, IsCalleeOf, IsSourceOf, data_names, outputs_from, outputs_of, plus_instance, plus_invocation}
-use Rattle.fil_flow.specs.inside.Planning.{CanInvoke, IsPlanning, KeepsStatement, ShowsCalls, ShowsOutput, connected_or_zero, grown, outcomes_in}
+use Rattle.fil_flow.specs.inside.Planning.{CanInvoke, IsPlanning, KeepsStatement, ShowsCalls, ShowsOutput, connected_or_zero, grown, value_so_far}
 use Rattle.fil_flow.specs.Plans.{HaveWidths, source_value, source_width, values_after}
 use Rattle.fil_flow.specs.Shown.{ShowsPlan, component_shape, flow_at, port_widths}
 use Rattle.fil_flow.specs.declared.body.Body.{Body}
@@ -31,7 +31,7 @@ use Rattle.fil_flow.specs.declared.planning.Planning.{Planning}
 use Rattle.fil_flow.specs.declared.plan.Call as calling
 use Rattle.fil_flow.proofs.CallLemmas.{calls_instance, calls_invocation, source_kept, source_value_is, source_width_is}
 use Rattle.fil_flow.proofs.Lookups.{find_at_place, find_contains, find_last, find_nowhere, map_agree, other_name, same_name}
-use Rattle.fil_flow.proofs.OutcomeLemmas.{fits}
+use Rattle.fil_flow.proofs.ValueLemmas.{fits}
 use Rattle.fil_flow.proofs.PairLemmas.{zip_length, zip_maps, zip_set, zip_weaker}
 use Rattle.fil_flow.proofs.ScopeLemmas.{option_map_some, some_of, width_instance, width_invocation, widths_instance}
 
@@ -264,9 +264,9 @@ kept_at before c k s keeps at =
     let all = keeps (suc k) (TheStatement (take k c.body) s) (inl (s, at, refl)) in
     record { new = all 0 F1 (omega arith); known = all 1 F1 (omega arith); widths = all 2 F1 (omega arith); numbers = all 3 F1 (omega arith); once = all 8 F1 (omega arith) }
 
-value_or_zero : (inputs : List Named) (outcomes : List Outcome) (o : Option ValueTree) (w : ℕ) → value_in inputs outcomes (unwrap_or o (Literal w 0)) ≡ option_map_or (value_in inputs outcomes) o 0
-value_or_zero inputs outcomes None w = refl
-value_or_zero inputs outcomes (Some value) w = refl
+value_or_zero : (scope : Scope) (inputs : List Named) (o : Option ValueTree) (w : ℕ) → value_so_far scope inputs (unwrap_or o (Literal w 0)) ≡ option_map_or (value_so_far scope inputs) o 0
+value_or_zero scope inputs None w = refl
+value_or_zero scope inputs (Some value) w = refl
 
 -- a component that is planned to its end has its plan
 pub planned : (earlier : Earlier) (before : Design) (c : Component) (planning : Planning) (plan : Plan) → IsPlanning earlier (scope_after before c c.body) c.body planning
@@ -285,13 +285,13 @@ planned earlier before c planning plan known calls outs =
       fit = fits (map component_shape before) (port_widths c.ins) planning.calls.items known.calls.widths planning.outs.items (port_widths c.outs) known.calls.fit have;
       flow = λ args long.
           let inputs = with_values c.ins args in
-          let outcomes = outcomes_in scope inputs in
+          let value = value_so_far scope inputs in
           let values = values_after (flow_at before) planning.calls.items args in
-          sym (zip_maps (ShowsOutput scope known.held c.body) (λ (p : DataPort). value_in inputs outcomes (connected_or_zero c.body p)) (source_value values)
-          (λ p s shows. sym (source_value_is inputs outcomes known.held values (connected_or_zero c.body p) s (known.calls.held_values args long) shows.is_source))
+          sym (zip_maps (ShowsOutput scope known.held c.body) (λ (p : DataPort). value (connected_or_zero c.body p)) (source_value values)
+          (λ p s shows. sym (source_value_is scope inputs known.held values (connected_or_zero c.body p) s (known.calls.held_values args long) shows.is_source))
           c.outs planning.outs.items known.outs)
-          ∙ map_agree (λ (p : DataPort). value_in inputs outcomes (connected_or_zero c.body p)) (λ (p : DataPort). option_map_or (value_in inputs outcomes) (connected_to c.body p.name) 0) c.outs
-          (λ p there. value_or_zero inputs outcomes (connected_to c.body p.name) p.width)
+          ∙ map_agree (λ (p : DataPort). value (connected_or_zero c.body p)) (λ (p : DataPort). option_map_or value (connected_to c.body p.name) 0) c.outs
+          (λ p there. value_or_zero scope inputs (connected_to c.body p.name) p.width)
           ∙ sym (map-map (λ (p : Named). p.value) _ c.outs);
     })
 

@@ -15,8 +15,8 @@ use Rattle.hw_prims.specs.declared.prim.PrimEnd.{PrimEnd}
 use Rattle.hw_prims.specs.declared.prim.PrimEnd.TheVariants.{UnknownPrim, BadParams}
 use Rattle.hw_prims.specs.declared.prim.Primitive.{Primitive}
 use Rattle.hw_prims.specs.declared.prim.Primitive.TheVariants.{StdMemD1, StdMemD2, StdMultPipe}
-use Rattle.fil_ast.specs.Primitives.{filament_primitive, table_name}
-use Rattle.fil_sig.specs.inside.Kinds.{table_name_in}
+use Rattle.fil_ast.proofs.PrimitiveLemmas.{OfEach, row_of}
+use Rattle.fil_ast.specs.Primitives.{FilamentPrimitive, filament_primitive, filament_primitives, table_name}
 use Rattle.fil_flow.specs.Plans.{has_flow}
 
 -- the primitives of a name have a flow
@@ -63,32 +63,15 @@ of_name n params prim known is = of_one _ (λ a. refl) params prim is
 abbrev flows_of : Text → Bool
 flows_of table = option_map_or flows (prim_name table) false
 
-abbrev AllFlow : List (Text × Text) → Type 0
-AllFlow [] = Unit {0}
-AllFlow (row ∷ rows) = (flows_of row.1 ≡ true) × AllFlow rows
+abbrev Flows : FilamentPrimitive → Type 0
+Flows p = flows_of p.table ≡ true
 
-of_rows : (rows : List (Text × Text)) → AllFlow rows → (name table : Text) → table_name_in rows name ≡ Some table → flows_of table ≡ true
-of_rows [] all name table e = absurd (cc)
-of_rows ((filament, first) ∷ rows) all name table e = by (of_rows rows all.1 name table) (bytes_eq name filament) e
-  where
-    by : (table_name_in rows name ≡ Some table → flows_of table ≡ true) → (b : Bool) → (if b then Some first else table_name_in rows name) ≡ Some table → flows_of table ≡ true
-    by rest true same = ap flows_of (sym (same_Some first table same)) ∙ all.0
-    by rest false later = rest later
-
-filament_rows : List (Text × Text)
-filament_rows =
-    (codes "Add", codes "std_add") ∷ (codes "Sub", codes "std_sub") ∷ (codes "And", codes "std_and") ∷ (codes "Or", codes "std_or") ∷ (codes "Xor", codes "std_xor")
-    ∷ (codes "Eq", codes "std_eq") ∷ (codes "Lt", codes "std_lt") ∷ (codes "Not", codes "std_not") ∷ (codes "Mux", codes "fil_mux") ∷ (codes "Slice", codes "fil_slice")
-    ∷ (codes "Extend", codes "std_pad") ∷ (codes "Concat", codes "fil_concat") ∷ (codes "Delay", codes "fil_delay") ∷ (codes "FastMult", codes "fil_fast_mult") ∷ (codes "Reg", codes "std_reg")
-    ∷ (codes "SeqMult", codes "fil_seq_mult") ∷ []
-
-all_flow : AllFlow filament_rows
-unfolding filament_rows prim_names
+all_flow : OfEach Flows filament_primitives
+unfolding prim_names
 all_flow = (refl, (refl, (refl, (refl, (refl, (refl, (refl, (refl, (refl, (refl, (refl, (refl, (refl, (refl, (refl, (refl, tt))))))))))))))))
 
-by_rows : (name : Text) → table_name_in filament_rows name ≡ table_name name
-unfolding filament_rows
-by_rows name = refl
+table_flows : (made table : Text) → table_name made ≡ Some table → flows_of table ≡ true
+table_flows made table told = let p = row_of Flows all_flow made table told in ap flows_of (sym p.tabled) ∙ p.holds
 
 of_known : (o : Option PrimName) (n : PrimName) → o ≡ Some n → option_map_or flows o false ≡ true → flows n ≡ true
 of_known o n is known = sym (ap (λ (p : Option PrimName). option_map_or flows p false) is) ∙ known
@@ -101,7 +84,7 @@ filament_flow made params prim is =
     option_and_then_some prim_in_range (option_and_then (λ n. with_params n params) (prim_name table)) prim of_table (λ whole with_them in_range.
     option_and_then_some (λ n. with_params n params) (prim_name table) whole with_them (λ n named made_of.
     subst HasFlow (cond_some (is_made whole) whole prim in_range).1
-    (of_name n params whole (of_known (prim_name table) n named (of_rows filament_rows all_flow made table (by_rows made ∙ told))) made_of))))
+    (of_name n params whole (of_known (prim_name table) n named (table_flows made table told)) made_of))))
 
 -- Filament sees one output of it
 pub one_output : (prim : Primitive) → has_flow prim ≡ true → (w : ℕ) × (filter is_data_pin (outputs_of prim) ≡ pin (codes "out") w ∷ [])

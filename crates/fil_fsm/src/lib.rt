@@ -27,4 +27,4 @@ mod shift;
 
 pub use laws::{chains_delay, parts_make_chains};
 pub use names::intern;
-pub use shift::{FsmParts, MOST_BITS, shift_register};
+pub use shift::{FsmParts, shift_register};

@@ -5,7 +5,7 @@ ghost use Rattle.hw_names.specs.Name.{KeepsTexts};
 
 use hw_bits::Memory;
 use hw_names::{NameId, Names};
-use itoa::Buffer;
+use hw_print::numbered;
 use std::alloc::Global;
 
 /// A name that was new, by its number among the names, and the number that it has in it.
@@ -30,10 +30,7 @@ pub fn intern(names: &mut Names, text: &[u8]) -> Result<NameId, Memory>
 fn generated(alloc: Global, number: u64) -> Result<Vec<u8>, Memory>
     ensures { IfOk result (λ name. name.items ≡ generated_name number) }
 {
-    let mut buffer = Buffer::new();
-    let mut name = Vec::from_slice(alloc, b"f$")?;
-    name.extend_from_slice(buffer.format(number).as_bytes())?;
-    Ok(name)
+    numbered(alloc, b"f$", number)
 }
 
 /// Adds the name of a number that was not there: the first from this number on.

@@ -9,11 +9,9 @@ use crate::names::fresh;
 use crate::register::{add_register, register_texts};
 use cal_ast::{Assign, CalCell, CalPort};
 use hw_bits::Memory;
+use hw_limits::MOST_ROWS;
 use hw_names::Names;
 use std::alloc::Global;
-
-/// The most bits of a shift register: as many rows as two offsets of a design can make together.
-pub const MOST_BITS: u64 = 8192;
 
 /// The cells and assignments of a shift register, and its bits, the first of which is its source.
 #[derive(Drop)]
@@ -45,7 +43,7 @@ pub fn shift_register(
     n: u64,
 ) -> Result<FsmParts, Memory>
     requires numbers { PortHasNumbers names.old go }
-    requires bits { (1 ≤ n) × (n ≤ MOST_BITS) }
+    requires bits { (1 ≤ n) × (n ≤ MOST_ROWS) }
     ensures kept { KeepsTexts names.old names.new }
     ensures chain { IfOk result (λ parts. IsShiftRegister names.old names.new go n parts) }
     ensures numbers { IfOk result (PartsHaveNumbers names.new) }

@@ -12,6 +12,7 @@ use Rattle.net_core.specs.Guard.{guard_holds, source_value}
 use Rattle.cal_ast.specs.CalRun.{look}
 use Rattle.cal_ast.specs.Laws.{local_values}
 use Rattle.cal_ast.specs.Tree.{port_of}
+use Rattle.fil_ast.proofs.UseLemmas.{parts_of}
 use Rattle.fil_ast.specs.Behaviours.{timed_event, timed_port}
 use Rattle.fil_ast.specs.Holds.{uses_of}
 use Rattle.fil_ast.specs.Items.{scope_after}
@@ -104,8 +105,8 @@ module _ (comp : LoweredComp) (standing : StandingComp comp) where
       let arg = some_at v.gives.args input.0 (omega (arith, within, f.each.args)) in
       let s = t.starts p has_p v.inst v.gives.times f.each.times in
       let number : s.0.event ≡ q.from.event = s.2 ∙ sym (ap (λ (x : TimedPort). x.event) input.3) in
-      let start : slice_get v.gives.times q.from.event ≡ Some s.0.at = ap (slice_get v.gives.times) (sym number) ∙ s.1.time in
-      let e = number_of c.events s.0.at.event (All-contains (λ (t : TimeAt). NamesEvent c t.event) v.gives.times s.0.at f.times (Contains-at v.gives.times s.0.event s.0.at s.1.time)) in
+      let start : slice_get v.gives.times q.from.event ≡ Some s.0.at = ap (slice_get v.gives.times) (sym number) ∙ (parts_of s.1).time in
+      let e = number_of c.events s.0.at.event (All-contains (λ (t : TimeAt). NamesEvent c t.event) v.gives.times s.0.at f.times (Contains-at v.gives.times s.0.event s.0.at (parts_of s.1).time)) in
       record {
         k = input.0;
         q = q;

@@ -12,6 +12,7 @@ use Rattle.hw_prims.specs.Filament.{behaviour_of}
 use Rattle.hw_prims.specs.Timed.{Behaviour}
 use Rattle.hw_prims.specs.Table.{prim_of}
 use Rattle.hw_prims.specs.declared.prim.Primitive.{Primitive}
+use Rattle.fil_ast.proofs.UseLemmas.{parts_of}
 use Rattle.fil_ast.specs.Items.{TheSignature, scope_after, scope_with}
 use Rattle.fil_ast.specs.Naming.{NamesEvent, component_names, instance_names}
 use Rattle.fil_ast.specs.Primitives.{filament_primitive, primitive_signature, signature_by, table_name, timing_of}
@@ -226,7 +227,7 @@ module _ (comps : Design) (rules : FilRules comps) (n : ℕ) (c : Component) (he
       let in_time : All (EndsInTime (scope_with earlier c (take k c.body) s)) (invocations_at s) = keeps 11 F1 (omega arith) in
       let triggers : All (TriggersWithInterface (scope_with earlier c (take k c.body) s)) (invocations_at s) = keeps 12 F1 (omega arith) in
       let kept = apart j e below' x u used_x earlier_use in
-      let same_inst : v.inst ≡ w.inst = sym uses_u.2.named ∙ same_instance ∙ uses_x.2.named in
+      let same_inst : v.inst ≡ w.inst = sym (parts_of uses_u.2).named ∙ same_instance ∙ (parts_of uses_x.2).named in
       record { event = kept.0; disjoint = kept.1; in_time = in_time j e below' x u used_x earlier_use; interface = (triggers j e below').once v x u has_v same_inst used_x used_u kept.0 }
 
   one_call : (s : Statement) → AllPairs ShareWell (invocations_at s)

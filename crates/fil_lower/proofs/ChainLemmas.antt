@@ -34,20 +34,11 @@ use Rattle.fil_lower.proofs.CallLemmas.{IsCalled, all_called, found_among}
 use Rattle.fil_lower.proofs.CellLemmas.{DrivesCell, DrivesOne, among_lists, argument_cells, chain_cells, connection_cells, other_cell, start_cells}
 use Rattle.fil_lower.proofs.ListLemmas.{contains_in_flat, contains_none, first_or_later}
 use Rattle.fil_lower.proofs.LoweredParts.{LoweredComp}
-use Rattle.fil_lower.proofs.NameLemmas.{distinct_rest, first_differs, later_distinct}
+use Rattle.fil_lower.proofs.NameLemmas.{apart_joined, distinct_rest, first_differs, later_distinct}
 use Rattle.fil_lower.proofs.TimedAsLemmas.{contains_map, number_of}
 use Rattle.fil_lower.proofs.ValueLemmas.{filter_flat, filter_none, flat_none, flat_only}
 
 -- ---- lists of names
-
--- of two lists that are joined to distinct names, none is in both
-pub apart_joined : (xs ys : List Text) → AreDistinct (xs ++ ys) → (name : Text) → Contains xs name → Contains ys name → ⊥
-apart_joined [] ys distinct name has_x has_y = contains_none name has_x
-apart_joined (x ∷ xs) ys distinct name has_x has_y =
-    elim (first_or_later x xs name has_x) [
-      | inl same ↦ first_differs x (xs ++ ys) name distinct (Contains-append_right xs ys name has_y) same
-      | inr later ↦ apart_joined xs ys (later_distinct x (xs ++ ys) distinct) name later has_y
-    ]
 
 abbrev pub all_of : List (List Text) → List Text
 all_of lists = flat_map (λ names. names) lists

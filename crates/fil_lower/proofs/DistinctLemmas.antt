@@ -1,13 +1,12 @@
 -- A component's instances have distinct names, and its outputs are connected once each.
-use Rattle.std.proofs.Common.{◌≡◌, ◌⊎◌, ℕ, zero, suc, ◌<◌, ◌≤◌, List, [], ◌∷◌, ◌++◌, length, map, flat_map, take, get_or, slice_get, Some, option_map, refl, sym, ap, subst, ◌∙◌, inl, inr, add-one, arith}
+use Rattle.std.proofs.Common.{◌≡◌, ℕ, List, [], ◌∷◌, ◌++◌, map, flat_map, take, slice_get, Some, option_map, refl, sym, ap, subst, ◌∙◌, inl, inr, arith}
 use Rattle.std.specs.Prelude.{Contains}
-use Rattle.std.proofs.lemmas.List.{append-nil, map-append}
+use Rattle.std.proofs.lemmas.List.{map-append}
 use Rattle.std.proofs.lemmas.List.Elements.{All-head}
 use Rattle.std.proofs.lemmas.List.Folds.{flat_map-map}
-use Rattle.std.proofs.lemmas.Option.{slice_get-get_or, slice_get-map}
-use Rattle.std.proofs.Math.Seq.{take-length}
+use Rattle.std.proofs.lemmas.Option.{slice_get-map}
 use Rattle.hw_names.specs.Name.{Text, AreDistinct}
-use Rattle.hw_names.proofs.NameLemmas.{AreDistinct-push, same_number}
+use Rattle.hw_names.proofs.NameLemmas.{same_number}
 use Rattle.fil_ast.specs.Connections.{ConnectsOnce, connected_at}
 use Rattle.fil_ast.specs.Items.{scope_after}
 use Rattle.fil_ast.specs.Naming.{instance_names}
@@ -15,39 +14,10 @@ use Rattle.fil_ast.specs.Rules.{F1, FilRules}
 use Rattle.fil_ast.specs.Scope.{Instance, instances_at}
 use Rattle.fil_ast.specs.Tree.{Component, Design, Statement, New, Call, Both, Connect}
 use Rattle.fil_ast.specs.Wires.{whole_scope}
-use Rattle.fil_share.proofs.MakesLemmas.{at_statement, flat_next}
+use Rattle.fil_share.proofs.MakesLemmas.{at_statement}
 use Rattle.fil_share.proofs.OwnLemmas.{names_of}
 use Rattle.fil_lower.proofs.ChainLemmas.{all_of, apart_at}
-
--- ---- lists to which each statement adds a new name at most
-
-module _ (f : Statement → List Text) (body : List Statement) where
-  abbrev AddsNew : ℕ → Statement → Type 0
-  AddsNew k s = (f s ≡ []) ⊎ ((name : Text) × (f s ≡ name ∷ []) × ¬ Contains (flat_map f (take k body)) name)
-
-  module _ (each : (k : ℕ) (s : Statement) → slice_get body k ≡ Some s → AddsNew k s) where
-    distinct_next : (k : ℕ) (s : Statement) → AreDistinct (flat_map f (take k body)) → AddsNew k s → AreDistinct (flat_map f (take k body) ++ f s)
-    distinct_next k s distinct (inl none) =
-        let D : List Text → Type 0 = AreDistinct in
-        subst D (sym (append-nil (flat_map f (take k body))) ∙ ap (λ more. flat_map f (take k body) ++ more) (sym none)) distinct
-    distinct_next k s distinct (inr (name, one, absent)) =
-        let D : List Text → Type 0 = AreDistinct in
-        subst D (ap (λ more. flat_map f (take k body) ++ more) (sym one)) (AreDistinct-push (flat_map f (take k body)) name distinct absent)
-
-    distinct_to : (k : ℕ) → k ≤ length body → AreDistinct (flat_map f (take k body))
-    distinct_to zero within = λ i j d less below. absurd (omega (arith, less, below))
-    distinct_to (suc k) within =
-        let s = get_or body k (New [] [] []) in
-        let below : k < length body = omega (arith, within) in
-        let at : slice_get body k ≡ Some s = slice_get-get_or body k (New [] [] []) below in
-        let D : List Text → Type 0 = AreDistinct in
-        subst D (sym (flat_next f body k s at) ∙ ap (λ (m : ℕ). flat_map f (take m body)) (add-one k)) (distinct_next k s (distinct_to k (omega (arith, within))) (each k s at))
-
-    pub distinct_all : AreDistinct (flat_map f body)
-    distinct_all =
-        let D : List Statement → Type 0 = λ b. AreDistinct (flat_map f b) in
-        let all : length body ≤ length body = omega arith in
-        subst D (take-length body) (distinct_to (length body) all)
+use Rattle.fil_lower.proofs.NewNameLemmas.{AddsNew, distinct_all}
 
 abbrev name_of : Instance → Text
 name_of i = i.name

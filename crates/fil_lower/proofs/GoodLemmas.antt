@@ -18,7 +18,7 @@ use Rattle.fil_ast.specs.Tree.{Component, DataPort, Design, component_tree, desi
 use Rattle.fil_ast.specs.Typing.{IsInterval}
 use Rattle.fil_ast.specs.declared.tree.FilComp.{FilComp}
 use Rattle.fil_ast.specs.declared.tree.FilDesign.{FilDesign}
-use Rattle.fil_ast.specs.declared.tree.TheConstants.{MOST_OFFSET}
+use Rattle.hw_limits.specs.declared.limits.TheConstants.{MOST_OFFSET}
 use Rattle.fil_share.proofs.CalleeLemmas.{named_among}
 use Rattle.fil_share.specs.Instances.{signature_of}
 use Rattle.fil_sig.proofs.ListLemmas.{All-mapped}

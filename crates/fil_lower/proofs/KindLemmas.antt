@@ -118,12 +118,26 @@ module _ (comps : Design) (rules : FilRules comps) (design : calyx.Design) (lowe
           | inl in_guard ↦ ToBit (guard_bit comps rules design lowered n c here guard is_guard q in_guard)
           | inr in_src ↦
               let wide = All-contains (GivesWide l.scope) l.scope.invocations v (all_wide comps rules n c here) of sig k arg port signed at_arg at_port in
-              InText (ByArgument v sig k arg port of signed at_arg at_port (ap shown dst) (value_port arg port.width wide q in_src))
+              InText
+              (ByArgument
+              (record {
+                invocation = v;
+                invoked = of;
+                signature = sig;
+                signed = signed;
+                place = k;
+                value = arg;
+                given = at_arg;
+                input = port;
+                taken = at_port;
+                is_port = ap shown dst;
+                is_other = value_port arg port.width wide q in_src;
+              }))
         ]
     set_kind a (Connects output value of) p q dst reads =
         let m = connects_wide comps rules n c here output value of in
         let there : Contains c.body (Connect (shown p) value) = subst (λ (x : Text). Contains c.body (Connect x value)) (ap shown dst) of in
-        InText (ByConnection value there (value_port value m.port.width m.wide q reads))
+        InText (ByConnection (record { value = value; connected = there; is_other = value_port value m.port.width m.wide q reads }))
 
     -- ---- within a primitive
 
@@ -140,7 +154,21 @@ module _ (comps : Design) (rules : FilRules comps) (design : calyx.Design) (lowe
         let in_outs : Contains sig.outs (output_port t y.0) =
         subst (λ (s : Signature). Contains s.outs (output_port t y.0)) k.same (contains_map (output_port t) (data_outputs k.prim) y.0 (subst (λ (ps : List Pin). Contains ps y.0) (sym only.1) y.1)) in
         let depends : is_through k.prim x.0.name y.0.name ≡ true = ap₂ (is_through k.prim) x.2 y.2 ∙ through in
-        InText (ByInstance i sig (input_port x.0) (output_port t y.0) of signed in_ins in_outs (texts.OfPrimitive k.prim made depends) (ap (dotted i.name) y.2 ∙ ap shown at_p) (ap (dotted i.name) x.2 ∙ ap shown at_q))
+        InText
+        (ByInstance
+        (record {
+          instance = i;
+          has = of;
+          signature = sig;
+          signed = signed;
+          input = input_port x.0;
+          output = output_port t y.0;
+          has_input = in_ins;
+          has_output = in_outs;
+          depends = texts.OfPrimitive k.prim made depends;
+          is_port = ap (dotted i.name) y.2 ∙ ap shown at_p;
+          is_other = ap (dotted i.name) x.2 ∙ ap shown at_q;
+        }))
 
     through_kind : (cell : Text) (prim : Primitive) (input output : Text) → primitive_in low cell ≡ Some prim → Contains (pin_names (inputs_of prim)) input → Contains (pin_names (outputs_of prim)) output → is_through prim input output ≡ true →
         (p q : PortName) → port_of cell output ≡ p → port_of cell input ≡ q → IsKind p q
@@ -181,7 +209,21 @@ module _ (comps : Design) (rules : FilRules comps) (design : calyx.Design) (lowe
               let depends : through_before (take n comps) i.made y.0.name x.0.name =
               subst (λ (name : Text). through_before (take n comps) name y.0.name x.0.name) k.is_named
               (subst (λ (o : Text). through_before (take n comps) k.d.name o x.0.name) (sym y.2) (subst (λ (j : Text). through_before (take n comps) k.d.name output j) (sym x.2) there)) in
-              InText (ByInstance i sig (sig_port k.d.events x.0) (sig_port k.d.events y.0) of signed in_ins in_outs (texts.OfComponent depends) (ap (dotted i.name) y.2 ∙ ap shown at_p) (ap (dotted i.name) x.2 ∙ ap shown at_q))
+              InText
+              (ByInstance
+              (record {
+                instance = i;
+                has = of;
+                signature = sig;
+                signed = signed;
+                input = sig_port k.d.events x.0;
+                output = sig_port k.d.events y.0;
+                has_input = in_ins;
+                has_output = in_outs;
+                depends = texts.OfComponent depends;
+                is_port = ap (dotted i.name) y.2 ∙ ap shown at_p;
+                is_other = ap (dotted i.name) x.2 ∙ ap shown at_q;
+              }))
         ]
 
     inside_kind : (part : calyx.Component) (cell input output : Text) → part_in design low cell ≡ Some part → Contains (pin_names (inputs_in part)) input → Contains (pin_names (outputs_in part)) output → Reaches design part (own output) (own input) →

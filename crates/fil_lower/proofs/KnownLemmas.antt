@@ -9,6 +9,7 @@ use Rattle.std.proofs.lemmas.List.Elements.{All-cons, All-contains, All-nil, All
 use Rattle.std.proofs.lemmas.Option.{get_or_from_slice_get, none-some, same_Some, slice_get-get_or, slice_get-map}
 use Rattle.std.proofs.lemmas.Slice.Eq.{bytes_eq-Decides}
 use Rattle.hw_names.specs.Name.{Text}
+use Rattle.fil_ast.proofs.UseLemmas.{parts_of}
 use Rattle.fil_ast.specs.Holds.{uses_of}
 use Rattle.fil_ast.specs.Items.{scope_after}
 use Rattle.fil_ast.specs.Naming.{IsKnownValue, NamesEvent, UsesKnownNames, instance_names, invocation_names}
@@ -162,10 +163,10 @@ starts_fit body l shows enough inst sig k e go signed at has v u among use_in sa
     let S : Scope → Type 0 = λ s. instance_signature s v.inst ≡ Some is.sig in
     let signed_v : instance_signature l.scope v.inst ≡ Some is.sig = subst S (sym shows.whole) is.signed in
     let used = All-contains (IsUse is.sig v.inst v.gives.times) (uses_of l.scope v) u (all_uses l.scope v is.sig signed_v) use_in in
-    let named = All-contains (λ (t : TimeAt). NamesEvent l.scope.comp t.event) v.gives.times u.at is.times (Contains-at v.gives.times u.event u.at used.time) in
-    let same_sig : is.sig ≡ sig = same_Some is.sig sig (sym signed_v ∙ ap (instance_signature l.scope) (sym used.named ∙ same_inst) ∙ signed) in
+    let named = All-contains (λ (t : TimeAt). NamesEvent l.scope.comp t.event) v.gives.times u.at is.times (Contains-at v.gives.times u.event u.at (parts_of used).time) in
+    let same_sig : is.sig ≡ sig = same_Some is.sig sig (sym signed_v ∙ ap (instance_signature l.scope) (sym (parts_of used).named ∙ same_inst) ∙ signed) in
     let same_e : used.event ≡ e = same_Some used.event e (sym used.of ∙ ap (λ (s : Signature). slice_get s.events u.event) same_sig ∙ ap (slice_get sig.events) same_event ∙ at) in
-    let some : u.go ≡ Some go = used.go ∙ ap (λ (x : SigEvent). x.go) same_e ∙ has in
+    let some : u.go ≡ Some go = (parts_of used).go ∙ ap (λ (x : SigEvent). x.go) same_e ∙ has in
     let triggered = is.triggers u used (ap (λ o. is_some o) some) in
     let found = interface_there l.scope.comp.interfaces u.at.event triggered in
     (named, use_fits l v u found.0 enough among use_in named found.1)

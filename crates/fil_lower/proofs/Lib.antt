@@ -6,6 +6,8 @@ pub mod SeparateLemmas
 pub mod NameLemmas
 pub mod PrimitiveLemmas
 pub mod CalleeLemmas
+pub mod NewNameLemmas
+pub mod ExpressionLemmas
 pub mod ResolvedLemmas
 pub mod PlanLemmas
 pub mod TimingLemmas

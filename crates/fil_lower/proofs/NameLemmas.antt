@@ -4,6 +4,7 @@ use Rattle.std.specs.Option.{option_or}
 use Rattle.std.specs.Prelude.{◌≢◌, AllPairs, Contains, bytes_eq, if◌then◌else◌}
 use Rattle.std.proofs.lemmas.Bool.{false_from_ne_true}
 use Rattle.std.proofs.lemmas.List.{get_or-map, length-map, reverse-append}
+use Rattle.std.proofs.lemmas.List.Elements.{Contains-append_right}
 use Rattle.std.proofs.lemmas.List.Folds.{find-append}
 use Rattle.std.proofs.lemmas.Option.{none-some}
 use Rattle.std.proofs.lemmas.Slice.Eq.{bytes_eq-Decides}
@@ -31,6 +32,15 @@ first_differs name names other distinct (k, within, at) same = distinct 0 (suc k
 pub distinct_rest : (xs ys : List Text) → AreDistinct (xs ++ ys) → AreDistinct ys
 distinct_rest [] ys distinct = distinct
 distinct_rest (x ∷ xs) ys distinct = distinct_rest xs ys (later_distinct x (xs ++ ys) distinct)
+
+-- of two lists that are joined to distinct names, none is in both
+pub apart_joined : (xs ys : List Text) → AreDistinct (xs ++ ys) → (name : Text) → Contains xs name → Contains ys name → ⊥
+apart_joined [] ys distinct name has_x has_y = contains_none name has_x
+apart_joined (x ∷ xs) ys distinct name has_x has_y =
+    elim (first_or_later x xs name has_x) [
+      | inl same ↦ first_differs x (xs ++ ys) name distinct (Contains-append_right xs ys name has_y) same
+      | inr later ↦ apart_joined xs ys (later_distinct x (xs ++ ys) distinct) name later has_y
+    ]
 
 -- functions that agree on the elements of a list
 pub map_agree : {X Y : Type 0} (f g : X → Y) (xs : List X) → ((x : X) → Contains xs x → f x ≡ g x) → map f xs ≡ map g xs

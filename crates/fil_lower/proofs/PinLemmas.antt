@@ -28,10 +28,9 @@ use Rattle.fil_ast.specs.Typing.{HasShape}
 use Rattle.fil_fsm.specs.Refines as calyx_ports
 use Rattle.fil_share.proofs.ListLemmas.{AllPairs-left, Contains-here, Contains-there}
 use Rattle.fil_lower.proofs.AvailableLemmas.{mapped_from}
-use Rattle.fil_lower.proofs.ChainLemmas.{apart_joined}
 use Rattle.fil_lower.proofs.GuardLemmas.{filtered_has}
 use Rattle.fil_lower.proofs.ListLemmas.{contains_none, first_or_later}
-use Rattle.fil_lower.proofs.NameLemmas.{first_differs, from_map, later_distinct, other_name, same_element, same_name}
+use Rattle.fil_lower.proofs.NameLemmas.{apart_joined, first_differs, from_map, later_distinct, other_name, same_element, same_name}
 use Rattle.fil_lower.proofs.TimedAsLemmas.{contains_map, number_of}
 use Rattle.fil_lower.proofs.TimingLemmas.{IsTiming, Plain, Register}
 

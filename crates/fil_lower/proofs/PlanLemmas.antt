@@ -12,7 +12,7 @@ use Rattle.std.proofs.lemmas.Slice.Eq.{bytes_eq-Decides}
 use Rattle.hw_names.specs.Name.{Text, AreDistinct}
 use Rattle.hw_prims.specs.Timed.{Behaviour, TimedPort, Transaction, Values}
 use Rattle.fil_ast.specs.Behaviours.{argument_named, arguments_in, component_behaviour, inner_by, inner_of, inner_transactions, inputs_of_callee, timed_signature}
-use Rattle.fil_ast.specs.Flow.{Named, Outcome, connected_to, outcomes_of, value_in, value_named, with_values}
+use Rattle.fil_ast.specs.Flow.{Named, connected_to, value_in_body, value_named, with_values}
 use Rattle.fil_ast.specs.Holds.{uses_of}
 use Rattle.fil_ast.specs.Items.{TheSignature, scope_after}
 use Rattle.fil_ast.specs.Naming.{HasNewNames, component_names}
@@ -32,7 +32,7 @@ use Rattle.fil_lower.specs.PlanOf.{Resolved, behaviour_made, callee_of, nothing_
 use Rattle.fil_lower.specs.PlanRules.{given_by, given_by_slot, given_by_use, given_transactions}
 use Rattle.fil_lower.proofs.CalleeLemmas.{data_names, promised}
 use Rattle.fil_lower.proofs.NameLemmas.{distinct_rest, given_to}
-use Rattle.fil_lower.proofs.ResolvedLemmas.{AllThree, AreResolved, IsResolved, IsThere, all_resolved, called, flows, inputs, known_there, knowns, outs, there_still, value_is, value_of_name, whole}
+use Rattle.fil_lower.proofs.ResolvedLemmas.{AreResolved, IsResolved, IsThere, all_resolved, called, flows, inputs, known_there, knowns, there_still, value_is, value_of_name, whole}
 
 -- ---- two lists that agree place by place, joined
 
@@ -137,11 +137,11 @@ module _ (comps : Design) (rules : FilRules comps) (n : ℕ) (c : Component) (he
   -- an output has the same value
   module _ (values : Values) where
     abbrev shown : Values
-    shown name = option_map_or (value_in (inputs earlier c values) (whole earlier c values)) (connected_to c.body name) 0
+    shown name = option_map_or (whole earlier c values) (connected_to c.body name) 0
 
     abbrev outputs_with : List Named → List Named
     outputs_with ins =
-        map (λ (p : DataPort). record { name = p.name; value = option_map_or (value_in ins (outcomes_of (flows earlier c values) c.body ins)) (connected_to c.body p.name) 0 }) c.outs
+        map (λ (p : DataPort). record { name = p.name; value = option_map_or (value_in_body (flows earlier c values) c.body ins) (connected_to c.body p.name) 0 }) c.outs
 
     connected_value : (output : Text) (arg : ValueTree) → connected_to c.body output ≡ Some arg → value_of (callee_of earlier c) values (source_of (resolved_calls earlier c) arg) ≡ value_named (outputs_with (inputs earlier c values)) output
     connected_value output arg is =
@@ -151,9 +151,9 @@ module _ (comps : Design) (rules : FilRules comps) (n : ℕ) (c : Component) (he
         (known_there earlier c values distinct ports named numbers w.k (Connect output arg) w.at arg known.1) in
         let cut : flat_map invocations_at (take w.k c.body) ++ flat_map invocations_at (drop w.k c.body) ≡ invocations =
         sym (flat_map-append invocations_at (take w.k c.body) (drop w.k c.body)) ∙ ap (flat_map invocations_at) (take-append-drop w.k c.body) in
-        value_is earlier c values invocations (outs earlier c values invocations) (knowns earlier c values invocations) (all values) arg
+        value_is earlier c values invocations (knowns earlier c values invocations) (all values) arg
         (subst (λ (vs : List Invocation). IsThere earlier c values vs arg) cut there)
-        ∙ sym (ap (λ (o : Option ValueTree). option_map_or (value_in (inputs earlier c values) (whole earlier c values)) o 0) is)
+        ∙ sym (ap (λ (o : Option ValueTree). option_map_or (whole earlier c values) o 0) is)
         ∙ sym (value_of_name c.events c.outs shown output known.0)
 
     flow_is : (output : Text) → (behaviour_of_plan (plan_of earlier c)).flow values output ≡ (component_behaviour earlier c).flow values output
@@ -162,7 +162,7 @@ module _ (comps : Design) (rules : FilRules comps) (n : ℕ) (c : Component) (he
         ∙ sym (ap (λ (ins : List Named). value_named (outputs_with ins) output) (with_values_are c.ins values))
       where
         by : (o : Option ValueTree) → connected_to c.body output ≡ o → value_of (callee_of earlier c) values (option_map_or (source_of (resolved_calls earlier c)) o (Literal 0)) ≡ value_named (outputs_with (inputs earlier c values)) output
-        by None none = sym (hidden c.outs shown output (ap (λ (o : Option ValueTree). option_map_or (value_in (inputs earlier c values) (whole earlier c values)) o 0) none))
+        by None none = sym (hidden c.outs shown output (ap (λ (o : Option ValueTree). option_map_or (whole earlier c values) o 0) none))
         by (Some arg) some = connected_value output arg some
 
   -- an instance is given the same
@@ -182,8 +182,8 @@ module _ (comps : Design) (rules : FilRules comps) (n : ℕ) (c : Component) (he
             (subst (λ (o : Option Instance). Contains (option_map_or (behaviour_made earlier) o nothing_promised).sig.ins p) is_i has))
 
     module _ (tx : Transaction) where
-      alike : (v : Invocation) (o : Outcome) (r : Resolved) → IsResolved earlier c tx.values v o r → v.inst ≡ inst → (u : timeline.Use) → Alike (given_by (plan_of earlier c) tx r.call (slot_of c u)) (inner_by earlier c tx v u)
-      alike v o r is of_inst u = record {
+      alike : (v : Invocation) (r : Resolved) → IsResolved earlier c tx.values v r → v.inst ≡ inst → (u : timeline.Use) → Alike (given_by (plan_of earlier c) tx r.call (slot_of c u)) (inner_by earlier c tx v u)
+      alike v r is of_inst u = record {
         event = refl;
         start = refl;
         hold = refl;
@@ -194,19 +194,19 @@ module _ (comps : Design) (rules : FilRules comps) (n : ℕ) (c : Component) (he
             (All-weaker (λ (q : SigPort). q.name ≡ p.name → q.from.event ≡ p.event) (λ (q : SigPort). q.name ≡ p.name → q.from.event ≡ u.event) (λ q goes same. goes same ∙ on) (inputs_of_callee earlier c inst) (one_event p has)));
       }
 
-      each_slot : (v : Invocation) (o : Outcome) (r : Resolved) → IsResolved earlier c tx.values v o r → v.inst ≡ inst → (us : List timeline.Use) →
+      each_slot : (v : Invocation) (r : Resolved) → IsResolved earlier c tx.values v r → v.inst ≡ inst → (us : List timeline.Use) →
           AllZip Alike (flat_map (given_by_slot (plan_of earlier c) tx r.call) (map (slot_of c) us)) (map (inner_by earlier c tx v) (filter (λ (u : timeline.Use). event_number c.events u.at.event == tx.event) us))
-      each_slot v o r is of_inst [] = tt
-      each_slot v o r is of_inst (u ∷ us) = by (event_number c.events u.at.event == tx.event) (each_slot v o r is of_inst us)
+      each_slot v r is of_inst [] = tt
+      each_slot v r is of_inst (u ∷ us) = by (event_number c.events u.at.event == tx.event) (each_slot v r is of_inst us)
         where
           by : (b : Bool) → AllZip Alike (flat_map (given_by_slot (plan_of earlier c) tx r.call) (map (slot_of c) us)) (map (inner_by earlier c tx v) (filter (λ (u : timeline.Use). event_number c.events u.at.event == tx.event) us))
               → AllZip Alike ((if b then given_by (plan_of earlier c) tx r.call (slot_of c u) ∷ [] else []) ++ flat_map (given_by_slot (plan_of earlier c) tx r.call) (map (slot_of c) us))
               (map (inner_by earlier c tx v) (cond b (u ∷ filter (λ (u : timeline.Use). event_number c.events u.at.event == tx.event) us) (filter (λ (u : timeline.Use). event_number c.events u.at.event == tx.event) us)))
-          by true rest = (alike v o r is of_inst u, rest)
+          by true rest = (alike v r is of_inst u, rest)
           by false rest = rest
 
-      one_call : (v : Invocation) (o : Outcome) (r : Resolved) → IsResolved earlier c tx.values v o r → AllZip Alike (given_by_use (plan_of earlier c) inst tx r.call) (inner_of earlier c inst tx v)
-      one_call v o r is =
+      one_call : (v : Invocation) (r : Resolved) → IsResolved earlier c tx.values v r → AllZip Alike (given_by_use (plan_of earlier c) inst tx r.call) (inner_of earlier c inst tx v)
+      one_call v r is =
           subst (λ (name : Text). AllZip Alike (if bytes_eq name inst then flat_map (given_by_slot (plan_of earlier c) tx r.call) r.call.slots else []) (inner_of earlier c inst tx v)) (sym is.inst)
           (by (bytes_eq v.inst inst) refl)
         where
@@ -214,24 +214,22 @@ module _ (comps : Design) (rules : FilRules comps) (n : ℕ) (c : Component) (he
               (if b then map (inner_by earlier c tx v) (filter (λ (u : timeline.Use). event_number c.events u.at.event == tx.event) (uses_of (whole_scope earlier c) v)) else [])
           by true same =
               subst (λ (slots : List Slot). AllZip Alike (flat_map (given_by_slot (plan_of earlier c) tx r.call) slots) (map (inner_by earlier c tx v) (filter (λ (u : timeline.Use). event_number c.events u.at.event == tx.event) (uses_of (whole_scope earlier c) v)))) (sym is.slots)
-              (each_slot v o r is ((bytes_eq-Decides v.inst inst).0 same) (uses_of (whole_scope earlier c) v))
+              (each_slot v r is ((bytes_eq-Decides v.inst inst).0 same) (uses_of (whole_scope earlier c) v))
           by false other = tt
 
-      each_call : (vs : List Invocation) (os : List Outcome) (rs : List Resolved) → AllThree (IsResolved earlier c tx.values) vs os rs →
+      each_call : (vs : List Invocation) (rs : List Resolved) → AllZip (IsResolved earlier c tx.values) vs rs →
           AllZip Alike (flat_map (given_by_use (plan_of earlier c) inst tx) (map (λ (r : Resolved). r.call) rs)) (flat_map (inner_of earlier c inst tx) vs)
-      each_call [] [] [] is = tt
-      each_call [] [] (r ∷ rs) is = absurd is
-      each_call [] (o ∷ os) rs is = absurd is
-      each_call (v ∷ vs) [] rs is = absurd is
-      each_call (v ∷ vs) (o ∷ os) [] is = absurd is
-      each_call (v ∷ vs) (o ∷ os) (r ∷ rs) is =
+      each_call [] [] is = tt
+      each_call [] (r ∷ rs) is = absurd is
+      each_call (v ∷ vs) [] is = absurd is
+      each_call (v ∷ vs) (r ∷ rs) is =
           zip_append Alike (given_by_use (plan_of earlier c) inst tx r.call) (inner_of earlier c inst tx v) (flat_map (given_by_use (plan_of earlier c) inst tx) (map (λ (r : Resolved). r.call) rs)) (flat_map (inner_of earlier c inst tx) vs)
-          (one_call v o r is.0) (each_call vs os rs is.1)
+          (one_call v r is.0) (each_call vs rs is.1)
 
     gives_same : (txs : List Transaction) → AllZip Alike (given_transactions (plan_of earlier c) txs inst) (inner_transactions earlier c txs inst)
     gives_same txs =
         zip_flat Alike (λ (tx : Transaction). flat_map (given_by_use (plan_of earlier c) inst tx) (plan_of earlier c).uses) (λ (tx : Transaction). flat_map (inner_of earlier c inst tx) invocations) txs
-        (λ tx. each_call tx invocations (outs earlier c tx.values invocations) (knowns earlier c tx.values invocations) (all tx.values))
+        (λ tx. each_call tx invocations (knowns earlier c tx.values invocations) (all tx.values))
 
 pub plans_promise : PlansPromiseTheSame
 plans_promise comps rules n c here =

@@ -1,21 +1,22 @@
--- Invocation by invocation: the resolved form has the value of the outcome.
+-- Invocation by invocation: the resolved form has the value that the text means.
 use Rattle.std.proofs.Common.{◌≡◌, ℕ, zero, suc, ◌+◌, ◌<◌, ◌≤◌, Bool, true, false, cond, List, [], ◌∷◌, ◌++◌, length, map, flat_map, reverse, take, drop, get_or, slice_get, All, Option, Some, None, refl, sym, ap, ap₂, subst, ◌∙◌, add-one, append_assoc, arith}
-use Rattle.std.specs.List.{find}
+use Rattle.std.specs.List.{AllZip, find}
 use Rattle.std.specs.Option.{IsSome, IfSome, is_some, option_and_then, option_map, option_map_or}
 use Rattle.std.specs.Prelude.{Contains, bytes_eq, if◌then◌else◌}
-use Rattle.std.proofs.lemmas.List.{append-nil, length-map, take-append-drop}
+use Rattle.std.proofs.lemmas.List.{append-nil, length-map, map-append, take-append-drop}
 use Rattle.std.proofs.lemmas.List.Concat.{flat_map-append}
-use Rattle.std.proofs.lemmas.List.Elements.{All-head, All-tail, All-weaker}
+use Rattle.std.proofs.lemmas.List.Elements.{All-contains, All-head, All-tail, All-weaker, Contains-append_right}
 use Rattle.std.proofs.lemmas.Option.{none-some, option_and_then_some, same_Some, slice_get-get_or}
 use Rattle.std.proofs.lemmas.Slice.Eq.{bytes_eq-Decides}
+use Rattle.std.proofs.lemmas.Slice.Zip.{all_zipped_more}
 use Rattle.std.proofs.Math.Seq.{take-length}
 use Rattle.hw_names.specs.Name.{Text, AreDistinct}
 use Rattle.hw_prims.specs.Timed.{Values}
 use Rattle.fil_ast.specs.Behaviours.{inputs_of_callee, inputs_with}
-use Rattle.fil_ast.specs.Flow.{Named, Outcome, flow_of, made_flow, outcome_of, outcomes_after, outcomes_of, outputs_in, value_in, value_named}
+use Rattle.fil_ast.specs.Flow.{Named, flow_of, instance_flow, made_flow, value_in, value_in_body, value_named}
 use Rattle.fil_ast.specs.Holds.{uses_of}
 use Rattle.fil_ast.specs.Items.{scope_after}
-use Rattle.fil_ast.specs.Naming.{IsKnownValue, component_names, instance_names}
+use Rattle.fil_ast.specs.Naming.{IsKnownValue, component_names, instance_names, invocation_names}
 use Rattle.fil_ast.specs.Scope.{Instance, Invocation, input_of, instance_named, instance_signature, instances_at, invocation_named, invocations_at, result_at, result_of, sig_port_named, signature_in}
 use Rattle.fil_ast.specs.Signature.{SigPort, Signature, sig_port}
 use Rattle.fil_ast.specs.Tree as tree
@@ -28,21 +29,9 @@ use Rattle.fil_share.proofs.OwnLemmas.{KeepsNames, cut_before, cut_with, find_la
 use Rattle.fil_lower.specs.Plan.{Source, Use, value_of}
 use Rattle.fil_lower.specs.PlanOf.{Resolved, args_of, behaviour_made, call_named, callee_of, nothing_promised, output_of_call, resolved, resolved_after, slot_of, source_of}
 use Rattle.fil_lower.proofs.CalleeLemmas.{data_names, promised}
-use Rattle.fil_lower.proofs.NameLemmas.{given_to}
-
--- what holds of three lists place by place
-abbrev pub AllThree : {X Y Z : Type 0} → (X → Y → Z → Type 0) → List X → List Y → List Z → Type 0
-AllThree R [] [] [] = Unit {0}
-AllThree R (x ∷ xs) (y ∷ ys) (z ∷ zs) = R x y z × AllThree R xs ys zs
-AllThree R xs ys zs = ⊥
-
-three_push : {X Y Z : Type 0} (R : X → Y → Z → Type 0) (xs : List X) (ys : List Y) (zs : List Z) (x : X) (y : Y) (z : Z) → AllThree R xs ys zs → R x y z → AllThree R (xs ++ x ∷ []) (ys ++ y ∷ []) (zs ++ z ∷ [])
-three_push R [] [] [] x y z all one = (one, tt)
-three_push R (a ∷ xs) (b ∷ ys) (c ∷ zs) x y z all one = (all.0, three_push R xs ys zs x y z all.1 one)
-three_push R [] [] (c ∷ zs) x y z all one = absurd all
-three_push R [] (b ∷ ys) zs x y z all one = absurd all
-three_push R (a ∷ xs) [] zs x y z all one = absurd all
-three_push R (a ∷ xs) (b ∷ ys) [] x y z all one = absurd all
+use Rattle.fil_lower.proofs.ExpressionLemmas.{value_after, value_last, value_still}
+use Rattle.fil_lower.proofs.NameLemmas.{apart_joined, given_to, map_agree}
+use Rattle.fil_lower.proofs.NewNameLemmas.{invocations_distinct}
 
 pub find_more : {X : Type 0} (test : X → Bool) (xs ys : List X) (x : X) → find test xs ≡ Some x → find test (xs ++ ys) ≡ Some x
 find_more test [] ys x is = absurd (none-some x is)
@@ -67,6 +56,15 @@ value_of_name events (p ∷ ports) values name some = by (bytes_eq p.name name) 
 no_statement : Statement
 no_statement = New [] [] []
 
+-- what is found by a name has it
+name_there : (vs : List Invocation) (name : Text) (v : Invocation) → invocation_named vs name ≡ Some v → Contains (invocation_names vs) name
+name_there [] name v is = absurd (none-some v is)
+name_there (w ∷ vs) name v is = by (bytes_eq w.name name) refl is (name_there vs name v)
+  where
+    by : (b : Bool) → bytes_eq w.name name ≡ b → cond b (Some w) (invocation_named vs name) ≡ Some v → (invocation_named vs name ≡ Some v → Contains (invocation_names vs) name) → Contains (invocation_names (w ∷ vs)) name
+    by true same e later = (zero, omega arith, (bytes_eq-Decides w.name name).0 same)
+    by false same e later = let (k, within, at) = later e in (suc k, omega (arith, within), at)
+
 some_mapped : {X Y : Type 0} (f : X → Y) (o : Option X) → IsSome (option_map f o) → IsSome o
 some_mapped f None some = some
 some_mapped f (Some x) some = refl
@@ -81,8 +79,12 @@ module _ (earlier : Design) (c : Component) (values : Values) where
   abbrev pub made : List Instance
   made = flat_map instances_at c.body
 
-  abbrev pub whole : List Outcome
-  whole = outcomes_of flows c.body inputs
+  abbrev invocations : List Invocation
+  invocations = (whole_scope earlier c).invocations
+
+  -- the value of an argument, or of what is connected, in the body
+  abbrev pub whole : ValueTree → ℕ
+  whole = value_in_body flows c.body inputs
 
   abbrev pub value : Source → ℕ
   value source = value_of (callee_of earlier c) values source
@@ -91,54 +93,40 @@ module _ (earlier : Design) (c : Component) (values : Values) where
   abbrev pub IsOutput : Text → Text → Type 0
   IsOutput inst port = (sig : Signature) × (instance_signature (whole_scope earlier c) inst ≡ Some sig) × IsSome (sig_port_named sig.outs port)
 
-  -- an invocation, its outcome, and its resolved form: they agree on arguments and on outputs
-  pub record IsResolved (v : Invocation) (o : Outcome) (r : Resolved) : Type 0 where
-    pub invocation : o.invocation ≡ v.name
+  -- an invocation and its resolved form agree on arguments and on outputs
+  pub record IsResolved (v : Invocation) (r : Resolved) : Type 0 where
     pub name : r.name ≡ v.name
     pub inst : r.call.inst ≡ v.inst
     pub slots : r.call.slots ≡ map (slot_of c) (uses_of (whole_scope earlier c) v)
-    pub args : (port : Text) → value (r.call.args port) ≡ given_to (inputs_of_callee earlier c v.inst) (map (value_in inputs whole) v.gives.args) port
-    pub outputs : (port : Text) → IsOutput v.inst port → value_named o.outputs port ≡ (callee_of earlier c v.inst).flow (λ p. value (r.call.args p)) port
+    pub args : (port : Text) → value (r.call.args port) ≡ given_to (inputs_of_callee earlier c v.inst) (map whole v.gives.args) port
+    pub outputs : (port : Text) → IsOutput v.inst port → whole (OutputValue v.name port) ≡ (callee_of earlier c v.inst).flow (λ p. value (r.call.args p)) port
 
-  -- the resolved form that is found by a name, with its outcome
-  record IsFound (vs : List Invocation) (os : List Outcome) (rs : List Resolved) (name : Text) (v : Invocation) : Type 0 where
-    outcome : Outcome
-    found : outputs_in os name ≡ outcome.outputs
-    kept : (more : List Outcome) → outputs_in (os ++ more) name ≡ outcome.outputs
+  -- the resolved form that is found by a name
+  record IsFound (rs : List Resolved) (name : Text) (v : Invocation) : Type 0 where
     resolved : Resolved
     known : call_named rs name ≡ Some resolved.call
-    is : IsResolved v outcome resolved
+    named : v.name ≡ name
+    is : IsResolved v resolved
 
-  find_resolved : (vs : List Invocation) (os : List Outcome) (rs : List Resolved) (name : Text) (v : Invocation) → AllThree IsResolved vs os rs → invocation_named vs name ≡ Some v → IsFound vs os rs name v
-  find_resolved [] os rs name v all is = absurd (none-some v is)
-  find_resolved (w ∷ vs) [] rs name v all is = absurd all
-  find_resolved (w ∷ vs) (o ∷ os) [] name v all is = absurd all
-  find_resolved (w ∷ vs) (o ∷ os) (r ∷ rs) name v all is = by (bytes_eq w.name name) refl is (find_resolved vs os rs name v all.1)
+  find_resolved : (vs : List Invocation) (rs : List Resolved) (name : Text) (v : Invocation) → AllZip IsResolved vs rs → invocation_named vs name ≡ Some v → IsFound rs name v
+  find_resolved [] rs name v all is = absurd (none-some v is)
+  find_resolved (w ∷ vs) [] name v all is = absurd all
+  find_resolved (w ∷ vs) (r ∷ rs) name v all is = by (bytes_eq w.name name) refl is (find_resolved vs rs name v all.1)
     where
-      by : (b : Bool) → bytes_eq w.name name ≡ b → cond b (Some w) (invocation_named vs name) ≡ Some v → (invocation_named vs name ≡ Some v → IsFound vs os rs name v) → IsFound (w ∷ vs) (o ∷ os) (r ∷ rs) name v
+      by : (b : Bool) → bytes_eq w.name name ≡ b → cond b (Some w) (invocation_named vs name) ≡ Some v → (invocation_named vs name ≡ Some v → IsFound rs name v) → IsFound (r ∷ rs) name v
       by true here e later =
-          let is_o : bytes_eq o.invocation name ≡ true = ap (λ n. bytes_eq n name) all.0.invocation ∙ here in
           let is_r : bytes_eq r.name name ≡ true = ap (λ n. bytes_eq n name) all.0.name ∙ here in
+          let same = same_Some w v e in
           record {
-            outcome = o;
-            found = ap (λ (b : Bool). if b then o.outputs else outputs_in os name) is_o;
-            kept = λ more. ap (λ (b : Bool). if b then o.outputs else outputs_in (os ++ more) name) is_o;
             resolved = r;
             known = ap (λ (b : Bool). if b then Some r.call else call_named rs name) is_r;
-            is = subst (λ (u : Invocation). IsResolved u o r) (same_Some w v e) all.0;
+            named = ap (λ (u : Invocation). u.name) (sym same) ∙ (bytes_eq-Decides w.name name).0 here;
+            is = subst (λ (u : Invocation). IsResolved u r) same all.0;
           }
       by false there e later =
           let m = later e in
-          let is_o : bytes_eq o.invocation name ≡ false = ap (λ n. bytes_eq n name) all.0.invocation ∙ there in
           let is_r : bytes_eq r.name name ≡ false = ap (λ n. bytes_eq n name) all.0.name ∙ there in
-          record {
-            outcome = m.outcome;
-            found = ap (λ (b : Bool). if b then o.outputs else outputs_in os name) is_o ∙ m.found;
-            kept = λ more. ap (λ (b : Bool). if b then o.outputs else outputs_in (os ++ more) name) is_o ∙ m.kept more;
-            resolved = m.resolved;
-            known = ap (λ (b : Bool). if b then Some r.call else call_named rs name) is_r ∙ m.known;
-            is = m.is;
-          }
+          record { resolved = m.resolved; known = ap (λ (b : Bool). if b then Some r.call else call_named rs name) is_r ∙ m.known; named = m.named; is = m.is }
 
   -- the value means something after these invocations
   abbrev pub IsThere : List Invocation → ValueTree → Type 0
@@ -151,98 +139,94 @@ module _ (earlier : Design) (c : Component) (values : Values) where
   there_still vs more (tree.Literal width n) is = is
   there_still vs more (OutputValue invocation port) (v, named, output) = (v, find_more (λ (w : Invocation). bytes_eq w.name invocation) vs more v named, output)
 
-  module _ (vs : List Invocation) (os : List Outcome) (rs : List Resolved) (all : AllThree IsResolved vs os rs) where
-    pub value_is : (arg : ValueTree) → IsThere vs arg → value (source_of rs arg) ≡ value_in inputs os arg
+  module _ (vs : List Invocation) (rs : List Resolved) (all : AllZip IsResolved vs rs) where
+    pub value_is : (arg : ValueTree) → IsThere vs arg → value (source_of rs arg) ≡ whole arg
     value_is (InputValue name) is = sym (value_of_name c.events c.ins values name is)
     value_is (tree.Literal width n) is = refl
     value_is (OutputValue invocation port) (v, named, output) =
-        let f = find_resolved vs os rs invocation v all named in
+        let f = find_resolved vs rs invocation v all named in
         ap (λ (o : Option Use). value (output_of_call o port)) f.known
         ∙ ap (λ (n : Text). (callee_of earlier c n).flow (λ p. value (f.resolved.call.args p)) port) f.is.inst
         ∙ sym (f.is.outputs port output)
-        ∙ ap (λ (ports : List Named). value_named ports port) (sym f.found)
+        ∙ ap (λ (n : Text). whole (OutputValue n port)) f.named
 
-    pub value_stays : (more : List Outcome) (arg : ValueTree) → IsThere vs arg → value_in inputs (os ++ more) arg ≡ value_in inputs os arg
-    value_stays more (InputValue name) is = refl
-    value_stays more (tree.Literal width n) is = refl
-    value_stays more (OutputValue invocation port) (v, named, output) =
-        let f = find_resolved vs os rs invocation v all named in
-        ap (λ (ports : List Named). value_named ports port) (f.kept more ∙ sym f.found)
-
-    values_stay : (more : List Outcome) (args : List ValueTree) → All (IsThere vs) args → map (value_in inputs (os ++ more)) args ≡ map (value_in inputs os) args
-    values_stay more [] there = refl
-    values_stay more (a ∷ args) there = ap₂ ◌∷◌ (value_stays more a (All-head (IsThere vs) a args there)) (values_stay more args (All-tail (IsThere vs) a args there))
-
-    args_are : (ports : List SigPort) (args : List ValueTree) (name : Text) → All (IsThere vs) args → value (args_of rs ports args name) ≡ given_to ports (map (value_in inputs os) args) name
+    args_are : (ports : List SigPort) (args : List ValueTree) (name : Text) → All (IsThere vs) args → value (args_of rs ports args name) ≡ given_to ports (map whole args) name
     args_are [] args name there = refl
     args_are (p ∷ ports) [] name there = refl
     args_are (p ∷ ports) (a ∷ args) name there =
         by (bytes_eq p.name name) (value_is a (All-head (IsThere vs) a args there)) (args_are ports args name (All-tail (IsThere vs) a args there))
       where
-        by : (b : Bool) → value (source_of rs a) ≡ value_in inputs os a → value (args_of rs ports args name) ≡ given_to ports (map (value_in inputs os) args) name
-            → value (if b then source_of rs a else args_of rs ports args name) ≡ (if b then value_in inputs os a else given_to ports (map (value_in inputs os) args) name)
+        by : (b : Bool) → value (source_of rs a) ≡ whole a → value (args_of rs ports args name) ≡ given_to ports (map whole args) name
+            → value (if b then source_of rs a else args_of rs ports args name) ≡ (if b then whole a else given_to ports (map whole args) name)
         by true here rest = here
         by false here rest = rest
-
-  -- outcomes and resolved forms, in steps
-  pub outcomes_split : (os : List Outcome) (vs ws : List Invocation) → outcomes_after flows made inputs os (vs ++ ws) ≡ outcomes_after flows made inputs (outcomes_after flows made inputs os vs) ws
-  outcomes_split os [] ws = refl
-  outcomes_split os (v ∷ vs) ws = outcomes_split (os ++ outcome_of flows made inputs os v ∷ []) vs ws
-
-  pub outcomes_more : (os : List Outcome) (vs : List Invocation) → (more : List Outcome) × (outcomes_after flows made inputs os vs ≡ os ++ more)
-  outcomes_more os [] = ([], sym (append-nil os))
-  outcomes_more os (v ∷ vs) =
-      let o = outcome_of flows made inputs os v in
-      let m = outcomes_more (os ++ o ∷ []) vs in
-      (o ∷ m.0, m.1 ∙ append_assoc os (o ∷ []) m.0)
 
   resolved_split : (rs : List Resolved) (vs ws : List Invocation) → resolved_after earlier c rs (vs ++ ws) ≡ resolved_after earlier c (resolved_after earlier c rs vs) ws
   resolved_split rs [] ws = refl
   resolved_split rs (v ∷ vs) ws = resolved_split (rs ++ resolved earlier c rs v ∷ []) vs ws
 
-  abbrev pub outs : List Invocation → List Outcome
-  outs vs = outcomes_after flows made inputs [] vs
-
   abbrev pub knowns : List Invocation → List Resolved
   knowns vs = resolved_after earlier c [] vs
 
   abbrev pub AreResolved : List Invocation → Type 0
-  AreResolved vs = AllThree IsResolved vs (outs vs) (knowns vs)
+  AreResolved vs = AllZip IsResolved vs (knowns vs)
 
-  module _ (distinct : AreDistinct (component_names earlier)) (ports : All (λ (d : Component). AreDistinct (data_names d.ins)) earlier) where
+  module _ (named : KeepsNames earlier c) (vs ws : List Invocation) (cut : vs ++ ws ≡ invocations) where
+    -- no later invocation has the name of one of the first
+    not_later : (name : Text) → Contains (invocation_names vs) name → ¬ Contains (invocation_names ws) name
+    not_later name first later =
+        let D : List Text → Type 0 = AreDistinct in
+        let same : invocation_names invocations ≡ invocation_names vs ++ invocation_names ws =
+        ap invocation_names (sym cut) ∙ map-append (λ (v : Invocation). v.name) vs ws in
+        apart_joined (invocation_names vs) (invocation_names ws) (subst D same (invocations_distinct earlier c named)) name first later
+
+    -- what means something after the first invocations has its value of them
+    first_value : (arg : ValueTree) → IsThere vs arg → value_after flows made inputs vs arg ≡ whole arg
+    first_value (InputValue name) is = refl
+    first_value (tree.Literal width n) is = refl
+    first_value (OutputValue invocation port) (v, called, output) =
+        sym (value_still flows made inputs vs ws invocation port (not_later invocation (name_there vs invocation v called)))
+        ∙ ap (λ (us : List Invocation). value_after flows made inputs us (OutputValue invocation port)) cut
+
+  -- an output of an invocation is its instance's, on the values of its arguments
+  output_is : KeepsNames earlier c → (vs ws : List Invocation) (v : Invocation) → (vs ++ v ∷ []) ++ ws ≡ invocations → All (IsThere vs) v.gives.args → (port : Text) →
+      whole (OutputValue v.name port) ≡ value_named (instance_flow flows made v.inst (map whole v.gives.args)) port
+  output_is named vs ws v cut there port =
+      let at_once : vs ++ (v ∷ ws) ≡ invocations = sym (append_assoc vs (v ∷ []) ws) ∙ cut in
+      let last : Contains (invocation_names (vs ++ v ∷ [])) v.name =
+      subst (λ (names : List Text). Contains names v.name) (sym (map-append (λ (u : Invocation). u.name) vs (v ∷ []))) (Contains-append_right (invocation_names vs) (v.name ∷ []) v.name (0, omega arith, refl)) in
+      ap (λ (us : List Invocation). value_after flows made inputs us (OutputValue v.name port)) (sym cut)
+      ∙ value_still flows made inputs (vs ++ v ∷ []) ws v.name port (not_later named (vs ++ v ∷ []) ws cut v.name last)
+      ∙ value_last flows made inputs vs v port
+      ∙ ap (λ (xs : List ℕ). value_named (instance_flow flows made v.inst xs) port)
+      (map_agree (value_after flows made inputs vs) whole v.gives.args (λ arg has. first_value named vs (v ∷ ws) at_once arg (All-contains (IsThere vs) v.gives.args arg there has)))
+
+  module _ (distinct : AreDistinct (component_names earlier)) (ports : All (λ (d : Component). AreDistinct (data_names d.ins)) earlier) (named : KeepsNames earlier c) where
     -- with one invocation more
-    next_resolved : (vs ws : List Invocation) (v : Invocation) → (vs ++ v ∷ []) ++ ws ≡ (whole_scope earlier c).invocations → AreResolved vs → All (IsThere vs) v.gives.args →
+    next_resolved : (vs ws : List Invocation) (v : Invocation) → (vs ++ v ∷ []) ++ ws ≡ invocations → AreResolved vs → All (IsThere vs) v.gives.args →
         ((sig : Signature) → instance_signature (whole_scope earlier c) v.inst ≡ Some sig → length v.gives.args ≡ length sig.ins) → AreResolved (vs ++ v ∷ [])
     next_resolved vs ws v cut all there count =
-        let more = outcomes_more (outs (vs ++ v ∷ [])) ws in
-        let o = outcome_of flows made inputs (outs vs) v in
-        let split : outs (vs ++ v ∷ []) ≡ outs vs ++ o ∷ [] = outcomes_split [] vs (v ∷ []) in
-        let end : whole ≡ outs vs ++ (o ∷ more.0) =
-        ap outs (sym cut) ∙ outcomes_split [] (vs ++ v ∷ []) ws ∙ more.1 ∙ ap (λ (os : List Outcome). os ++ more.0) split ∙ append_assoc (outs vs) (o ∷ []) more.0 in
-        let same_args : map (value_in inputs (outs vs)) v.gives.args ≡ map (value_in inputs whole) v.gives.args =
-        sym (values_stay vs (outs vs) (knowns vs) all (o ∷ more.0) v.gives.args there) ∙ ap (λ (os : List Outcome). map (value_in inputs os) v.gives.args) (sym end) in
-        let args = λ (port : Text). args_are vs (outs vs) (knowns vs) all (inputs_of_callee earlier c v.inst) v.gives.args port there in
-        let one : IsResolved v o (resolved earlier c (knowns vs) v) = record {
-          invocation = refl;
+        let r = resolved earlier c (knowns vs) v in
+        let xs = map whole v.gives.args in
+        let args = λ (port : Text). args_are vs (knowns vs) all (inputs_of_callee earlier c v.inst) v.gives.args port there in
+        let one : IsResolved v r = record {
           name = refl;
           inst = refl;
           slots = refl;
-          args = λ port. args port ∙ ap (λ (xs : List ℕ). given_to (inputs_of_callee earlier c v.inst) xs port) same_args;
+          args = args;
           outputs = λ port output.
-              option_and_then_some (λ (i : Instance). signature_in earlier i.made i.params) (instance_named made v.inst) output.0 output.1 (λ i named signed.
-              let xs = map (value_in inputs (outs vs)) v.gives.args in
-              let given = λ (p : Text). value ((resolved earlier c (knowns vs) v).call.args p) in
-              ap (λ (x : Option Instance). value_named (option_map_or (λ (j : Instance). made_flow flows j xs) x []) port) named
-              ∙ (promised earlier distinct ports i output.0 signed).flow xs (length-map v.gives.args (value_in inputs (outs vs)) ∙ count output.0 output.1) given
+              option_and_then_some (λ (i : Instance). signature_in earlier i.made i.params) (instance_named made v.inst) output.0 output.1 (λ i is_i signed.
+              let given = λ (p : Text). value (r.call.args p) in
+              output_is named vs ws v cut there port
+              ∙ ap (λ (x : Option Instance). value_named (option_map_or (λ (j : Instance). made_flow flows j xs) x []) port) is_i
+              ∙ (promised earlier distinct ports i output.0 signed).flow xs (length-map v.gives.args whole ∙ count output.0 output.1) given
               (λ name. args name ∙ ap (λ (x : Option Signature). given_to (option_map_or (λ (s : Signature). s.ins) x []) xs name) output.1)
               port output.2
-              ∙ sym (ap (λ (x : Option Instance). (option_map_or (behaviour_made earlier) x nothing_promised).flow given port) named));
+              ∙ sym (ap (λ (x : Option Instance). (option_map_or (behaviour_made earlier) x nothing_promised).flow given port) is_i));
         } in
-        subst (λ (os : List Outcome). AllThree IsResolved (vs ++ v ∷ []) os (knowns (vs ++ v ∷ []))) (sym split)
-        (subst (λ (rs : List Resolved). AllThree IsResolved (vs ++ v ∷ []) (outs vs ++ o ∷ []) rs) (sym (resolved_split [] vs (v ∷ [])))
-        (three_push IsResolved vs (outs vs) (knowns vs) v o (resolved earlier c (knowns vs) v) all one))
+        subst (AllZip IsResolved (vs ++ v ∷ [])) (sym (resolved_split [] vs (v ∷ []))) (all_zipped_more IsResolved vs (knowns vs) v r all one)
 
-    module _ (named : KeepsNames earlier c) (numbers : (k : ℕ) (s : Statement) → slice_get c.body k ≡ Some s → KeepsNumbers (scope_after earlier c (take k c.body)) s) where
+    module _ (numbers : (k : ℕ) (s : Statement) → slice_get c.body k ≡ Some s → KeepsNumbers (scope_after earlier c (take k c.body)) s) where
       abbrev pub called : ℕ → List Invocation
       called k = flat_map invocations_at (take k c.body)
 

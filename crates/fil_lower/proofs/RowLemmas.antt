@@ -16,6 +16,7 @@ use Rattle.cal_ast.specs.CalRun.{look}
 use Rattle.cal_ast.specs.Plain.{IsPlainPort}
 use Rattle.cal_ast.specs.Tree as calyx
 use Rattle.cal_ast.specs.Tree.{PortName, own, port_of}
+use Rattle.fil_ast.proofs.UseLemmas.{parts_of}
 use Rattle.fil_ast.specs.Behaviours.{timed_event, timed_port}
 use Rattle.fil_ast.specs.Connections.{connected_at}
 use Rattle.fil_ast.specs.Holds.{uses_of}
@@ -158,7 +159,7 @@ module _ (comp : LoweredComp) (standing : StandingComp comp) where
         let f : IsCalled earlier c v = All-contains (IsCalled earlier c) l.scope.invocations v (all_called comps rules n c here) has_v in
         let used : IsUse f.sig v.inst v.gives.times u = All-contains (IsUse f.sig v.inst v.gives.times) (uses_of l.scope v) u (all_uses l.scope v f.sig f.signed) has_u in
         let k = event_number c.events u.at.event in
-        let e = number_of c.events u.at.event (All-contains (λ (t : TimeAt). NamesEvent c t.event) v.gives.times u.at f.times (Contains-at v.gives.times u.event u.at used.time)) in
+        let e = number_of c.events u.at.event (All-contains (λ (t : TimeAt). NamesEvent c t.event) v.gives.times u.at f.times (Contains-at v.gives.times u.event u.at (parts_of used).time)) in
         let own_event : slice_get plan.sig.events k ≡ Some (timed_event (sig_event c.interfaces e.0)) =
         slice_get-map timed_event (map (sig_event c.interfaces) c.events) k ∙ ap (option_map timed_event) (slice_get-map (sig_event c.interfaces) c.events k ∙ ap (option_map (sig_event c.interfaces)) e.1) in
         let same : timed_event (sig_event c.interfaces e.0) ≡ event = same_Some (timed_event (sig_event c.interfaces e.0)) event (sym own_event ∙ is) in

@@ -11,6 +11,7 @@ use Rattle.hw_names.specs.Name.{Text}
 use Rattle.net_core.specs.Guard.{GuardTree}
 use Rattle.net_core.specs.declared.net.Src.TheVariants.{Port, Lit}
 use Rattle.cal_ast.specs.Tree.{PortName, own, port_of, Assignment}
+use Rattle.fil_ast.proofs.UseLemmas.{parts_of}
 use Rattle.fil_ast.specs.Holds.{uses_of}
 use Rattle.fil_ast.specs.Naming.{NamesEvents}
 use Rattle.fil_ast.specs.Scope.{Instance, Invocation, instance_signature}
@@ -111,11 +112,11 @@ module _ (earlier : Design) (c : Component) (registers : Registers) (enough : Ha
       let both = and_parts (bytes_eq u.inst inst) (u.event == k) passes in
       let used = filter_among test (uses_of l.scope v) u (Contains-get_or (filter test (uses_of l.scope v)) m d' inside) in
       let is_use : IsUse f.sig v.inst v.gives.times u = All-contains (IsUse f.sig v.inst v.gives.times) (uses_of l.scope v) u (all_uses l.scope v f.sig f.signed) used in
-      let named : v.inst ≡ inst = sym is_use.named ∙ (bytes_eq-Decides u.inst inst).0 both.0 in
+      let named : v.inst ≡ inst = sym (parts_of is_use).named ∙ (bytes_eq-Decides u.inst inst).0 both.0 in
       let same_sig : sig ≡ f.sig = same_Some sig f.sig (sym signed ∙ ap (instance_signature l.scope) (sym named) ∙ f.signed) in
       let number : u.event ≡ k = (Decides-eqb u.event k).0 both.1 in
       let event : is_use.event ≡ e = same_Some is_use.event e (sym is_use.of ∙ ap (slice_get f.sig.events) number ∙ ap (λ (s : Signature). slice_get s.events k) (sym same_sig) ∙ at) in
-      let has_go : u.go ≡ Some go = is_use.go ∙ ap (λ (x : SigEvent). x.go) event ∙ is in
+      let has_go : u.go ≡ Some go = (parts_of is_use).go ∙ ap (λ (x : SigEvent). x.go) event ∙ is in
       use_bit l enough names v u of used (f.triggers u is_use (ap is_some has_go))))
 
   starts_from : (i : Instance) (sig : Signature) → Contains l.scope.instances i → instance_signature l.scope i.name ≡ Some sig → (k : ℕ) (events : List SigEvent) →

@@ -10,6 +10,7 @@ use Rattle.std.proofs.lemmas.Option.{none-some, same_Some, slice_get-map}
 use Rattle.std.proofs.lemmas.Slice.Eq.{bytes_eq-Decides}
 use Rattle.hw_names.specs.Name.{Text}
 use Rattle.hw_prims.specs.Timed.{Fixed, HasDelay, TimedEvent, TimedPort}
+use Rattle.fil_ast.proofs.UseLemmas.{parts_of}
 use Rattle.fil_ast.specs.Behaviours.{timed_delay, timed_event}
 use Rattle.fil_ast.specs.Holds.{uses_of}
 use Rattle.fil_ast.specs.Naming.{NamesEvent}
@@ -105,22 +106,22 @@ module _ (earlier : Design) (c : Component) where
     uses u has = All-contains (IsUse f.sig v.inst v.gives.times) (uses_of (whole_scope earlier c) v) u (all_uses (whole_scope earlier c) v f.sig f.signed) has
 
     use_names : (u : timeline.Use) → IsUse f.sig v.inst v.gives.times u → NamesEvent c u.at.event
-    use_names u used = All-contains (λ (t : TimeAt). NamesEvent c t.event) v.gives.times u.at f.times (Contains-at v.gives.times u.event u.at used.time)
+    use_names u used = All-contains (λ (t : TimeAt). NamesEvent c t.event) v.gives.times u.at f.times (Contains-at v.gives.times u.event u.at (parts_of used).time)
 
     held_as : (u : timeline.Use) (used : IsUse f.sig v.inst v.gives.times u) (d : signature.Delay) → used.event.delay ≡ d → HasDelay (timed_delay d) u.hold
-    held_as u used (signature.Fixed rows) is = same_Some u.hold rows (sym used.held ∙ ap (λ d. hold_of d u.at (slice_get v.gives.times (u.event + 1))) is)
-    held_as u used signature.End is = absurd (none-some u.hold (sym (ap (λ d. hold_of d u.at (slice_get v.gives.times (u.event + 1))) is) ∙ used.held))
+    held_as u used (signature.Fixed rows) is = same_Some u.hold rows (sym (parts_of used).held ∙ ap (λ d. hold_of d u.at (slice_get v.gives.times (u.event + 1))) is)
+    held_as u used signature.End is = absurd (none-some u.hold (sym (ap (λ d. hold_of d u.at (slice_get v.gives.times (u.event + 1))) is) ∙ (parts_of used).held))
     held_as u used signature.Gap is = by (slice_get v.gives.times (u.event + 1)) refl
       where
         by : (o : Option TimeAt) → slice_get v.gives.times (u.event + 1) ≡ o → 1 ≤ u.hold
-        by None none = absurd (none-some u.hold (sym (ap (λ d. hold_of d u.at (slice_get v.gives.times (u.event + 1))) is ∙ ap (option_map (until u.at)) none) ∙ used.held))
+        by None none = absurd (none-some u.hold (sym (ap (λ d. hold_of d u.at (slice_get v.gives.times (u.event + 1))) is ∙ ap (option_map (until u.at)) none) ∙ (parts_of used).held))
         by (Some t) next =
-            let hold : until u.at t ≡ u.hold = same_Some (until u.at t) u.hold (sym (ap (λ d. hold_of d u.at (slice_get v.gives.times (u.event + 1))) is ∙ ap (option_map (until u.at)) next) ∙ used.held) in
-            let gap : u.at.plus + 1 < t.plus = f.holds u.event used.event used.of is u.at t used.time next in
+            let hold : until u.at t ≡ u.hold = same_Some (until u.at t) u.hold (sym (ap (λ d. hold_of d u.at (slice_get v.gives.times (u.event + 1))) is ∙ ap (option_map (until u.at)) next) ∙ (parts_of used).held) in
+            let gap : u.at.plus + 1 < t.plus = f.holds u.event used.event used.of is u.at t (parts_of used).time next in
             omega (arith, hold, gap)
 
     no_end : (u : timeline.Use) (used : IsUse f.sig v.inst v.gives.times u) → used.event.delay ≢ signature.End
-    no_end u used is = none-some u.hold (sym (ap (λ d. hold_of d u.at (slice_get v.gives.times (u.event + 1))) is) ∙ used.held)
+    no_end u used is = none-some u.hold (sym (ap (λ d. hold_of d u.at (slice_get v.gives.times (u.event + 1))) is) ∙ (parts_of used).held)
 
     pub slot_triggered : (slot : Slot) → Contains (map (slot_of c) (uses_of (whole_scope earlier c) v)) slot → IsTriggered plan (callee_of earlier c v.inst).sig slot
     slot_triggered slot has =
@@ -137,7 +138,7 @@ module _ (earlier : Design) (c : Component) where
           delay = own.event.delay;
           fixed = refl;
           within = f.delays u used own.event own.has own.is_named;
-          go = λ theirs_go is. own_interface u.at.event own (f.triggers u used (ap is_some (used.go ∙ is)));
+          go = λ theirs_go is. own_interface u.at.event own (f.triggers u used (ap is_some ((parts_of used).go ∙ is)));
         })
 
     pub slot_for_each : (p : TimedPort) → Contains (callee_of earlier c v.inst).sig.ins p → (slot : Slot) × Contains (map (slot_of c) (uses_of (whole_scope earlier c) v)) slot × (slot.target ≡ p.event)
@@ -161,8 +162,8 @@ module _ (earlier : Design) (c : Component) where
       let used_u : IsUse f.sig v.inst v.gives.times u = All-contains (IsUse f.sig v.inst v.gives.times) (uses_of (whole_scope earlier c) v) u (all_uses (whole_scope earlier c) v f.sig f.signed) m.1 in
       let used_x : IsUse g.sig w.inst w.gives.times x = All-contains (IsUse g.sig w.inst w.gives.times) (uses_of (whole_scope earlier c) w) x (all_uses (whole_scope earlier c) w g.sig g.signed) n.1 in
       let event : u.event ≡ x.event = ap (λ (y : Slot). y.target) m.2 ∙ target ∙ sym (ap (λ (y : Slot). y.target) n.2) in
-      let h = well u x (f.sig, f.signed, used_u) (g.sig, g.signed, used_x) (used_u.named ∙ inst ∙ sym used_x.named) event in
-      let names : NamesEvent c x.at.event = All-contains (λ (t : TimeAt). NamesEvent c t.event) w.gives.times x.at g.times (Contains-at w.gives.times x.event x.at used_x.time) in
+      let h = well u x (f.sig, f.signed, used_u) (g.sig, g.signed, used_x) ((parts_of used_u).named ∙ inst ∙ sym (parts_of used_x).named) event in
+      let names : NamesEvent c x.at.event = All-contains (λ (t : TimeAt). NamesEvent c t.event) w.gives.times x.at g.times (Contains-at w.gives.times x.event x.at (parts_of used_x).time) in
       let own = own_event x.at.event names in
       let number : event_number c.events u.at.event ≡ event_number c.events x.at.event = ap (event_number c.events) h.event in
       let is_own = λ (e : TimedEvent) (at : IsEvent plan.sig (event_number c.events u.at.event) e).

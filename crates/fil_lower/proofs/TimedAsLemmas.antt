@@ -14,6 +14,7 @@ use Rattle.hw_prims.specs.Table.{Pin}
 use Rattle.hw_prims.specs.Timed.{Delay, Fixed, HasDelay, TimedEvent, TimedPort, TimedSignature, end_of}
 use Rattle.hw_prims.specs.declared.prim.Primitive.{Primitive}
 use Rattle.hw_prims.specs.declared.prim.Primitive.TheVariants.{StdReg}
+use Rattle.fil_ast.proofs.UseLemmas.{by_parts}
 use Rattle.fil_ast.specs.Behaviours.{timed_event, timed_port, timed_signature}
 use Rattle.fil_ast.specs.Naming.{NamesEvents, event_names}
 use Rattle.fil_ast.specs.Primitives.{Timing, input_port, output_port, register_timing, signature_by, timing}
@@ -188,7 +189,7 @@ register_output w pin inst times i holds long is =
     let ends : t.0.plus + 0 ≡ i.to = ap (λ (x : Interval). x.to) same in
     let gap : s.0.plus + 1 < t.0.plus = holds 0 (record { name = codes "G"; delay = signature.Gap; go = Some (codes "write_en") }) refl refl s.0 t.0 s.1 t.1 in (
       record { inst = inst; event = 0; go = Some (codes "write_en"); at = s.0; hold = until s.0 t.0 },
-      record { named = refl; event = record { name = codes "G"; delay = signature.Gap; go = Some (codes "write_en") }; of = refl; go = refl; time = s.1; held = ap (option_map (until s.0)) t.1 },
+      by_parts (record { name = codes "G"; delay = signature.Gap; go = Some (codes "write_en") }) refl (record { named = refl; go = refl; time = s.1; held = ap (option_map (until s.0)) t.1 }),
       refl,
       sym (ap (λ (x : Interval). x.event) same),
       omega (arith, begins),
@@ -207,7 +208,7 @@ register_timed w = record {
       let s = some_at times 0 (omega (arith, long)) in
       let t = some_at times 1 (omega (arith, long)) in (
         record { inst = inst; event = 0; go = Some (codes "write_en"); at = s.0; hold = until s.0 t.0 },
-        record { named = refl; event = record { name = codes "G"; delay = signature.Gap; go = Some (codes "write_en") }; of = refl; go = refl; time = s.1; held = ap (option_map (until s.0)) t.1 },
+        by_parts (record { name = codes "G"; delay = signature.Gap; go = Some (codes "write_en") }) refl (record { named = refl; go = refl; time = s.1; held = ap (option_map (until s.0)) t.1 }),
         ap (λ (x : TimedPort). x.event) m.2,
       );
   distinct = input_names_differ register_timing (StdReg w);

@@ -14,8 +14,8 @@ use Rattle.hw_prims.specs.declared.name.PrimName.{PrimName}
 use Rattle.hw_prims.specs.declared.name.PrimName.TheVariants as name
 use Rattle.hw_prims.specs.declared.prim.Primitive.{Primitive}
 use Rattle.hw_prims.specs.declared.prim.Primitive.TheVariants.{StdReg}
-use Rattle.fil_ast.specs.Primitives.{Timing, filament_primitive, register_timing, table_name, timing, timing_of}
-use Rattle.fil_sig.specs.inside.Kinds.{table_name_in}
+use Rattle.fil_ast.proofs.PrimitiveLemmas.{OfEach, row_of}
+use Rattle.fil_ast.specs.Primitives.{FilamentPrimitive, Timing, filament_primitive, filament_primitives, register_timing, table_name, timing, timing_of}
 
 -- how a Filament name times the primitive that it means: by one event of fixed delay, or as a register
 pub data IsTiming : Timing → Primitive → Type 0 where
@@ -78,30 +78,12 @@ record IsTimedRow (filament table : Text) : Type 0 where
   known : times means ≡ true
   same : timing_by means ≡ timing_of filament
 
-abbrev AreTimedRows : List (Text × Text) → Type 0
-AreTimedRows [] = Unit {0}
-AreTimedRows (row ∷ rows) = IsTimedRow row.0 row.1 × AreTimedRows rows
+abbrev IsTimed : FilamentPrimitive → Type 0
+IsTimed p = IsTimedRow p.name p.table
 
-of_row : (rows : List (Text × Text)) → AreTimedRows rows → (name table : Text) → table_name_in rows name ≡ Some table → IsTimedRow name table
-of_row [] all name table e = absurd (cc)
-of_row ((filament, first) ∷ rows) all name table e = by (of_row rows all.1 name table) (bytes_eq name filament) refl e
-  where
-    by : (table_name_in rows name ≡ Some table → IsTimedRow name table) → (b : Bool) → bytes_eq name filament ≡ b → (if b then Some first else table_name_in rows name) ≡ Some table → IsTimedRow name table
-    by rest true here same =
-        subst (λ (t : Text). IsTimedRow name t) (same_Some first table same)
-        (subst (λ (n : Text). IsTimedRow n first) (sym ((bytes_eq-Decides name filament).0 here)) all.0)
-    by rest false there later = rest later
-
-filament_rows : List (Text × Text)
-filament_rows =
-    (codes "Add", codes "std_add") ∷ (codes "Sub", codes "std_sub") ∷ (codes "And", codes "std_and") ∷ (codes "Or", codes "std_or") ∷ (codes "Xor", codes "std_xor")
-    ∷ (codes "Eq", codes "std_eq") ∷ (codes "Lt", codes "std_lt") ∷ (codes "Not", codes "std_not") ∷ (codes "Mux", codes "fil_mux") ∷ (codes "Slice", codes "fil_slice")
-    ∷ (codes "Extend", codes "std_pad") ∷ (codes "Concat", codes "fil_concat") ∷ (codes "Delay", codes "fil_delay") ∷ (codes "FastMult", codes "fil_fast_mult") ∷ (codes "Reg", codes "std_reg")
-    ∷ (codes "SeqMult", codes "fil_seq_mult") ∷ []
-
-all_rows_timed : AreTimedRows filament_rows
-unfolding filament_rows prim_names
-all_rows_timed = (
+all_timed : OfEach IsTimed filament_primitives
+unfolding prim_names
+all_timed = (
   record { means = name.StdAdd; is = refl; known = refl; same = refl },
   (
     record { means = name.StdSub; is = refl; known = refl; same = refl },
@@ -148,9 +130,10 @@ all_rows_timed = (
   ),
 )
 
-by_rows : (name : Text) → table_name_in filament_rows name ≡ table_name name
-unfolding filament_rows
-by_rows name = refl
+timed_row : (made table : Text) → table_name made ≡ Some table → IsTimedRow made table
+timed_row made table told =
+    let p = row_of IsTimed all_timed made table told in
+    subst (λ (t : Text). IsTimedRow made t) p.tabled (subst (λ (n : Text). IsTimedRow n p.row.table) (sym p.named) p.holds)
 
 pub filament_timing : (made : Text) (params : List ℕ) (prim : Primitive) → filament_primitive made params ≡ Some prim → IsTiming (timing_of made) prim
 unfolding prim_of
@@ -158,7 +141,7 @@ filament_timing made params prim is =
     option_and_then_some (λ (t : Text). prim_of t params) (table_name made) prim is (λ table told of_table.
     option_and_then_some prim_in_range (option_and_then (λ n. with_params n params) (prim_name table)) prim of_table (λ whole with_them in_range.
     option_and_then_some (λ n. with_params n params) (prim_name table) whole with_them (λ n named made_of.
-    let row = of_row filament_rows all_rows_timed made table (by_rows made ∙ told) in
+    let row = timed_row made table told in
     let same : row.means ≡ n = same_Some row.means n (sym row.is ∙ named) in
     subst (λ (p : Primitive). IsTiming (timing_of made) p) (cond_some (is_made whole) whole prim in_range).1
     (subst (λ (t : Timing). IsTiming t whole) row.same (of_name row.means row.known params whole (subst (λ (m : PrimName). with_params m params ≡ Some whole) (sym same) made_of))))))

@@ -8,6 +8,7 @@ use Rattle.std.proofs.lemmas.List.Elements.{All-contains}
 use Rattle.std.proofs.lemmas.Slice.Eq.{bytes_eq-Decides}
 use Rattle.hw_names.specs.Name.{Text}
 use Rattle.cal_ast.specs.Tree.{PortName}
+use Rattle.fil_ast.proofs.UseLemmas.{parts_of}
 use Rattle.fil_ast.specs.Holds.{uses_of}
 use Rattle.fil_ast.specs.Scope.{Invocation}
 use Rattle.fil_ast.specs.Timeline as timeline
@@ -64,7 +65,7 @@ module _ (comp : LoweredComp) where
   used_inst v has_v u has_u =
       let f : IsCalled earlier c v = All-contains (IsCalled earlier c) l.scope.invocations v (all_called comps rules n c here) has_v in
       let used : IsUse f.sig v.inst v.gives.times u = All-contains (IsUse f.sig v.inst v.gives.times) (uses_of l.scope v) u (all_uses l.scope v f.sig f.signed) has_u in
-      used.named
+      (parts_of used).named
 
   -- ---- the plan's slots
 

@@ -6,10 +6,11 @@ use Rattle.std.proofs.lemmas.List.Elements.{All-cons, All-weaker, Contains-appen
 use Rattle.std.proofs.lemmas.List.Kept.{AllPairs-cons}
 use Rattle.std.proofs.lemmas.Option.{none-some, same_Some}
 use Rattle.hw_names.specs.Name.{Text}
-use Rattle.fil_ast.specs.Holds.{uses_listed, use_of, uses_by, uses_from, uses_of}
+use Rattle.fil_ast.proofs.UseLemmas.{by_parts, given_use, use_given}
+use Rattle.fil_ast.specs.Holds.{uses_listed, uses_by, uses_from, uses_of}
 use Rattle.fil_ast.specs.Scope.{Invocation, Scope, instance_signature}
 use Rattle.fil_ast.specs.Signature.{Fixed, SigEvent, Signature}
-use Rattle.fil_ast.specs.Timeline.{IsUse, Use, hold_of}
+use Rattle.fil_ast.specs.Timeline.{IsUse, Use, hold_of, use_of}
 use Rattle.fil_ast.specs.Tree.{TimeAt}
 
 pub some_at : {X : Type 0} (xs : List X) (k : ℕ) → k < length xs → (x : X) × (slice_get xs k ≡ Some x)
@@ -20,21 +21,6 @@ some_at (x ∷ xs) (suc k) within = some_at xs k (omega (arith, within))
 module _ (sig : Signature) (inst : Text) (times : List TimeAt) where
   abbrev IsFrom : ℕ → Use → Type 0
   IsFrom k u = IsUse sig inst times u × (k ≤ u.event)
-
-  made_at : (k : ℕ) (e : SigEvent) → slice_get sig.events k ≡ Some e → (u : Use) → use_of k e inst times ≡ Some u → IsUse sig inst times u × (u.event ≡ k)
-  made_at k e at u = by (slice_get times k) refl
-    where
-      by : (o : Option TimeAt) → slice_get times k ≡ o → option_and_then (λ t. option_map (λ rows. record { inst = inst; event = k; go = e.go; at = t; hold = rows }) (hold_of e.delay t (slice_get times (k + 1)))) o ≡ Some u → IsUse sig inst times u × (u.event ≡ k)
-      by None there is = absurd (cc)
-      by (Some t) there is = held (hold_of e.delay t (slice_get times (k + 1))) refl is
-        where
-          held : (h : Option ℕ) → hold_of e.delay t (slice_get times (k + 1)) ≡ h → option_map (λ rows. record { inst = inst; event = k; go = e.go; at = t; hold = rows }) h ≡ Some u → IsUse sig inst times u × (u.event ≡ k)
-          held None rows is' = absurd (cc)
-          held (Some r) rows is' =
-              let v : Use = record { inst = inst; event = k; go = e.go; at = t; hold = r } in
-              let same : v ≡ u = same_Some v u is' in
-              let P : Use → Type 0 = λ w. IsUse sig inst times w × (w.event ≡ k) in
-              subst P same (record { named = refl; event = e; of = at; go = refl; time = there; held = rows }, refl)
 
   uses_are : (k : ℕ) (es : List SigEvent) → ((j : ℕ) → slice_get es j ≡ slice_get sig.events (k + j)) → All (IsFrom k) (uses_from k es inst times) × AllPairs (λ (u w : Use). u.event < w.event) (uses_from k es inst times)
   uses_are k [] same = (λ i d within. absurd (omega arith), λ i j d less within. absurd (omega arith))
@@ -49,7 +35,7 @@ module _ (sig : Signature) (inst : Text) (times : List TimeAt) where
           (All-weaker (IsFrom (suc k)) (IsFrom k) (λ u f. (f.0, let over = f.1 in omega arith)) (uses_from (suc k) es inst times) known.0, known.1)
       by (Some u) is known =
           let zero_at : k + 0 ≡ k = omega arith in
-          let here = made_at k e (sym (same 0 ∙ ap (slice_get sig.events) zero_at)) u is in
+          let here = given_use sig inst times k e (sym (same 0 ∙ ap (slice_get sig.events) zero_at)) u is in
           let event = here.1 in (
             All-cons (IsFrom k) u (uses_from (suc k) es inst times) (here.0, omega arith)
                 (All-weaker (IsFrom (suc k)) (IsFrom k) (λ w f. (f.0, let over = f.1 in omega arith)) (uses_from (suc k) es inst times) known.0),
@@ -57,22 +43,12 @@ module _ (sig : Signature) (inst : Text) (times : List TimeAt) where
                 (All-weaker (IsFrom (suc k)) (λ (w : Use). u.event < w.event) (λ w f. let over = f.1 in omega arith) (uses_from (suc k) es inst times) known.0) known.1,
           )
 
-  -- a use is what its event gives
-  use_is : (u : Use) (is : IsUse sig inst times u) (e : SigEvent) → slice_get sig.events u.event ≡ Some e → use_of u.event e inst times ≡ Some u
-  use_is u is e at =
-      let same : is.event ≡ e = same_Some is.event e (sym is.of ∙ at) in
-      let made : TimeAt → ℕ → Use = λ t rows. record { inst = inst; event = u.event; go = e.go; at = t; hold = rows } in
-      ap (option_and_then (λ t. option_map (made t) (hold_of e.delay t (slice_get times (u.event + 1))))) is.time
-      ∙ ap (λ (x : SigEvent). option_map (made u.at) (hold_of x.delay u.at (slice_get times (u.event + 1)))) (sym same)
-      ∙ ap (option_map (made u.at)) is.held
-      ∙ ap₂ (λ (i : Text) (g : Option Text). Some (record { inst = i; event = u.event; go = g; at = u.at; hold = u.hold })) (sym is.named) (sym (is.go ∙ ap (λ (x : SigEvent). x.go) same))
-
   -- and each is uses_listed
   use_among : (k : ℕ) (es : List SigEvent) → ((j : ℕ) → slice_get es j ≡ slice_get sig.events (k + j)) → (u : Use) → IsUse sig inst times u → (j : ℕ) → u.event ≡ k + j → Contains (uses_from k es inst times) u
   use_among k [] same u is j at = absurd (none-some is.event (same j ∙ ap (slice_get sig.events) (sym at) ∙ is.of))
   use_among k (e ∷ es) same u is zero at =
       let here : u.event ≡ k = omega (arith, at) in
-      let use_at : use_of k e inst times ≡ Some u = ap (λ (n : ℕ). use_of n e inst times) (sym here) ∙ use_is u is e (ap (slice_get sig.events) at ∙ sym (same 0)) in
+      let use_at : use_of k e inst times ≡ Some u = ap (λ (n : ℕ). use_of n e inst times) (sym here) ∙ use_given sig inst times u is e (ap (slice_get sig.events) at ∙ sym (same 0)) in
       Contains-append_left (uses_listed (use_of k e inst times)) (uses_from (suc k) es inst times) u
       (subst (λ (o : Option Use). Contains (uses_listed o) u) (sym use_at) (0, omega arith, refl))
   use_among k (e ∷ es) same u is (suc j) at =
@@ -82,7 +58,7 @@ module _ (sig : Signature) (inst : Text) (times : List TimeAt) where
   -- an event of fixed delay is used where it has a time
   pub fixed_use : (k : ℕ) (e : SigEvent) (rows : ℕ) (s : TimeAt) → slice_get sig.events k ≡ Some e → e.delay ≡ Fixed rows → slice_get times k ≡ Some s →
       IsUse sig inst times (record { inst = inst; event = k; go = e.go; at = s; hold = rows })
-  fixed_use k e rows s at fixed time = record { named = refl; event = e; of = at; go = refl; time = time; held = ap (λ d. hold_of d s (slice_get times (k + 1))) fixed }
+  fixed_use k e rows s at fixed time = by_parts e at (record { named = refl; go = refl; time = time; held = ap (λ d. hold_of d s (slice_get times (k + 1))) fixed })
 
 module _ (scope : Scope) (v : Invocation) (sig : Signature) (signed : instance_signature scope v.inst ≡ Some sig) where
   from_zero : (j : ℕ) → slice_get sig.events j ≡ slice_get sig.events (0 + j)

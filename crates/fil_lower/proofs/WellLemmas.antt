@@ -13,6 +13,7 @@ use Rattle.std.proofs.lemmas.Slice.Eq.{bytes_eq-Decides}
 use Rattle.std.proofs.Math.Seq.{take-length}
 use Rattle.hw_names.specs.Name.{Text, AreDistinct}
 use Rattle.hw_prims.specs.Timed.{TimedPort, end_of}
+use Rattle.fil_ast.proofs.UseLemmas.{parts_of}
 use Rattle.fil_ast.specs.Behaviours.{inputs_of_callee, timed_port}
 use Rattle.fil_ast.specs.Connections.{ConnectsOnce, connected_at}
 use Rattle.fil_ast.specs.Flow.{connected_to}
@@ -182,7 +183,7 @@ module _ (comps : Design) (rules : FilRules comps) (n : ℕ) (c : Component) (he
       ∙ ap (args_of (known k) f.sig.ins v.gives.args) (sym is_named)
       ∙ args_at (known k) f.sig.ins v.gives.args input.0 q arg.0 t.distinct input.2 arg.1 in
       let number : q.from.event ≡ u.event = ap (λ (x : TimedPort). x.event) input.3 ∙ event ∙ sym (ap (λ (x : Slot). x.target) m.2) in
-      let start : slice_get v.gives.times q.from.event ≡ Some u.at = ap (slice_get v.gives.times) number ∙ used.time in
+      let start : slice_get v.gives.times q.from.event ≡ Some u.at = ap (slice_get v.gives.times) number ∙ (parts_of used).time in
       let between : timeline.interval_at v.gives.times q ≡ Some (timeline.interval_between u.at u.at q) =
       ap (option_and_then (λ s. option_map (λ t. timeline.interval_between s t q) (slice_get v.gives.times q.to.event))) start
       ∙ ap (option_map (λ t. timeline.interval_between u.at t q)) (ap (slice_get v.gives.times) input.4 ∙ start) in

@@ -1,7 +1,8 @@
 -- The laws of overlap: a lowered component carries every legal list of transactions. Filament, PLDI 2023; the laws are this project's.
 use Rattle.std.specs.Prelude.{◌≡◌, ℕ, ◌≤◌, ◌<◌, List, length, Contains}
 use Rattle.hw_prims.specs.Row.{Text}
-use Rattle.hw_prims.specs.Timed.{Behaviour, CarriesInputs, CarriesOutputs, CarriesStarts, HasDelay, AreLegalTransactions, IsTimed, TimedEvent, TimedPort, TimedSignature}
+use Rattle.hw_prims.specs.Timed.{Behaviour, CarriesInputs, CarriesOutputs, CarriesStarts, HasDelay, AreLegalTransactions, IsTimed}
+use Rattle.hw_prims.specs.Timed.{TimedEvent, TimedPort, TimedSignature}
 use Rattle.hw_prims.specs.Timed.{Transaction, Values, end_of}
 use Rattle.fil_lower.specs.Plan.{Use, Plan, behaviour_of_plan}
 use Rattle.fil_lower.specs.PlanRules.{IsEvent, IsWellTimed, given_transactions}

@@ -11,7 +11,7 @@ ghost use Rattle.fil_ast.specs.Tree.{Component, design_of, statement_tree, time_
 ghost use Rattle.fil_ast.specs.Wires.{whole_scope};
 ghost use Rattle.fil_sig.specs.Seen.{seen_port};
 ghost use Rattle.fil_share.specs.Uses.{IsGoodUse, shown_use};
-ghost use Rattle.fil_fsm.specs.declared.shift.TheConstants.{MOST_BITS};
+ghost use Rattle.hw_limits.specs.declared.limits.TheConstants.{MOST_ROWS};
 ghost use Rattle.fil_lower.specs.Lowering.{Lowering, wanted_by, wants_in};
 ghost use Rattle.fil_lower.specs.inside.Parts.{IsGoodPort};
 ghost use Rattle.fil_lower.specs.inside.Place.{ShowsBody, greatest, wanted_by_ports, wanted_by_uses};
@@ -73,7 +73,7 @@ impl<'a> Body<'a> {
         requires body { (l : Lowering) × ShowsBody self.now l.scope }
         ensures value { (l : Lowering) → ShowsBody self.now l.scope
             → result ≡ greatest (flat_map (wanted_by_ports l event.now) (invocations_at (statement_tree self.now.names.now stmt.now))) }
-        ensures small { result < MOST_BITS }
+        ensures small { result < MOST_ROWS }
     {
         let Some(call) = invoked(stmt) else {
             return 0;
@@ -88,7 +88,7 @@ impl<'a> Body<'a> {
     fn last_of_arguments(&self, event: &[u8]) -> u64
         requires { (l : Lowering) × ShowsBody self.now l.scope }
         ensures value { (l : Lowering) → ShowsBody self.now l.scope → result ≡ greatest (flat_map (wanted_by_ports l event.now) l.scope.invocations) }
-        ensures small { result < MOST_BITS }
+        ensures small { result < MOST_ROWS }
     {
         let mut last = 0;
         for stmt in &self.comp.body {
@@ -101,7 +101,7 @@ impl<'a> Body<'a> {
     pub(crate) fn last_bit(&self, event: &[u8]) -> u64
         requires { (l : Lowering) × ShowsBody self.now l.scope }
         ensures value { (l : Lowering) → ShowsBody self.now l.scope → result ≡ greatest (flat_map (wanted_by l event.now) l.scope.invocations) }
-        ensures small { result < MOST_BITS }
+        ensures small { result < MOST_ROWS }
     {
         self.last_of_arguments(event)
             .max(last_of_uses(self.names, &self.uses, event))
@@ -114,7 +114,7 @@ fn last_of_argument(names: &Names, at: &[Time], port: &SigPort, event: &[u8]) ->
     requires times { All KeepsTimeLimit at.now }
     requires port { IsGoodPort (seen_port port.now) }
     ensures value { (l : Lowering) → result ≡ greatest (option_map_or (wants_in l event.now) (interval_at (map (time_tree names.now) at.now) (seen_port port.now)) []) }
-    ensures small { result < MOST_BITS }
+    ensures small { result < MOST_ROWS }
 {
     match interval_at(at, port) {
         Some(interval) => {
@@ -134,7 +134,7 @@ fn last_of_call(names: &Names, at: &[Time], ports: &[SigPort], event: &[u8]) -> 
     requires times { All KeepsTimeLimit at.now }
     requires ports { All IsGoodPort (map seen_port ports.now) }
     ensures value { (l : Lowering) → result ≡ greatest (flat_map (λ port. option_map_or (wants_in l event.now) (interval_at (map (time_tree names.now) at.now) port) []) (map seen_port ports.now)) }
-    ensures small { result < MOST_BITS }
+    ensures small { result < MOST_ROWS }
 {
     let mut last = 0;
     for port in ports {
@@ -147,7 +147,7 @@ fn last_of_call(names: &Names, at: &[Time], ports: &[SigPort], event: &[u8]) -> 
 fn last_of_uses(names: &Names, uses: &[Use], event: &[u8]) -> u64
     requires { All (IsGoodUse names.now) uses.now }
     ensures value { result ≡ greatest (wanted_by_uses event.now (map (shown_use names.now) uses.now)) }
-    ensures small { result < MOST_BITS }
+    ensures small { result < MOST_ROWS }
 {
     let mut last = 0;
     for used in uses {

@@ -6,7 +6,7 @@ ghost use Rattle.fil_ast.specs.Numbers.{IsNumberOf, TimeHasNumber};
 ghost use Rattle.fil_ast.specs.Timeline.{interval_at};
 ghost use Rattle.fil_ast.specs.Tree.{time_tree};
 ghost use Rattle.fil_sig.specs.Seen.{seen_port};
-ghost use Rattle.fil_fsm.specs.declared.shift.TheConstants.{MOST_BITS};
+ghost use Rattle.hw_limits.specs.declared.limits.TheConstants.{MOST_ROWS};
 ghost use Rattle.fil_lower.specs.inside.Parts.{IsGoodPort, interval_shown};
 
 use fil_ast::Time;
@@ -28,7 +28,7 @@ pub(crate) fn interval_at(at: &[Time], port: &SigPort) -> Option<Interval>
     ensures shown { (names : List Text) → option_map (interval_shown names) result ≡ interval_at (map (time_tree names) at.now) (seen_port port.now) }
     ensures numbers { (names : List Text) → All (TimeHasNumber names) at.now → IfSome result (λ i. IsNumberOf names i.event) }
     ensures ordered { IfSome result (λ i. i.from < i.to) }
-    ensures small { IfSome result (λ i. i.to ≤ MOST_BITS) }
+    ensures small { IfSome result (λ i. i.to ≤ MOST_ROWS) }
 {
     let start = *at.get(port.from.event as usize)?;
     let end = *at.get(port.to.event as usize)?;

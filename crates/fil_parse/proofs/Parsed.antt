@@ -14,7 +14,7 @@ use Rattle.hw_grammar.proofs.Exact.{Begins-length}
 use Rattle.hw_grammar.proofs.Whole.{Judged, place_of}
 use Rattle.hw_grammar.proofs.Texts.{text_spelled, text_refused, length-AreTerminals}
 use Rattle.fil_ast.specs.Tree.{Design}
-use Rattle.fil_parse.specs.declared.parse.TheConstants.{MOST_NESTING}
+use Rattle.hw_limits.specs.declared.limits.TheConstants.{MOST_NESTING}
 use Rattle.fil_parse.specs.declared.parse.FilTextEnd.{FilTextEnd}
 use Rattle.fil_parse.specs.declared.parse.FilTextEnd.TheVariants as ends
 use Rattle.fil_parse.specs.Grammar.{IsFile}

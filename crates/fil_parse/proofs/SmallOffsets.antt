@@ -5,7 +5,7 @@ use Rattle.std.proofs.lemmas.Bool.{ltb-false}
 use Rattle.std.proofs.lemmas.List.Elements.{All-nil, All-cons, All-head, All-tail, All-weaker}
 use Rattle.fil_ast.specs.Limits.{KeepsOffsetLimit, KeepsStatementLimit, KeepsLimits, HasSmallOffsets}
 use Rattle.fil_ast.specs.Tree.{design_of}
-use Rattle.fil_ast.specs.declared.tree.TheConstants.{MOST_OFFSET}
+use Rattle.hw_limits.specs.declared.limits.TheConstants.{MOST_OFFSET}
 use Rattle.fil_ast.specs.declared.tree.Time.{Time}
 use Rattle.fil_ast.specs.declared.tree.EventDef.{EventDef}
 use Rattle.fil_ast.specs.declared.tree.FilComp.{FilComp}

@@ -7,8 +7,7 @@ use Rattle.hw_lex.specs.Cut.{AreTokens, FaultsAt, token_texts}
 use Rattle.hw_lex.specs.Nesting.{nesting_of}
 use Rattle.hw_grammar.specs.TextPlace.{SpellsText, RefusedText}
 use Rattle.fil_ast.specs.Tree.{TimeAt, Event, DataPort, Statement, New, Call, Both, Connect, Component, Design}
-use Rattle.fil_parse.specs.declared.parse.TheConstants.{MOST_NESTING}
-use Rattle.fil_ast.specs.declared.tree.TheConstants.{MOST_OFFSET}
+use Rattle.hw_limits.specs.declared.limits.TheConstants.{MOST_NESTING, MOST_OFFSET}
 use Rattle.fil_parse.specs.declared.parse.FilTextEnd.{FilTextEnd}
 use Rattle.fil_parse.specs.declared.parse.FilTextEnd.TheVariants as ends
 use Rattle.fil_parse.specs.Grammar.{IsFile}

@@ -30,5 +30,5 @@ mod print;
 mod statement;
 mod value;
 
-pub use parse::{FilTextEnd, MOST_NESTING, one_design, parse_fil};
+pub use parse::{FilTextEnd, one_design, parse_fil};
 pub use print::print_fil;

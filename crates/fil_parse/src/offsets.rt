@@ -4,7 +4,8 @@ ghost use Rattle.fil_ast.specs.Tree.{design_of};
 ghost use Rattle.fil_parse.specs.inside.Offsets.{of_times, of_port, of_statement, of_events, of_component};
 ghost use Rattle.fil_parse.specs.Spelling.{is_large, first_large};
 
-use fil_ast::{EventDef, FilComp, FilDesign, FilPort, MOST_OFFSET, Stmt, Time};
+use fil_ast::{EventDef, FilComp, FilDesign, FilPort, Stmt, Time};
+use hw_limits::MOST_OFFSET;
 
 /// The first of the times that is too late.
 fn large_time(times: &[Time]) -> Option<u128>

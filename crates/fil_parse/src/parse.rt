@@ -17,11 +17,9 @@ use fil_ast::FilDesign;
 use hw_bits::Memory;
 use hw_grammar::{ReadEnd, Terminal, refused_byte, terminals_of};
 use hw_lex::{Dialect, LexEnd, Tokens, lex};
+use hw_limits::MOST_NESTING;
 use hw_names::Names;
 use std::alloc::Global;
-
-/// How deep brackets may stand in one another.
-pub const MOST_NESTING: usize = 64;
 
 /// Why a text gives no design.
 #[derive(Clone, Copy, Debug, PartialEq, Eq)]

@@ -10,29 +10,8 @@ ghost use Rattle.fil_parse.specs.Spelling.{SpellsDesign};
 use fil_ast::{EventDef, FilComp, FilDesign, FilPort, GoPort, Stmt, Time, Value};
 use hw_bits::Memory;
 use hw_names::{NameId, Names};
-use itoa::Buffer;
+use hw_print::{put, put_name, put_number};
 use std::alloc::Global;
-
-fn put(out: &mut Vec<u8>, text: &[u8]) -> Result<(), Memory>
-    ensures { OnOk result (out.new.items ≡ out.old.items ++ text.now) }
-{
-    out.extend_from_slice(text)?;
-    Ok(())
-}
-
-fn put_number(out: &mut Vec<u8>, number: u128) -> Result<(), Memory>
-    ensures { OnOk result (out.new.items ≡ out.old.items ++ decimal number) }
-{
-    let mut buffer = Buffer::new();
-    put(out, buffer.format(number).as_bytes())
-}
-
-fn put_name(out: &mut Vec<u8>, names: &Names, name: NameId) -> Result<(), Memory>
-    requires { IsNumberOf names.now name }
-    ensures { OnOk result (out.new.items ≡ out.old.items ++ text_of names.now name) }
-{
-    put(out, names.text(name))
-}
 
 fn put_time(out: &mut Vec<u8>, names: &Names, time: Time) -> Result<(), Memory>
     requires { TimeHasNumber names.now time }

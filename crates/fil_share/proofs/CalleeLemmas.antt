@@ -6,6 +6,7 @@ use Rattle.std.proofs.lemmas.List.{length-map}
 use Rattle.std.proofs.lemmas.List.Elements.{All-cons, All-nil, All-contains, All-map}
 use Rattle.std.proofs.lemmas.Option.{same_Some}
 use Rattle.hw_names.specs.Name.{Text}
+use Rattle.fil_ast.proofs.PrimitiveLemmas.{each_timing}
 use Rattle.fil_ast.specs.Limits.{KeepsLimits}
 use Rattle.fil_ast.specs.Primitives.{Timing, event, filament_primitive, is_filament_primitive, primitive_signature, register_timing, signature_by, timing, timing_of}
 use Rattle.fil_ast.specs.Scope.{bare_signature, component_named, signature_in}
@@ -13,7 +14,7 @@ use Rattle.fil_ast.specs.Signature.{Gap, End, SigEvent, Signature, component_sig
 use Rattle.fil_ast.specs.Tree.{Component, Design, Event, component_tree, event_tree}
 use Rattle.fil_ast.specs.Typing.{HasShape}
 use Rattle.fil_ast.specs.declared.tree.FilComp.{FilComp}
-use Rattle.fil_ast.specs.declared.tree.TheConstants.{MOST_OFFSET}
+use Rattle.hw_limits.specs.declared.limits.TheConstants.{MOST_OFFSET}
 use Rattle.fil_sig.specs.Refusals.{IsCause, ByF2, ByF3, ByF5, IsUsable}
 use Rattle.fil_share.specs.Instances.{HasSmallDelay, HasSmallEvents}
 
@@ -43,10 +44,6 @@ one_small t e is small =
 abbrev IsSmallTiming : Timing → Type 0
 IsSmallTiming t = (length t.events ≤ 16) × All HasSmallDelay t.events
 
-choose : (b : Bool) (s t : Timing) → IsSmallTiming s → IsSmallTiming t → IsSmallTiming (cond b s t)
-choose true s t hs ht = hs
-choose false s t hs ht = ht
-
 written_event : SigEvent
 written_event = event (codes "G") Gap (Some (codes "write_en"))
 
@@ -64,10 +61,7 @@ timing_small rows go latency small = one_small (timing rows go latency) _ refl s
 -- a primitive has few events, with small delays
 primitive_small : (name : Text) → IsSmallTiming (timing_of name)
 primitive_small name =
-    choose (bytes_eq name (codes "Reg")) _ _ register_small
-    (choose (bytes_eq name (codes "SeqMult")) _ _ (timing_small 3 _ 2 (omega arith))
-    (choose (bytes_eq name (codes "FastMult")) _ _ (timing_small 1 None 2 (omega arith))
-    (choose (bytes_eq name (codes "Delay")) _ _ (timing_small 1 None 1 (omega arith)) (timing_small 1 None 0 (omega arith)))))
+    each_timing IsSmallTiming register_small (timing_small 3 _ 2 (omega arith)) (timing_small 1 None 2 (omega arith)) (timing_small 1 None 1 (omega arith)) (timing_small 1 None 0 (omega arith)) name
 
 module _ (names : List Text) (comps : List FilComp) (small : All KeepsLimits comps) (name : Text) (params : List ℕ) (sig : Signature) where
   abbrev trees : Design

@@ -13,7 +13,7 @@ use Rattle.hw_names.specs.Name.{Text, AreDistinct}
 use Rattle.hw_prims.specs.Timed as timed
 use Rattle.hw_prims.specs.Timed.{TimedEvent, TimedPort, TimedSignature, HasDelay, Transaction}
 use Rattle.fil_ast.specs.Behaviours.{component_behaviour, delay_of, event_named, timed_event, timed_port, timed_signature, transaction_on}
-use Rattle.fil_ast.specs.Flow.{Named, component_flow, connected_to, flow_of, outcomes_of, value_in, value_named, with_values}
+use Rattle.fil_ast.specs.Flow.{Named, component_flow, connected_to, flow_of, value_in_body, value_named, with_values}
 use Rattle.fil_ast.specs.Holds.{Start, Follows, start_of}
 use Rattle.fil_ast.specs.Items.{TheSignature}
 use Rattle.fil_ast.specs.Naming.{HasNewNames, component_names}
@@ -280,9 +280,7 @@ transactions_keep_flow comps n c tx e rules there at =
     let R : Text → Text → Type 0 = λ a b. a ≢ b in
     let ins_differ : AreDistinct in_names = AllPairs-right R interfaces in_names (AllPairs-left R (interfaces ++ in_names) out_names names) in
     let outs_differ : AreDistinct out_names = AllPairs-right R (interfaces ++ in_names) out_names names in
-    let inputs = with_values c.ins args in
-    let outcomes = outcomes_of inner c.body inputs in
-    let value : DataPort → ℕ = λ p. option_map_or (value_in inputs outcomes) (connected_to c.body p.name) 0 in
+    let value : DataPort → ℕ = λ p. option_map_or (value_in_body inner c.body (with_values c.ins args)) (connected_to c.body p.name) 0 in
     let named : DataPort → Named = λ p. record { name = p.name; value = value p } in
     let told : Text → ℕ = (component_behaviour (take n comps) c).flow (transaction_on c tx).values in
     let carried : map (λ (p : DataPort). (transaction_on c tx).values p.name) c.ins ≡ args =

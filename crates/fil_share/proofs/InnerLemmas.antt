@@ -9,6 +9,7 @@ use Rattle.std.proofs.lemmas.List.Elements.{All-cons, All-contains, All-nil, All
 use Rattle.std.proofs.lemmas.Option.{same_Some, slice_get-get_or, slice_get-map, slice_get_within, get_or_from_slice_get}
 use Rattle.std.proofs.lemmas.Slice.Eq.{bytes_eq-Decides}
 use Rattle.hw_names.specs.Name.{Text, AreDistinct}
+use Rattle.fil_ast.proofs.UseLemmas.{parts_of}
 use Rattle.fil_ast.specs.Holds.{Start, Hold, Follows, NeverMeet, holds_of}
 use Rattle.fil_ast.specs.Items.{TheSignature}
 use Rattle.fil_ast.specs.Naming.{event_names}
@@ -166,13 +167,13 @@ module _ (comps : Design) (rules : FilRules comps) (n : ℕ) (c : Component) (th
       let h_event : h.event ≡ u.event = ap (λ (h : Hold). h.event) by.is in
       let h_from : h.from ≡ s.row + u.at.plus = ap (λ (h : Hold). h.from) by.is in
       let h_to : h.to ≡ s.row + u.at.plus + u.hold = ap (λ (h : Hold). h.to) by.is in
-      let its : v.inst ≡ inst = sym used.named ∙ sym h_inst ∙ of in
+      let its : v.inst ≡ inst = sym (parts_of used).named ∙ sym h_inst ∙ of in
       let same_sig : component_signature d ≡ sig = signed sig (ap (instance_signature (whole_scope (take n comps) c)) (sym its) ∙ by.uses.1) in
       let event : sig_event d.interfaces e ≡ used.event =
       same_Some (sig_event d.interfaces e) used.event
       (sym (slice_get-map (sig_event d.interfaces) d.events u.event ∙ ap (option_map (sig_event d.interfaces)) (ap (slice_get d.events) (sym h_event) ∙ at))
       ∙ ap (λ (g : Signature). slice_get g.events u.event) same_sig ∙ used.of) in
-      let held : e.delay ≡ u.hold = same_Some e.delay u.hold (ap (λ (f : SigEvent). hold_of f.delay u.at (slice_get v.gives.times (u.event + 1))) event ∙ used.held) in
+      let held : e.delay ≡ u.hold = same_Some e.delay u.hold (ap (λ (f : SigEvent). hold_of f.delay u.at (slice_get v.gives.times (u.event + 1))) event ∙ (parts_of used).held) in
       omega arith
 
 pub inner_starts_are_spaced : InnerStartsAreSpaced

@@ -1,4 +1,5 @@
 pub mod ListLemmas
+pub mod HoldLemmas
 pub mod SharingLemmas
 pub mod LawLemmas
 pub mod MeetLemmas

@@ -1,5 +1,5 @@
 -- Holds by legal transactions of a component that keeps the rules.
-use Rattle.std.proofs.Common.{◌≡◌, ℕ, zero, suc, ◌+◌, ◌<◌, ◌≤◌, Bool, true, false, cond, List, [], ◌∷◌, ◌++◌, length, map, filter, flat_map, take, drop, get_or, slice_get, All, Contains, Option, Some, None, option_map, inl, inr, refl, sym, ap, ap₂, subst, ◌∙◌, add-one, arith}
+use Rattle.std.proofs.Common.{◌≡◌, ℕ, zero, suc, ◌+◌, ◌<◌, ◌≤◌, Bool, true, false, cond, List, [], ◌∷◌, ◌++◌, length, map, filter, flat_map, take, drop, get_or, slice_get, All, Contains, Option, Some, None, inl, inr, refl, sym, ap, subst, ◌∙◌, add-one, arith}
 use Rattle.std.specs.List.{find}
 use Rattle.std.specs.Option.{IsSome, IfSome, option_and_then, option_or}
 use Rattle.std.specs.Prelude.{AllPairs}
@@ -13,19 +13,21 @@ use Rattle.std.proofs.lemmas.Option.{same_Some, slice_get-get_or}
 use Rattle.std.proofs.lemmas.Slice.Eq.{bytes_eq-Decides}
 use Rattle.std.proofs.Math.Seq.{take-length}
 use Rattle.hw_names.specs.Name.{Text}
-use Rattle.fil_ast.specs.Holds.{Start, Hold, Follows, NeverMeet, uses_listed, use_of, uses_from, uses_by, uses_of, hold_from, holds_by, holds_from}
+use Rattle.fil_ast.proofs.UseLemmas.{one_use as same_use, parts_of}
+use Rattle.fil_ast.specs.Holds.{Start, Hold, Follows, NeverMeet, uses_of, hold_from, holds_by, holds_from}
 use Rattle.fil_ast.specs.Items.{scope_after, scope_with}
 use Rattle.fil_ast.specs.Naming.{MakesNewNames, NamesEvent, UsesKnownNames, instance_names}
 use Rattle.fil_ast.specs.Rules.{F1, FilRules, OfInvocation}
 use Rattle.fil_ast.specs.Scope.{Scope, Instance, Invocation, instances_at, invocations_at, instance_named, instance_signature, signature_in}
 use Rattle.fil_ast.specs.Sharing.{IsUseOf, IsEarlierUse, AreDisjoint, IsWithin, KeepsUsesApart, EndsInTime}
-use Rattle.fil_ast.specs.Signature.{SigEvent, Signature}
-use Rattle.fil_ast.specs.Timeline.{Use, IsUse, KeepsDelays, hold_of}
+use Rattle.fil_ast.specs.Signature.{Signature}
+use Rattle.fil_ast.specs.Timeline.{Use, IsUse, KeepsDelays}
 use Rattle.fil_ast.specs.Tree.{TimeAt, Event, Giving, Component, Design, Statement, New, Call, Both, Connect}
 use Rattle.fil_ast.specs.Wires.{whole_scope}
 use Rattle.fil_share.specs.Inner.{AreSpaced, IsSpaced, SpacedHoldsAreApart}
 use Rattle.fil_share.specs.Instances.{signature_of}
 use Rattle.fil_share.specs.Own.{OwnHoldsAreApart}
+use Rattle.fil_share.proofs.HoldLemmas.{IsHoldBy, holds_by_call, uses_by_call}
 use Rattle.fil_share.proofs.ListLemmas.{two_of, AllPairs-head, AllPairs-tail, AllPairs-append, All-flat_map, Contains-at}
 use Rattle.fil_share.proofs.Lookup.{find_nowhere}
 use Rattle.fil_share.proofs.MakesLemmas.{at_statement, flat_next}
@@ -68,56 +70,6 @@ AllPairs-mapped {X} R f (x ∷ xs) pairs =
     let Q = λ (a b : X). R (f a) (f b) in
     AllPairs-cons R (f x) (map f xs) (All-map (R (f x)) f xs (AllPairs-head Q x xs pairs)) (AllPairs-mapped R f xs (AllPairs-tail Q x xs pairs))
 
--- what passes a filter
-pub All-passed : {X : Type 0} (P : X → Type 0) (p : X → Bool) (xs : List X) → All P xs → All (λ x. P x × (p x ≡ true)) (filter p xs)
-All-passed P p [] all = λ k d within. absurd (omega arith)
-All-passed {X} P p (x ∷ xs) all = by (p x) refl (All-passed P p xs (All-tail P x xs all))
-  where
-    by : (b : Bool) → p x ≡ b → All (λ x. P x × (p x ≡ true)) (filter p xs) → All (λ x. P x × (p x ≡ true)) (cond b (x ∷ filter p xs) (filter p xs))
-    by true is rest = All-cons (λ y. P y × (p y ≡ true)) x (filter p xs) (All-head P x xs all, is) rest
-    by false is rest = rest
-
--- the uses of a callee's events, in their order
-module _ (sig : Signature) (inst : Text) (times : List TimeAt) where
-  abbrev IsFrom : ℕ → Use → Type 0
-  IsFrom k u = IsUse sig inst times u × (k ≤ u.event)
-
-  made_at : (k : ℕ) (e : SigEvent) → slice_get sig.events k ≡ Some e → (u : Use) → use_of k e inst times ≡ Some u → IsUse sig inst times u × (u.event ≡ k)
-  made_at k e at u = by (slice_get times k) refl
-    where
-      by : (o : Option TimeAt) → slice_get times k ≡ o → option_and_then (λ t. option_map (λ rows. record { inst = inst; event = k; go = e.go; at = t; hold = rows }) (hold_of e.delay t (slice_get times (k + 1)))) o ≡ Some u → IsUse sig inst times u × (u.event ≡ k)
-      by None there is = absurd (cc)
-      by (Some t) there is = held (hold_of e.delay t (slice_get times (k + 1))) refl is
-        where
-          held : (h : Option ℕ) → hold_of e.delay t (slice_get times (k + 1)) ≡ h → option_map (λ rows. record { inst = inst; event = k; go = e.go; at = t; hold = rows }) h ≡ Some u → IsUse sig inst times u × (u.event ≡ k)
-          held None rows is' = absurd (cc)
-          held (Some r) rows is' =
-              let v : Use = record { inst = inst; event = k; go = e.go; at = t; hold = r } in
-              let same : v ≡ u = same_Some v u is' in
-              let P : Use → Type 0 = λ w. IsUse sig inst times w × (w.event ≡ k) in
-              subst P same (record { named = refl; event = e; of = at; go = refl; time = there; held = rows }, refl)
-
-  uses_are : (k : ℕ) (es : List SigEvent) → ((j : ℕ) → slice_get es j ≡ slice_get sig.events (k + j)) → All (IsFrom k) (uses_from k es inst times) × AllPairs (λ (u w : Use). u.event < w.event) (uses_from k es inst times)
-  uses_are k [] same = (λ i d within. absurd (omega arith), λ i j d less within. absurd (omega arith))
-  uses_are k (e ∷ es) same = by (use_of k e inst times) refl (uses_are (suc k) es later)
-    where
-      later : (j : ℕ) → slice_get es j ≡ slice_get sig.events (suc k + j)
-      later j = let shift : k + suc j ≡ suc k + j = omega arith in same (suc j) ∙ ap (slice_get sig.events) shift
-
-      by : (o : Option Use) → use_of k e inst times ≡ o → All (IsFrom (suc k)) (uses_from (suc k) es inst times) × AllPairs (λ (u w : Use). u.event < w.event) (uses_from (suc k) es inst times)
-          → All (IsFrom k) (uses_listed o ++ uses_from (suc k) es inst times) × AllPairs (λ (u w : Use). u.event < w.event) (uses_listed o ++ uses_from (suc k) es inst times)
-      by None is known =
-          (All-weaker (IsFrom (suc k)) (IsFrom k) (λ u f. (f.0, let over = f.1 in omega arith)) (uses_from (suc k) es inst times) known.0, known.1)
-      by (Some u) is known =
-          let zero_at : k + 0 ≡ k = omega arith in
-          let here = made_at k e (sym (same 0 ∙ ap (slice_get sig.events) zero_at)) u is in
-          let event = here.1 in (
-            All-cons (IsFrom k) u (uses_from (suc k) es inst times) (here.0, omega arith)
-                (All-weaker (IsFrom (suc k)) (IsFrom k) (λ w f. (f.0, let over = f.1 in omega arith)) (uses_from (suc k) es inst times) known.0),
-            AllPairs-cons (λ (u w : Use). u.event < w.event) u (uses_from (suc k) es inst times)
-                (All-weaker (IsFrom (suc k)) (λ (w : Use). u.event < w.event) (λ w f. let over = f.1 in omega arith) (uses_from (suc k) es inst times) known.0) known.1,
-          )
-
 -- F11 and F12 of two uses of an event of an instance, by two invocations
 record AreShared (c : Component) (u w : Use) : Type 0 where
   event : u.at.event ≡ w.at.event
@@ -128,13 +80,6 @@ record AreShared (c : Component) (u w : Use) : Type 0 where
 pub record IsFine (c : Component) (u : Use) : Type 0 where
   pub named : NamesEvent c u.at.event
   pub short : (e : Event) → Contains c.events e → e.name ≡ u.at.event → u.hold ≤ e.delay
-
--- an invocation's hold by transaction m
-pub record IsHoldBy (scope : Scope) (m : ℕ) (s : Start) (v : Invocation) (h : Hold) : Type 0 where
-  pub use_now : Use
-  pub uses : IsUseOf scope v use_now
-  pub on : use_now.at.event ≡ s.event
-  pub is : h ≡ hold_from m s.row v.name use_now
 
 pub no_event : Event
 no_event = record { name = []; delay = 0 }
@@ -231,23 +176,11 @@ module _ (earlier : Design) (c : Component) (named : KeepsNames earlier c) where
 
   -- an invocation's uses rise by their events
   pub uses_of_call : (v : Invocation) → All (IsUseOf whole v) (uses_of whole v) × AllPairs (λ (u w : Use). u.event < w.event) (uses_of whole v)
-  uses_of_call v = by (instance_signature whole v.inst) refl
-    where
-      by : (o : Option Signature) → instance_signature whole v.inst ≡ o → All (IsUseOf whole v) (uses_by v o) × AllPairs (λ (u w : Use). u.event < w.event) (uses_by v o)
-      by None is = (λ i d within. absurd (omega arith), λ i j d less within. absurd (omega arith))
-      by (Some sig) is =
-          let all = uses_are sig v.inst v.gives.times 0 sig.events (λ j. let e : j ≡ 0 + j = omega arith in ap (slice_get sig.events) e) in
-          (All-weaker (IsFrom sig v.inst v.gives.times 0) (IsUseOf whole v) (λ u f. (sig, is, f.0)) (uses_from 0 sig.events v.inst v.gives.times) all.0, all.1)
+  uses_of_call v = uses_by_call whole v
 
   -- and its holds are those of its uses on the transaction's event
   pub holds_of_call : (m : ℕ) (s : Start) (v : Invocation) → All (IsHoldBy whole m s v) (holds_by whole m s v)
-  holds_of_call m s v =
-      let test = λ (u : Use). bytes_eq u.at.event s.event in
-      let passed = All-passed (IsUseOf whole v) test (uses_of whole v) (uses_of_call v).0 in
-      All-map (IsHoldBy whole m s v) (hold_from m s.row v.name) (filter test (uses_of whole v))
-      (λ k d within.
-      let here = passed k d within in
-      record { use_now = get_or (filter test (uses_of whole v)) k d; uses = here.0; on = (bytes_eq-Decides (get_or (filter test (uses_of whole v)) k d).at.event s.event).0 here.1; is = refl })
+  holds_of_call m s v = holds_by_call whole m s v
 
   -- what holds of the invocations of each of the first statements and of those before it holds of each two
   module _ (R : Invocation → Invocation → Type 0) (last : ℕ) (short : last ≤ length c.body) (next : (k : ℕ) (s : Statement) → slice_get c.body k ≡ Some s → k < last → All (λ v. All (R v) (invocations_at s)) (called_in k)) where
@@ -270,16 +203,9 @@ module _ (earlier : Design) (c : Component) (named : KeepsNames earlier c) where
   -- an invocation's uses of one event are one
   pub one_use : (v : Invocation) (u x : Use) → IsUseOf whole v u → IsUseOf whole v x → u.event ≡ x.event → (u.at ≡ x.at) × (u.hold ≡ x.hold)
   one_use v u x (sig, is, used) (sig', is', used') same =
-      let times = v.gives.times in
-      let signed : sig ≡ sig' = same_Some sig sig' (sym is ∙ is') in
-      let at : u.at ≡ x.at = same_Some u.at x.at (sym used.time ∙ ap (slice_get times) same ∙ used'.time) in
-      let event : used.event ≡ used'.event =
-      same_Some used.event used'.event (sym used.of ∙ ap₂ (λ (g : Signature) (k : ℕ). slice_get g.events k) signed same ∙ used'.of) in (
-        at,
-        same_Some u.hold x.hold
-            (sym used.held ∙ ap (λ (e : SigEvent). hold_of e.delay u.at (slice_get times (u.event + 1))) event
-            ∙ ap₂ (λ (t : TimeAt) (k : ℕ). hold_of used'.event.delay t (slice_get times (k + 1))) at same ∙ used'.held),
-      )
+      let U : Signature → Type 0 = λ s. IsUse s v.inst v.gives.times x in
+      let one : u ≡ x = same_use used (subst U (same_Some sig' sig (sym is' ∙ is)) used') same in
+      (ap (λ (w : Use). w.at) one, ap (λ (w : Use). w.hold) one)
 
   abbrev pub HasFineUses : Invocation → Type 0
   HasFineUses v = (u : Use) → IsUseOf whole v u → IsFine c u
@@ -291,7 +217,7 @@ module _ (earlier : Design) (c : Component) (named : KeepsNames earlier c) where
     fine_by k s at inst gives o same kept times name u (sig, is, used) =
         let K : Option Signature → Type 0 = λ o. IfSome o (λ sig. KeepsDelays (before k s at) sig inst gives) in
         record {
-          named = All-contains (λ (t : TimeAt). NamesEvent c t.event) gives.times u.at times (Contains-at gives.times u.event u.at used.time);
+          named = All-contains (λ (t : TimeAt). NamesEvent c t.event) gives.times u.at times (Contains-at gives.times u.event u.at (parts_of used).time);
           short = subst K (same ∙ is) kept u used;
         }
 

@@ -6,10 +6,10 @@ use Rattle.std.proofs.lemmas.List.{map-append}
 use Rattle.std.proofs.lemmas.Option.{slice_get-map}
 use Rattle.hw_names.specs.Name.{Text, text_of}
 use Rattle.hw_names.specs.declared.names.NameId.{NameId}
-use Rattle.fil_ast.specs.Holds.{uses_listed, use_of, uses_from}
+use Rattle.fil_ast.specs.Holds.{uses_listed, uses_from}
 use Rattle.fil_ast.specs.Signature.{SigEvent}
 use Rattle.fil_ast.specs.Timeline as tree
-use Rattle.fil_ast.specs.Timeline.{hold_of}
+use Rattle.fil_ast.specs.Timeline.{hold_of, use_of}
 use Rattle.fil_ast.specs.Tree.{TimeAt, time_tree}
 use Rattle.fil_ast.specs.declared.tree.Time.{Time}
 use Rattle.fil_sig.proofs.ListLemmas.{from_place}

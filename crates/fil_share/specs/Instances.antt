@@ -5,7 +5,7 @@ use Rattle.fil_ast.specs.Naming.{instance_names}
 use Rattle.fil_ast.specs.Scope.{Scope, Instance, instances_at, signature_in}
 use Rattle.fil_ast.specs.Signature.{Delay, Fixed, Gap, End, SigEvent, Signature}
 use Rattle.fil_ast.specs.Tree.{Design, Statement}
-use Rattle.fil_ast.specs.declared.tree.TheConstants.{MOST_OFFSET}
+use Rattle.hw_limits.specs.declared.limits.TheConstants.{MOST_OFFSET}
 use Rattle.fil_sig.specs.Refusals.{IsUsable}
 use Rattle.fil_sig.specs.Seen.{seen}
 use Rattle.fil_sig.specs.declared.time_sig.TimeSig.{TimeSig}

@@ -5,3 +5,4 @@ pub mod Uses
 pub mod Own
 pub mod Inner
 pub mod Carried
+pub mod Held

@@ -6,10 +6,9 @@ use Rattle.fil_ast.specs.Numbers.{IsNumberOf}
 use Rattle.fil_ast.specs.Scope.{Scope, Invocation}
 use Rattle.fil_ast.specs.Timeline as tree
 use Rattle.fil_ast.specs.Tree.{Component}
-use Rattle.fil_ast.specs.declared.tree.TheConstants.{MOST_OFFSET}
+use Rattle.hw_limits.specs.declared.limits.TheConstants.{MOST_OFFSET, MOST_ROWS}
 use Rattle.fil_ast.specs.declared.tx.Tx.{Tx}
 use Rattle.fil_share.specs.declared.hold.Hold as shown
-use Rattle.fil_share.specs.declared.hold.TheConstants.{MOST_ROWS}
 use Rattle.fil_share.specs.declared.uses.Use.{Use}
 
 -- an event of an instance, held in the rows [from, to) after an event of the component, by an invocation
@@ -66,7 +65,3 @@ listed_start (Some s) = s ∷ []
 -- when transactions start
 abbrev pub starts_of : Component → List Tx → List Start
 starts_of c txs = flat_map (λ tx. listed_start (start_of c tx)) txs
-
--- the latest row in which a transaction starts
-abbrev pub LATEST : ℕ
-LATEST = 1000000

@@ -4,9 +4,6 @@ ghost use Rattle.fil_share.specs.Sharing.{AreApart, IsFirstOverlap};
 
 use hw_names::NameId;
 
-/// The greatest end of a hold and the greatest delay, in rows: an offset and a delay are at most 4,096 each.
-pub const MOST_ROWS: u64 = 8_192;
-
 /// A use of an event of a unit: the invocation `call` of the instance `inst` triggers the event with this number of
 /// its callee in transaction `tx`, and holds the unit in the rows `[from, to)`.
 #[derive(Clone, Copy, Debug, PartialEq, Eq)]

@@ -2,8 +2,9 @@
 ghost use Rattle.std.specs.Prelude.{◌≤◌, ◌↔◌, [], ◌∷◌, ◌++◌, All, IsNone, IfSome};
 ghost use Rattle.fil_share.specs.Sharing.{IsHeld, EndsWithin, CanShare, BreaksRule, IsFirstMeet};
 
-use crate::hold::{Hold, MOST_ROWS, Meet, first_overlap};
+use crate::hold::{Hold, Meet, first_overlap};
 use crate::span::overrun;
+use hw_limits::MOST_ROWS;
 
 /// What a use breaks of F11 and F12, after uses that keep both: the earlier ones, in their order, are of the same
 /// event of the same unit by the same transaction, which starts at row 0. It takes no memory.

@@ -2,7 +2,8 @@
 ghost use Rattle.std.specs.Prelude.{◌≤◌, ◌↔◌, [], ◌∷◌, ◌++◌, All, IsNone, IfSome};
 ghost use Rattle.fil_share.specs.Sharing.{IsHeld, EndsWithin, KeepsApart, EndsInTime, StartsFirst, StartsLast, BreaksInTime};
 
-use crate::hold::{Hold, MOST_ROWS, Meet};
+use crate::hold::{Hold, Meet};
+use hw_limits::MOST_ROWS;
 
 /// The use that starts first.
 fn first_of(earlier: &[Hold], use_now: &Hold) -> Hold

@@ -6,7 +6,8 @@ ghost use Rattle.fil_ast.specs.Scope.{Scope};
 ghost use Rattle.fil_ast.specs.Tree.{Component, component_tree, design_of};
 ghost use Rattle.fil_ast.specs.Wires.{whole_scope};
 ghost use Rattle.fil_ast.specs.declared.tree.FilComp.{FilComp};
-ghost use Rattle.fil_share.specs.Uses.{HoldHasNumbers, IsGoodUse, LATEST, held_by, is_on, moved, shown_hold, shown_use, starts_of};
+ghost use Rattle.fil_share.specs.Uses.{HoldHasNumbers, IsGoodUse, held_by, is_on, moved, shown_hold, shown_use, starts_of};
+ghost use Rattle.hw_limits.specs.declared.limits.TheConstants.{MOST_CYCLES};
 
 use crate::callees::component_names;
 use crate::hold::Hold;
@@ -27,7 +28,7 @@ fn push_holds(
     holds: &mut Vec<Hold>,
 ) -> Result<(), Memory>
     requires uses { All (IsGoodUse names.now) uses.now }
-    requires row { row ≤ LATEST }
+    requires row { row ≤ MOST_CYCLES }
     ensures shown { OnOk result (map (shown_hold names.now) holds.new.items ≡ map (shown_hold names.now) holds.old.items
         ++ map (moved tx row) (filter (is_on event.now) (map (shown_use names.now) uses.now))) }
     ensures numbered { All (HoldHasNumbers names.now) holds.old.items → All (HoldHasNumbers names.now) holds.new.items }
@@ -58,7 +59,7 @@ fn all_holds(
     requires numbers { ComponentHasNumbers names.now comp.now }
     requires uses { All (IsGoodUse names.now) uses.now }
     requires events { All (λ tx. tx.event < length comp.now.events.items) txs.now }
-    requires rows { All (λ tx. tx.start ≤ LATEST) txs.now }
+    requires rows { All (λ tx. tx.start ≤ MOST_CYCLES) txs.now }
     ensures shown { (scope : Scope) → map (shown_use names.now) uses.now ≡ flat_map (held_by scope) scope.invocations
         → IfOk result (λ holds. map (shown_hold names.now) holds.items ≡ holds_of scope (starts_of (component_tree names.now comp.now) txs.now)) }
     ensures numbered { IfOk result (λ holds. All (HoldHasNumbers names.now) holds.items) }
@@ -76,7 +77,7 @@ fn all_holds(
 pub fn holds(alloc: Global, ok: &FilOk, comp: usize, txs: &[Tx]) -> Result<Vec<Hold>, Memory>
     requires comp { comp < length ok.now.comps.items }
     requires events { (c : FilComp) → slice_get ok.now.comps.items comp ≡ Some c → All (λ tx. tx.event < length c.events.items) txs.now }
-    requires rows { All (λ tx. tx.start ≤ LATEST) txs.now }
+    requires rows { All (λ tx. tx.start ≤ MOST_CYCLES) txs.now }
     ensures shown { (c : Component) → slice_get (design_of ok.now) comp ≡ Some c
         → IfOk result (λ holds. map (shown_hold ok.now.names) holds.items ≡ holds_of (whole_scope (take comp (design_of ok.now)) c) (starts_of c txs.now)) }
     ensures numbered { IfOk result (λ holds. All (HoldHasNumbers ok.now.names) holds.items) }

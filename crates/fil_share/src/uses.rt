@@ -1,14 +1,14 @@
 //! What the invocations of a component use of its instances, and when after an event of the component.
 ghost use Rattle.std.specs.Prelude.{◌≡◌, ◌≤◌, ◌++◌, All, IfOk, IfSome, OnOk, List, length, map, flat_map, option_map};
 ghost use Rattle.hw_names.specs.Name.{Text, text_of};
-ghost use Rattle.fil_ast.specs.Holds.{use_of, uses_from};
+ghost use Rattle.fil_ast.specs.Holds.{uses_from};
 ghost use Rattle.fil_ast.specs.Limits.{KeepsLimits, KeepsStatementLimit, KeepsTimeLimit};
 ghost use Rattle.fil_ast.specs.Numbers.{ComponentHasNumbers, IsNumberOf, StatementHasNumbers, TimeHasNumber};
 ghost use Rattle.fil_ast.specs.Scope.{Scope, Invocation, invocations_at};
 ghost use Rattle.fil_ast.specs.Signature as tree;
-ghost use Rattle.fil_ast.specs.Timeline.{hold_of};
+ghost use Rattle.fil_ast.specs.Timeline.{hold_of, use_of};
 ghost use Rattle.fil_ast.specs.Tree.{TimeAt, ValueTree, component_tree, statement_tree, time_tree};
-ghost use Rattle.fil_ast.specs.declared.tree.TheConstants.{MOST_OFFSET};
+ghost use Rattle.hw_limits.specs.declared.limits.TheConstants.{MOST_OFFSET};
 ghost use Rattle.fil_sig.specs.Seen.{seen_delay, seen_event};
 ghost use Rattle.fil_sig.specs.declared.time_sig.SigEvent.{SigEvent};
 ghost use Rattle.fil_share.specs.Instances.{IsSmallDelay, ShowsScope};

@@ -1,4 +1,5 @@
 pub mod ListLemmas
 pub mod PinLemmas
 pub mod ShapeLemmas
+pub mod TableLemmas
 pub mod UseLemmas

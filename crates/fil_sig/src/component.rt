@@ -10,8 +10,9 @@ ghost use Rattle.fil_ast.specs.Limits.{KeepsDelayLimit, KeepsOffsetLimit, KeepsL
 ghost use Rattle.fil_sig.specs.Seen.{seen, seen_event, seen_offset, seen_port};
 
 use crate::time_sig::{Delay, Off, SigEvent, SigPort, TimeSig};
-use fil_ast::{EventDef, FilComp, FilDesign, FilPort, GoPort, MOST_OFFSET, Time};
+use fil_ast::{EventDef, FilComp, FilDesign, FilPort, GoPort, Time};
 use hw_bits::Memory;
+use hw_limits::MOST_OFFSET;
 use hw_names::{NameId, Names, Word};
 use std::alloc::Global;
 

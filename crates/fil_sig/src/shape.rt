@@ -9,11 +9,9 @@ ghost use Rattle.fil_sig.specs.inside.Shape.{event_of, HasPlainShape, HasInterva
 use crate::names::add_name;
 use fil_ast::{FilComp, FilPort, GoPort};
 use hw_bits::{MAX_WIDTH, Memory};
+use hw_limits::MOST_EVENTS;
 use hw_names::Names;
 use std::alloc::Global;
-
-/// The greatest number of events of a component.
-const MOST_EVENTS: usize = 16;
 
 /// Whether each port has a width.
 fn are_widths(ports: &[FilPort]) -> bool

@@ -1,7 +1,7 @@
 -- What holds of each callee: its delays and the offsets of its ports are small, and no delay is 0. This project's.
 use Rattle.std.specs.Prelude.{◌≤◌, All}
 use Rattle.fil_ast.specs.Signature.{Delay, Fixed, Gap, End, SigEvent, SigPort, Signature}
-use Rattle.fil_ast.specs.declared.tree.TheConstants.{MOST_OFFSET}
+use Rattle.hw_limits.specs.declared.limits.TheConstants.{MOST_OFFSET}
 
 abbrev pub IsGoodDelay : Delay → Type 0
 IsGoodDelay (Fixed rows) = (1 ≤ rows) × (rows ≤ MOST_OFFSET)

@@ -5,7 +5,7 @@ use Rattle.std.specs.Option.{unwrap_or}
 use Rattle.hw_names.specs.Name.{Text, text_of}
 use Rattle.hw_names.specs.declared.names.NameId.{NameId}
 use Rattle.fil_ast.specs.Connections.{ConnectsOnce}
-use Rattle.fil_ast.specs.Flow.{Named, Outcome, connected_to, flow_of, outcomes_after, value_in, with_values}
+use Rattle.fil_ast.specs.Flow.{Named, connected_to, flow_of, value_in, with_values}
 use Rattle.fil_ast.specs.Naming.{MakesNewNames, UsesKnownNames, invocation_names}
 use Rattle.fil_ast.specs.Scope.{Invocation, Scope, instance_signature, instances_at, invocations_at}
 use Rattle.fil_ast.specs.Signature.{SigPort, Signature}
@@ -26,9 +26,9 @@ CallsFit shapes widths [] then = widths ≡ then
 CallsFit shapes widths (call ∷ calls) then =
     (shape : Shape) × HasShape shapes call.callee shape × HaveWidths widths call.args.items shape.ins × CallsFit shapes (widths ++ shape.outs) calls then
 
--- the outcomes of the invocations so far
-abbrev pub outcomes_in : Scope → List Named → List Outcome
-outcomes_in scope inputs = outcomes_after (flow_of (reverse scope.comps)) scope.instances inputs [] scope.invocations
+-- the value of an argument, or of what is connected, on these inputs and of the invocations so far
+abbrev pub value_so_far : Scope → List Named → ValueTree → ℕ
+value_so_far scope inputs = value_in (flow_of (reverse scope.comps)) scope.instances inputs (reverse scope.invocations)
 
 -- after these calls the places have the widths and the values of what they hold
 pub record ShowsCalls (scope : Scope) (held : List ValueTree) (calls : List Call) : Type 0 where
@@ -36,8 +36,7 @@ pub record ShowsCalls (scope : Scope) (held : List ValueTree) (calls : List Call
   pub fit : CallsFit (map component_shape scope.comps) (port_widths scope.comp.ins) calls widths
   pub held_widths : map (value_width scope) held ≡ map Some widths
   pub held_values : (args : List ℕ) → length args ≡ length scope.comp.ins
-      → values_after (flow_at scope.comps) calls args ≡ map
-      (value_in (with_values scope.comp.ins args) (outcomes_in scope (with_values scope.comp.ins args))) held
+      → values_after (flow_at scope.comps) calls args ≡ map (value_so_far scope (with_values scope.comp.ins args)) held
 
 -- what an output is connected to by these statements; a zero until it is connected
 abbrev pub connected_or_zero : List Statement → DataPort → ValueTree

@@ -7,7 +7,7 @@ use Rattle.fil_ast.specs.Scope.{Instance, Scope, instance_signature}
 use Rattle.fil_ast.specs.Signature.{SigEvent, SigPort, Signature}
 use Rattle.fil_ast.specs.Timeline as timeline
 use Rattle.fil_ast.specs.Tree.{giving}
-use Rattle.fil_ast.specs.declared.tree.TheConstants.{MOST_OFFSET}
+use Rattle.hw_limits.specs.declared.limits.TheConstants.{MOST_OFFSET}
 use Rattle.fil_lower.specs.declared.interval.Interval.{Interval}
 use Rattle.fil_lower.specs.declared.parts.Invocation.{Invocation}
 use Rattle.fil_lower.specs.declared.parts.NewInstance.{NewInstance}

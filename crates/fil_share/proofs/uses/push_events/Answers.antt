@@ -2,7 +2,8 @@ use Rattle.std.proofs.Common.{◌≡◌, ◌+◌, ◌<◌, ◌++◌, List, All, 
 use Rattle.std.proofs.lemmas.List.{get_or-map, length-map}
 use Rattle.std.proofs.lemmas.List.Elements.{All-push}
 use Rattle.hw_names.specs.Name.{text_of}
-use Rattle.fil_ast.specs.Holds.{use_of, uses_from}
+use Rattle.fil_ast.specs.Holds.{uses_from}
+use Rattle.fil_ast.specs.Timeline.{use_of}
 use Rattle.fil_ast.specs.Tree.{time_tree}
 use Rattle.fil_sig.specs.Seen.{seen_event}
 use Rattle.fil_share.specs.Uses.{IsGoodUse, held, shown_use}

@@ -1,0 +1,2 @@
+pub mod PrimitiveLemmas
+pub mod UseLemmas
