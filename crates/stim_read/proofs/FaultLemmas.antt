@@ -3,8 +3,10 @@ use Rattle.std.proofs.Common.{◌≡◌, ℕ, ◌+◌, ◌<◌, List, length, ge
 use Rattle.std.specs.List.{list_all}
 use Rattle.stim_read.specs.Parts.{is_one_of}
 use Rattle.stim_read.specs.CycleText.{Entry, entry_seen, Words, words_seen}
-use Rattle.stim_read.specs.CycleRules.{Targets, first_fault, unless, refused, has_known_name, given_fits, order_fault, fits_width, place_in, width_of, input_fault, inputs_fault, memory_fault, memories_fault}
-use Rattle.stim_read.specs.CycleRun.{IsTold, Tells}
+use Rattle.stim_read.specs.CycleRules.{Targets, has_known_name, given_fits, fits_width, place_in, width_of}
+use Rattle.stim_read.specs.inside.Walk.{first_fault, unless, IsTold, Tells}
+use Rattle.stim_read.specs.Rules.{refused}
+use Rattle.stim_read.specs.inside.CycleWalk.{order_fault, input_fault, inputs_fault, memory_fault, memories_fault}
 use Rattle.stim_read.specs.declared.cycle_text.InputEntry.{InputEntry}
 use Rattle.stim_read.specs.declared.cycle_text.MemoryWords.{MemoryWords}
 use Rattle.stim_read.specs.declared.stim_end.StimEnd.{StimEnd}
@@ -55,6 +57,14 @@ broken kept e is = rw is refl
 
 pub kept_so : (kept : Bool) (e : StimEnd) → kept ≡ true → unless kept e ≡ None
 kept_so kept e is = rw is refl
+
+pub alone : (fault : Option StimEnd) → first_fault fault None ≡ fault
+alone None = refl
+alone (Some e) = refl
+
+pub assoc : (a b c : Option StimEnd) → first_fault (first_fault a b) c ≡ first_fault a (first_fault b c)
+assoc None b c = refl
+assoc (Some e) b c = refl
 
 -- there is no first of two faults, so there is neither
 pub neither_there : (fault later : Option StimEnd) → first_fault fault later ≡ None → (fault ≡ None) × (later ≡ None)

@@ -3,6 +3,9 @@ pub mod AmountLemmas
 pub mod GivenLemmas
 pub mod WalkLemmas
 pub mod FaultLemmas
+pub mod RuleLemmas
+pub mod CycleRuleLemmas
+pub mod TxRuleLemmas
 pub mod FitLemmas
 pub mod RunFitLemmas
 pub mod MeaningLemmas

@@ -7,19 +7,23 @@ use Rattle.std.proofs.lemmas.List.{length-map, get_or-map}
 use Rattle.std.proofs.lemmas.List.Elements.{All-nil, All-cons, All-append, All-map, All-weaker}
 use Rattle.std.proofs.lemmas.List.Sums.{AllPass-from_list_all}
 use Rattle.std.proofs.lemmas.Option.{slice_get-get_or}
-use Rattle.stim_read.specs.declared.shape.InputShape.{InputShape}
+use Rattle.net_core.specs.declared.stimulus.InputShape.{InputShape}
 use Rattle.fil_sig.proofs.ListLemmas.{All-unmap}
 use Rattle.net_core.specs.declared.stimulus.CycleList.{CycleList}
 use Rattle.net_core.specs.declared.stimulus.MemLoad.{MemLoad}
 use Rattle.net_core.specs.declared.stimulus.MemShape.{MemShape}
 use Rattle.stim_read.specs.Parts.{is_one_of}
 use Rattle.stim_read.specs.CycleText.{Entry, Words}
-use Rattle.stim_read.specs.CycleRules.{Targets, input_targets, memory_targets, sizes_of, place_in, width_of, has_known_name, given_fits, fits_width, first_fault, unless, refused, order_fault, input_fault, inputs_fault, memory_fault, memories_fault, limit_fault}
+use Rattle.stim_read.specs.CycleRules.{Targets, input_targets, memory_targets, sizes_of, place_in, width_of, has_known_name, given_fits, fits_width}
 use Rattle.stim_read.specs.CycleRun.{Setting, Load, setting_of, settings_of, load_of, setting_seen, load_seen, run_seen, GiveRun}
+use Rattle.stim_read.specs.inside.Walk.{first_fault, unless}
+use Rattle.stim_read.specs.Rules.{refused}
+use Rattle.stim_read.specs.inside.CycleWalk.{order_fault, input_fault, inputs_fault, memory_fault, memories_fault, limit_fault}
 use Rattle.stim_read.specs.Fits.{LoadsMemory, FitsRun}
 use Rattle.stim_read.specs.declared.given.Given.{Given}
 use Rattle.stim_read.specs.declared.stim_end.StimEnd.{StimEnd}
 use Rattle.stim_read.specs.declared.stim_end.StimEnd.TheVariants.{Refused}
+use Rattle.stim_read.proofs.CycleRuleLemmas.{kept_cycles}
 use Rattle.stim_read.proofs.FaultLemmas.{neither_there, kept_by}
 use Rattle.stim_read.proofs.PlaceLemmas.{place_known}
 
@@ -162,7 +166,7 @@ given_fits_run bytes ins mems list gives =
     let c = gives.stimulus in
     let inputs = inputs_fault t None 0 c.inputs in
     let memories = memories_fault (memory_targets mems) (sizes_of mems) (length c.inputs) c.memories in
-    let limits = neither_there (limit_fault c) (first_fault inputs memories) gives.kept in
+    let limits = neither_there (limit_fault c) (first_fault inputs memories) (kept_cycles ins mems c gives.kept) in
     let none = neither_there inputs memories limits.1 in
     let sets : map setting_seen list.sets.items ≡ flat_map (settings_of t) c.inputs = ap (λ r. r.settings) gives.gives in
     let loads : map load_seen list.loads.items ≡ map (load_of (memory_targets mems)) c.memories = ap (λ r. r.loads) gives.gives in

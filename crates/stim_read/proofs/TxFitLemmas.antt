@@ -8,15 +8,18 @@ use Rattle.fil_ast.specs.Signature.{SigEvent, Signature}
 use Rattle.fil_ast.specs.declared.tx.Tx.{Tx}
 use Rattle.fil_ast.specs.declared.tx.TxList.{TxList}
 use Rattle.fil_sig.proofs.ListLemmas.{All-unmap}
-use Rattle.stim_read.specs.CycleRules.{first_fault, refused}
 use Rattle.stim_read.specs.TxEvents.{Event, EventList, ports_after, port_targets, events_from, events_of}
-use Rattle.stim_read.specs.TxRules.{Start, starts_in, event_number, event_by, last_start, event_fault, tx_fault, txs_fault}
-use Rattle.stim_read.specs.TxRun.{Transaction, inputs_of, transaction_of, end_row, run_rows, count_of, count_fault, rows_fault, transaction_seen, tx_run_seen, GiveTransactions}
+use Rattle.stim_read.specs.TxRules.{Start, starts_in, event_number, event_by, inputs_of}
+use Rattle.stim_read.specs.TxRun.{Transaction, transaction_of, end_row, run_rows, count_of, transaction_seen, tx_run_seen, GiveTransactions}
+use Rattle.stim_read.specs.inside.Walk.{first_fault}
+use Rattle.stim_read.specs.Rules.{refused}
+use Rattle.stim_read.specs.inside.TxWalk.{latest_start, event_fault, tx_fault, txs_fault, count_fault, rows_fault}
 use Rattle.stim_read.specs.Fits.{FitsSignature}
-use Rattle.stim_read.specs.declared.limits.TheConstants.{MOST_CYCLES}
+use Rattle.hw_limits.specs.declared.limits.TheConstants.{MOST_CYCLES}
 use Rattle.stim_read.specs.declared.stim_end.StimEnd.{StimEnd}
 use Rattle.stim_read.specs.declared.stim_end.StimEnd.TheVariants.{Limit}
 use Rattle.stim_read.proofs.FaultLemmas.{neither_there, kept_by}
+use Rattle.stim_read.proofs.TxRuleLemmas.{kept_transactions}
 use Rattle.stim_read.proofs.TxEventLemmas.{length_events}
 
 -- ---- events
@@ -27,7 +30,7 @@ IsOfEvent events t = t.event < length events.events
 
 start_of_event : (events : EventList) (earlier : List Start) (n : ℕ) (s : Start) → tx_fault events earlier n s ≡ None → IsOfEvent events (transaction_of events s)
 start_of_event events earlier n s none = by (event_by events s.event) refl none where
-  by : (o : Option Event) → event_by events s.event ≡ o → event_fault o (last_start events.names (event_number events.names s.event) earlier) n s ≡ None
+  by : (o : Option Event) → event_by events s.event ≡ o → event_fault o (latest_start events.names (event_number events.names s.event) earlier) n s ≡ None
       → event_number events.names s.event < length events.events
   by None is no_fault = let bad : ◌≡◌ {A = Option StimEnd} (Some (refused 3 n)) None = no_fault in absurd cc
   by (Some event) is no_fault = slice_get_within events.events (event_number events.names s.event) event is
@@ -79,7 +82,7 @@ module _ (bytes : List ℕ) (sig : Signature) where
       let seen : map transaction_seen list.txs.items ≡ ts = ap (λ r. r.transactions) gives.gives in
       let rules = txs_fault ev [] 0 (starts_in gives.stimulus.entries) in
       let rows = rows_fault (run_rows ev.events ts) in
-      let counts = neither_there (count_fault (count_of gives.stimulus.entries)) (first_fault rules rows) gives.kept in
+      let counts = neither_there (count_fault (count_of gives.stimulus.entries)) (first_fault rules rows) (kept_transactions ev gives.stimulus gives.kept) in
       let none = neither_there rules rows counts.1 in
       let each : (P : Transaction → Type 0) → All P ts → P (transaction_seen (get_or list.txs.items k d)) =
       λ P all. All-unmap P transaction_seen list.txs.items (subst (λ (xs : List Transaction). All P xs) (sym seen) all) k d within in

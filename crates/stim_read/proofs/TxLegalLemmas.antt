@@ -7,14 +7,17 @@ use Rattle.std.proofs.lemmas.List.Kept.{AllPairs-cons}
 use Rattle.std.proofs.lemmas.Option.{same_Some}
 use Rattle.fil_ast.specs.Signature.{SigEvent, Signature}
 use Rattle.fil_ast.specs.declared.tx.TxList.{TxList}
-use Rattle.stim_read.specs.CycleRules.{first_fault, refused}
 use Rattle.stim_read.specs.Fits.{AreLegal}
 use Rattle.stim_read.specs.TxEvents.{Event, EventList, rows_of, event_of, events_from, events_of}
-use Rattle.stim_read.specs.TxRules.{Start, starts_in, event_number, event_by, last_start, start_fault, values_fault, event_fault, tx_fault, txs_fault}
-use Rattle.stim_read.specs.TxRun.{Transaction, transaction_of, run_rows, count_of, count_fault, rows_fault, transaction_seen, tx_run_seen, GiveTransactions}
+use Rattle.stim_read.specs.TxRules.{Start, starts_in, event_number, event_by}
+use Rattle.stim_read.specs.TxRun.{Transaction, transaction_of, run_rows, count_of, transaction_seen, tx_run_seen, GiveTransactions}
+use Rattle.stim_read.specs.inside.Walk.{first_fault}
+use Rattle.stim_read.specs.Rules.{refused}
+use Rattle.stim_read.specs.inside.TxWalk.{latest_start, start_fault, values_fault, event_fault, tx_fault, txs_fault, count_fault, rows_fault}
 use Rattle.stim_read.specs.declared.stim_end.StimEnd.{StimEnd}
 use Rattle.stim_read.specs.declared.stim_end.StimEnd.TheVariants.{Refused}
 use Rattle.stim_read.proofs.FaultLemmas.{neither_there, kept_by}
+use Rattle.stim_read.proofs.TxRuleLemmas.{kept_transactions}
 
 -- if it is of the event with this number, it starts at least the event's delay after the row
 abbrev StartsAfter : EventList → ℕ → ℕ → Transaction → Type 0
@@ -22,9 +25,9 @@ StartsAfter events number row t = number ≡ t.event → (event : Event) → sli
 
 -- S5 at a start
 kept_start : (events : EventList) (earlier : List Start) (n : ℕ) (s : Start) → tx_fault events earlier n s ≡ None → (event : Event) → event_by events s.event ≡ Some event
-    → (before : ℕ) → last_start events.names (event_number events.names s.event) earlier ≡ Some before → before + event.delay ≤ s.start
+    → (before : ℕ) → latest_start events.names (event_number events.names s.event) earlier ≡ Some before → before + event.delay ≤ s.start
 kept_start events earlier n s none event is before last =
-    let last_is = last_start events.names (event_number events.names s.event) earlier in
+    let last_is = latest_start events.names (event_number events.names s.event) earlier in
     let at_event : event_fault (Some event) last_is n s ≡ None = ap (λ o. event_fault o last_is n s) (sym is) ∙ none in
     let apart = (neither_there (values_fault event.inputs n s.given) (start_fault last_is n event.delay s.start) at_event).1 in
     let tested : start_fault (Some before) n event.delay s.start ≡ None = ap (λ o. start_fault o n event.delay s.start) (sym last) ∙ apart in
@@ -34,11 +37,11 @@ module _ (events : EventList) (number row : ℕ) where
   -- the last start of the event is no earlier than the row
   record IsPast (earlier : List Start) : Type 0 where
     last : ℕ
-    is_last : last_start events.names number earlier ≡ Some last
+    is_last : latest_start events.names number earlier ≡ Some last
     past : row ≤ last
 
-  same_event : (s : Start) (earlier : List Start) → event_number events.names s.event ≡ number → last_start events.names number (s ∷ earlier) ≡ Some s.start
-  same_event s earlier same = ap (λ b. cond b (Some s.start) (last_start events.names number earlier)) (eq-eqb (event_number events.names s.event) number same)
+  same_event : (s : Start) (earlier : List Start) → event_number events.names s.event ≡ number → latest_start events.names number (s ∷ earlier) ≡ Some s.start
+  same_event s earlier same = ap (λ b. cond b (Some s.start) (latest_start events.names number earlier)) (eq-eqb (event_number events.names s.event) number same)
 
   all_after : (earlier : List Start) (n : ℕ) (ss : List Start) → IsPast earlier → txs_fault events earlier n ss ≡ None → All (StartsAfter events number row) (map (transaction_of events) ss)
   all_after earlier n [] past none = All-nil (StartsAfter events number row)
@@ -51,14 +54,14 @@ module _ (events : EventList) (number row : ℕ) where
 
       after : event_number events.names s.event ≡ number → (event : Event) → slice_get events.events number ≡ Some event → row + event.delay ≤ s.start
       after same event is =
-          let kept = kept_start events earlier n s both.0 event (ap (slice_get events.events) same ∙ is) past.last (ap (λ k. last_start events.names k earlier) same ∙ past.is_last) in
+          let kept = kept_start events earlier n s both.0 event (ap (slice_get events.events) same ∙ is) past.last (ap (λ k. latest_start events.names k earlier) same ∙ past.is_last) in
           omega (arith, kept, past.past)
 
       by : (b : Bool) → (event_number events.names s.event == number) ≡ b → (IsPast (s ∷ earlier) → All (StartsAfter events number row) (map (transaction_of events) ss)) → All (StartsAfter events number row) (map (transaction_of events) (s ∷ ss))
       by false is rest =
           All-cons (StartsAfter events number row) (transaction_of events s) (map (transaction_of events) ss)
           (λ same. let other : false ≡ true = sym is ∙ eq-eqb (event_number events.names s.event) number (sym same) in absurd (cc))
-          (rest (record { last = past.last; is_last = ap (λ b. cond b (Some s.start) (last_start events.names number earlier)) is ∙ past.is_last; past = past.past }))
+          (rest (record { last = past.last; is_last = ap (λ b. cond b (Some s.start) (latest_start events.names number earlier)) is ∙ past.is_last; past = past.past }))
       by true is rest = there (slice_get events.events number) refl
         where
           same : event_number events.names s.event ≡ number
@@ -66,7 +69,7 @@ module _ (events : EventList) (number row : ℕ) where
 
           there : (o : Option Event) → slice_get events.events number ≡ o → All (StartsAfter events number row) (map (transaction_of events) (s ∷ ss))
           there None at =
-              let last = last_start events.names (event_number events.names s.event) earlier in
+              let last = latest_start events.names (event_number events.names s.event) earlier in
               let bad : ◌≡◌ {A = Option StimEnd} (Some (refused 3 n)) None = ap (λ o. event_fault o last n s) (sym (ap (slice_get events.events) same ∙ at)) ∙ both.0 in
               absurd (cc)
           there (Some event) at =
@@ -104,7 +107,7 @@ module _ (bytes : List ℕ) (sig : Signature) where
       let seen : map transaction_seen list.txs.items ≡ ts = ap (λ r. r.transactions) gives.gives in
       let rules = txs_fault ev [] 0 ss in
       let rows = rows_fault (run_rows ev.events ts) in
-      let counts = neither_there (count_fault (count_of gives.stimulus.entries)) (first_fault rules rows) gives.kept in
+      let counts = neither_there (count_fault (count_of gives.stimulus.entries)) (first_fault rules rows) (kept_transactions ev gives.stimulus gives.kept) in
       let none = neither_there rules rows counts.1 in
       let pairs = all_follow ev [] 0 ss none.0 in
       let legal : AreLegal sig ts = λ i j d less within same e rows at fixed.

@@ -12,15 +12,18 @@ use Rattle.fil_ast.specs.declared.tx.TxList.{TxList}
 use Rattle.stim_read.specs.Parts.{◌>>=◌, provided, each, items_in, is_object_of, number_at}
 use Rattle.stim_read.specs.Amounts.{version_in}
 use Rattle.stim_read.specs.CycleText.{givens_at}
-use Rattle.stim_read.specs.CycleRun.{IsTold, Tells}
 use Rattle.stim_read.specs.TxText.{Starts, Transactions, once, repeat_keys, repeat_in, repeat_at, event_at, tx_keys, starts_fit, tx_entry_in, entries_in, idle_at, transactions_keys, transactions_in}
 use Rattle.stim_read.specs.TxEvents.{EventList, ports_after, event_of, events_from, events_of}
-use Rattle.stim_read.specs.TxRun.{tx_run_of, tx_run_seen, transactions_fault, SayTransactions, GiveTransactions, IsTxCause, BrokenRule}
-use Rattle.stim_read.specs.inside.TxWalk.{IsEntry, HasWidths, AreUsable}
+use Rattle.stim_read.specs.CycleRun.{NoMemory}
+use Rattle.stim_read.specs.TxRun.{tx_run_of, tx_run_seen, SayTransactions, GiveTransactions, NoJson, IsTxCause, NoTransactions, BrokenRule}
+use Rattle.stim_read.specs.inside.TxWalk.{IsEntry, HasWidths, AreUsable, transactions_fault}
+use Rattle.stim_read.specs.inside.Walk.{IsTold, Tells}
 use Rattle.stim_read.specs.declared.amounts.Version.{Version}
 use Rattle.stim_read.specs.declared.stim_end.StimEnd.{StimEnd}
+use Rattle.stim_read.specs.declared.stim_end.StimEnd.TheVariants.{Refused, Limit, Memory}
 use Rattle.stim_read.specs.declared.tx_text.Repeat.{Repeat}
 use Rattle.stim_read.proofs.TxEventLemmas.{length_events}
+use Rattle.stim_read.proofs.TxRuleLemmas.{transactions_kept, transactions_broken}
 
 bind_some : {A B : Type 0} (o : Option A) (f : A → Option B) (y : B) → (o >>= f) ≡ Some y → (x : A) × (o ≡ Some x) × (f x ≡ Some y)
 bind_some {A} {B} None f y h = let bad : ◌≡◌ {A = Option B} None (Some y) = h in absurd cc
@@ -104,9 +107,15 @@ module _ (sig : Signature) (widths : All HasWidth sig.ins) where
 pub gives_transactions : (bytes : List ℕ) (ev wanted : EventList) (t : Transactions) (r : Result TxList StimEnd) → ev ≡ wanted → SayTransactions bytes t → Tells r (transactions_fault ev t) → IfOk r (λ list. tx_run_seen list ≡ tx_run_of ev t)
     → IfOk r (λ list. GiveTransactions bytes wanted (tx_run_seen list))
 gives_transactions bytes ev wanted t (Ok list) same said told run =
-    record { stimulus = t; said = said; kept = subst (λ (v : EventList). transactions_fault v t ≡ None) same told; gives = run ∙ ap (λ v. tx_run_of v t) same }
+    record { stimulus = t; said = said; kept = transactions_kept wanted t (subst (λ (v : EventList). transactions_fault v t ≡ None) same told); gives = run ∙ ap (λ v. tx_run_of v t) same }
 gives_transactions bytes ev wanted t (Err e) same said told run = tt
+
+told_tx_cause : (bytes : List ℕ) (events : EventList) (t : Transactions) (end : StimEnd) → SayTransactions bytes t → IsTold end (transactions_fault events t) → IsTxCause bytes events end
+told_tx_cause bytes events t (Refused rule entry first second delay) said told =
+    BrokenRule t (Refused rule entry first second delay) said (transactions_broken events t (Refused rule entry first second delay) told)
+told_tx_cause bytes events t (Limit count limit cycles) said told = BrokenRule t (Limit count limit cycles) said (transactions_broken events t (Limit count limit cycles) told)
+told_tx_cause bytes events t Memory said told = NoTransactions Memory (NoJson Memory NoMemory)
 
 pub tells_tx_cause : (bytes : List ℕ) (ev wanted : EventList) (t : Transactions) (r : Result TxList StimEnd) → ev ≡ wanted → SayTransactions bytes t → Tells r (transactions_fault ev t) → IfErr r (IsTxCause bytes wanted)
 tells_tx_cause bytes ev wanted t (Ok list) same said told = tt
-tells_tx_cause bytes ev wanted t (Err e) same said told = BrokenRule t e said (subst (λ (v : EventList). IsTold e (transactions_fault v t)) same told)
+tells_tx_cause bytes ev wanted t (Err e) same said told = told_tx_cause bytes wanted t e said (subst (λ (v : EventList). IsTold e (transactions_fault v t)) same told)

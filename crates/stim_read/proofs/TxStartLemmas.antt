@@ -5,28 +5,25 @@ use Rattle.std.proofs.lemmas.Bool.{cases_eq, false_from_ne_true, eqb-true}
 use Rattle.std.proofs.lemmas.List.{append-nil, map-append, length-map, length-append, drop_all, take_all, length-set, get_or-set_same, get_or-set_other}
 use Rattle.std.proofs.lemmas.List.FromFn.{length-range_with_len}
 use Rattle.std.proofs.lemmas.Option.{slice_get_within}
-use Rattle.stim_read.specs.CycleRules.{Targets, first_fault, unless, refused, has_known_name}
+use Rattle.stim_read.specs.CycleRules.{Targets, has_known_name}
 use Rattle.stim_read.specs.TxText.{Starts, tx_entry_seen}
 use Rattle.stim_read.specs.TxEvents.{Event, EventList}
-use Rattle.stim_read.specs.TxRules.{Start, start_of, starts_of, starts_in, event_number, event_by, is_given, all_fit, value_or_0, values_fault, last_start, start_fault, tx_fault, txs_fault}
-use Rattle.stim_read.specs.CycleRun.{IsTold}
+use Rattle.stim_read.specs.TxRules.{Start, start_of, starts_of, starts_in, event_number, event_by, is_given, all_fit, value_or_0}
 use Rattle.stim_read.specs.TxRun.{Transaction, transaction_of, transaction_seen}
 use Rattle.fil_ast.specs.declared.tx.Tx.{Tx}
-use Rattle.stim_read.specs.inside.TxWalk.{IsEntry, rows_from, start_rows, starts_fault, last_after, last_by, entry_fault, started}
+use Rattle.stim_read.specs.inside.TxWalk.{IsEntry, rows_from, start_rows, starts_fault, last_after, last_by, entry_fault, started, values_fault, latest_start, start_fault, tx_fault, txs_fault}
+use Rattle.stim_read.specs.inside.Walk.{first_fault, unless, IsTold}
+use Rattle.stim_read.specs.Rules.{refused}
 use Rattle.stim_read.specs.declared.given.Given.{Given}
 use Rattle.stim_read.specs.declared.stim_end.StimEnd.{StimEnd}
 use Rattle.stim_read.specs.declared.tx_text.TxEntry.{TxEntry}
 use Rattle.stim_read.proofs.EachLemmas.{cut_at}
-use Rattle.stim_read.proofs.FaultLemmas.{told_first}
+use Rattle.stim_read.proofs.FaultLemmas.{told_first, assoc}
 
 -- these starts become earlier ones
 abbrev pub onto : List Start → List Start → List Start
 onto [] earlier = earlier
 onto (s ∷ later) earlier = onto later (s ∷ earlier)
-
-assoc : (a b c : Option StimEnd) → first_fault (first_fault a b) c ≡ first_fault a (first_fault b c)
-assoc None b c = refl
-assoc (Some e) b c = refl
 
 kept_any : (a b c : Bool) (n m : ℕ) → first_fault (unless a (refused 3 n)) (first_fault (unless b (refused 6 n)) (unless c (refused 4 n))) ≡ None
     → first_fault (unless a (refused 3 m)) (first_fault (unless b (refused 6 m)) (unless c (refused 4 m))) ≡ None
@@ -50,29 +47,29 @@ module _ (ev : EventList) (event : Event) (e : Starts) (by : event_by ev e.event
   abbrev row : ℕ → ℕ
   row k = e.start + k * e.repeat.every
 
-  last_here : (earlier : List Start) (k : ℕ) → last_start ev.names number (start_of e k ∷ earlier) ≡ Some (row k)
+  last_here : (earlier : List Start) (k : ℕ) → latest_start ev.names number (start_of e k ∷ earlier) ≡ Some (row k)
   last_here earlier k = rw (eq-eqb number number refl) refl
 
-  last_there : (j : ℕ) → (number ≡ j → ⊥) → (earlier : List Start) (k : ℕ) → last_start ev.names j (start_of e k ∷ earlier) ≡ last_start ev.names j earlier
+  last_there : (j : ℕ) → (number ≡ j → ⊥) → (earlier : List Start) (k : ℕ) → latest_start ev.names j (start_of e k ∷ earlier) ≡ latest_start ev.names j earlier
   last_there j apart earlier k = let off : (number == j) ≡ false = false_from_ne_true (number == j) (λ on. apart (eqb-true number j on)) in rw off refl
 
-  pub last_same : (ks : List ℕ) (earlier : List Start) → last_start ev.names number (onto (map (start_of e) ks) earlier) ≡ last_after (last_start ev.names number earlier) (rows_from e ks)
+  pub last_same : (ks : List ℕ) (earlier : List Start) → latest_start ev.names number (onto (map (start_of e) ks) earlier) ≡ last_after (latest_start ev.names number earlier) (rows_from e ks)
   last_same [] earlier = refl
   last_same (k ∷ ks) earlier = last_same ks (start_of e k ∷ earlier) ∙ ap (λ b. last_after b (rows_from e ks)) (last_here earlier k)
 
-  pub last_other : (j : ℕ) → (number ≡ j → ⊥) → (ks : List ℕ) (earlier : List Start) → last_start ev.names j (onto (map (start_of e) ks) earlier) ≡ last_start ev.names j earlier
+  pub last_other : (j : ℕ) → (number ≡ j → ⊥) → (ks : List ℕ) (earlier : List Start) → latest_start ev.names j (onto (map (start_of e) ks) earlier) ≡ latest_start ev.names j earlier
   last_other j apart [] earlier = refl
   last_other j apart (k ∷ ks) earlier = last_other j apart ks (start_of e k ∷ earlier) ∙ last_there j apart earlier k
 
   module _ (n₀ : ℕ) (kept : values_fault event.inputs n₀ e.given ≡ None) where
-    fault_is : (earlier : List Start) (n k : ℕ) → tx_fault ev earlier n (start_of e k) ≡ start_fault (last_start ev.names number earlier) n event.delay (row k)
+    fault_is : (earlier : List Start) (n k : ℕ) → tx_fault ev earlier n (start_of e k) ≡ start_fault (latest_start ev.names number earlier) n event.delay (row k)
     fault_is earlier n k = rw (by, values_kept event.inputs n₀ n e.given kept) refl
 
     walk : (ks : List ℕ) (earlier : List Start) (n : ℕ) (rest : List Start)
-        → txs_fault ev earlier n (map (start_of e) ks ++ rest) ≡ first_fault (starts_fault (last_start ev.names number earlier) n event.delay (rows_from e ks)) (txs_fault ev (onto (map (start_of e) ks) earlier) (n + length ks) rest)
+        → txs_fault ev earlier n (map (start_of e) ks ++ rest) ≡ first_fault (starts_fault (latest_start ev.names number earlier) n event.delay (rows_from e ks)) (txs_fault ev (onto (map (start_of e) ks) earlier) (n + length ks) rest)
     walk [] earlier n rest = let same : n ≡ n + 0 = omega arith in ap (λ m. txs_fault ev earlier m rest) same
     walk (k ∷ ks) earlier n rest =
-        let first = start_fault (last_start ev.names number earlier) n event.delay (row k) in
+        let first = start_fault (latest_start ev.names number earlier) n event.delay (row k) in
         let after = onto (map (start_of e) ks) (start_of e k ∷ earlier) in
         let counted : (n + 1) + length ks ≡ n + length (k ∷ ks) = omega arith in
         ap (λ f. first_fault f (txs_fault ev (start_of e k ∷ earlier) (n + 1) (map (start_of e) ks ++ rest))) (fault_is earlier n k)
@@ -92,7 +89,7 @@ module _ (ev : EventList) (event : Event) (e : Starts) (by : event_by ev e.event
 -- each event's last start is in the list
 pub record HasLast (ev : EventList) (last : List (Option ℕ)) (earlier : List Start) : Type 0 where
   pub count : length last ≡ length ev.events
-  pub at : (k : ℕ) → k < length last → get_or last k None ≡ last_start ev.names k earlier
+  pub at : (k : ℕ) → k < length last → get_or last k None ≡ latest_start ev.names k earlier
 
 none_told : (ev : EventList) (earlier : List Start) (n : ℕ) (e : Starts) (ss : List Start) (more : List Start) → event_by ev e.event ≡ None → ss ≡ start_of e 0 ∷ more → txs_fault ev earlier n ss ≡ Some (refused 3 n)
 none_told ev earlier n e ss more by are = rw are (rw by refl)
@@ -112,11 +109,11 @@ module _ (ev : EventList) (last : List (Option ℕ)) (earlier : List Start) (n :
   by_values event by (Some f) broken = broken_told ev event earlier n e (starts_of e ++ rest) _ f by broken begins ∙ sym (rw (by, broken) refl)
   by_values event by None kept =
       let within = slice_get_within ev.events (event_number ev.names e.event) event by in
-      let before : last_by ev last e ≡ last_start ev.names (event_number ev.names e.event) earlier = has.at (event_number ev.names e.event) (omega (arith, within, has.count)) in
+      let before : last_by ev last e ≡ latest_start ev.names (event_number ev.names e.event) earlier = has.at (event_number ev.names e.event) (omega (arith, within, has.count)) in
       let counted : length (range_with_len 0 e.repeat.times) ≡ e.repeat.times = length-range_with_len 0 e.repeat.times in
-      let judged : entry_fault ev last n e ≡ starts_fault (last_start ev.names (event_number ev.names e.event) earlier) n event.delay (start_rows e) = rw (by, kept) (ap (λ b. starts_fault b n event.delay (start_rows e)) before) in
+      let judged : entry_fault ev last n e ≡ starts_fault (latest_start ev.names (event_number ev.names e.event) earlier) n event.delay (start_rows e) = rw (by, kept) (ap (λ b. starts_fault b n event.delay (start_rows e)) before) in
       walk ev event e by n kept (range_with_len 0 e.repeat.times) earlier n rest
-      ∙ ap (λ m. first_fault (starts_fault (last_start ev.names (event_number ev.names e.event) earlier) n event.delay (start_rows e)) (txs_fault ev (onto (starts_of e) earlier) (n + m) rest)) counted
+      ∙ ap (λ m. first_fault (starts_fault (latest_start ev.names (event_number ev.names e.event) earlier) n event.delay (start_rows e)) (txs_fault ev (onto (starts_of e) earlier) (n + m) rest)) counted
       ∙ ap (λ f. first_fault f (txs_fault ev (onto (starts_of e) earlier) (n + e.repeat.times) rest)) (sym judged)
 
   by_event : (o : Option Event) → event_by ev e.event ≡ o → Steps
@@ -144,7 +141,7 @@ last_moves ev event last earlier e by has =
     record {
       count = length-set last number moved ∙ has.count;
       at = λ k below. elim (cases_eq number k) [
-        | inl same ↦ subst (λ j. get_or (set last number moved) j None ≡ last_start ev.names j (onto (starts_of e) earlier)) same
+        | inl same ↦ subst (λ j. get_or (set last number moved) j None ≡ latest_start ev.names j (onto (starts_of e) earlier)) same
             (get_or-set_same last number moved None within ∙ ap (λ b. last_after b (start_rows e)) (has.at number within) ∙ sym (last_same ev event e by ks earlier))
         | inr apart ↦ get_or-set_other last number k moved None (λ s. apart (sym s)) ∙ has.at k (omega (arith, below, length-set last number moved)) ∙ sym (last_other ev event e by k apart ks earlier)
       ];

@@ -10,8 +10,10 @@ use Rattle.std.proofs.lemmas.Option.{same_Some}
 use Rattle.std.proofs.lemmas.Slice.Eq.{bytes_eq-Decides}
 use Rattle.hw_names.specs.Name.{Text, AreDistinct}
 use Rattle.stim_read.specs.CycleRules.{place_in, fits_width}
-use Rattle.stim_read.specs.CycleRules.{Targets, has_known_name, refused}
-use Rattle.stim_read.specs.TxRules.{given_after, value_given, value_or_0, is_given, or_0, all_fit, values_fault}
+use Rattle.stim_read.specs.CycleRules.{Targets, has_known_name}
+use Rattle.stim_read.specs.TxRules.{given_after, value_given, value_or_0, is_given, or_0, all_fit}
+use Rattle.stim_read.specs.Rules.{refused}
+use Rattle.stim_read.specs.inside.TxWalk.{values_fault}
 use Rattle.stim_read.specs.declared.given.Given.{Given}
 use Rattle.stim_read.proofs.EachLemmas.{cut_at}
 

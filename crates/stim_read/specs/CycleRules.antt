@@ -1,16 +1,17 @@
 -- The rules that a stimulus of cycles keeps, and the first that it breaks. This project's.
-use Rattle.std.specs.Prelude.{ℕ, ◌+◌, ◌^◌, nat_lt, nat_le, length, slice_index, map, List, [], ◌∷◌, Bool, true, false, if◌then◌else◌, Option, Some, None}
-use Rattle.std.specs.List.{list_all, position_or_len}
+use Rattle.std.specs.Prelude.{ℕ, ◌^◌, ◌<◌, ◌≤◌, nat_lt, nat_le, length, slice_index, map, List, [], ◌∷◌, Bool, true, false, Option, Some, None}
+use Rattle.std.specs.List.{list_all, position_or_len, last_or}
 use Rattle.std.specs.Str.{bytes_eq}
 use Rattle.hw_names.specs.Name.{Text}
-use Rattle.stim_read.specs.declared.shape.InputShape.{InputShape}
+use Rattle.net_core.specs.declared.stimulus.InputShape.{InputShape}
 use Rattle.net_core.specs.declared.stimulus.MemShape.{MemShape}
 use Rattle.stim_read.specs.Parts.{is_one_of}
 use Rattle.stim_read.specs.CycleText.{Entry, Words, Cycles}
+use Rattle.stim_read.specs.Rules.{Rule, rule, rule_of_starts, EntriesKeepRules, FirstBroken}
 use Rattle.stim_read.specs.declared.given.Given.{Given}
-use Rattle.stim_read.specs.declared.limits.TheConstants.{MOST_TRANSACTIONS, MOST_CYCLES}
+use Rattle.hw_limits.specs.declared.limits.TheConstants.{MOST_TRANSACTIONS, MOST_CYCLES}
 use Rattle.stim_read.specs.declared.stim_end.StimEnd.{StimEnd}
-use Rattle.stim_read.specs.declared.stim_end.StimEnd.TheVariants.{Refused, Limit}
+use Rattle.stim_read.specs.declared.stim_end.StimEnd.TheVariants.{Limit}
 
 -- what may get values: names, with the widths of the values in bits
 pub record Targets : Type 0 where
@@ -43,56 +44,69 @@ has_known_name names g = is_one_of names g.name
 abbrev pub given_fits : Targets → Given → Bool
 given_fits targets g = fits_width (width_of targets g.name) g.value
 
--- this rule is broken in this entry
-abbrev pub refused : ℕ → ℕ → StimEnd
-refused rule entry = Refused rule entry 0 0 0
+-- ---- an entry of inputs
 
--- the first of two
-abbrev pub first_fault : Option StimEnd → Option StimEnd → Option StimEnd
-first_fault (Some fault) later = Some fault
-first_fault None later = later
+-- S3: each name is an input
+abbrev pub has_known_inputs : Targets → Entry → Bool
+has_known_inputs inputs entry = list_all (has_known_name inputs.names) entry.given
 
--- the end, where the rule is broken
-abbrev pub unless : Bool → StimEnd → Option StimEnd
-unless kept fault = if kept then None else Some fault
+-- S4: each value fits its input
+abbrev pub has_fitting_values : Targets → Entry → Bool
+has_fitting_values inputs entry = list_all (given_fits inputs) entry.given
 
--- S5: an entry's `from` is above the one before
-abbrev pub order_fault : Option ℕ → ℕ → ℕ → Option StimEnd
-order_fault None entry from = None
-order_fault (Some before) entry from = unless (nat_lt before from) (Refused 5 entry before from 1)
+-- S5: its rows begin after those of the entry before, if there is one
+abbrev pub begins_after : Option Entry → Entry → Rule
+begins_after None entry = rule 5 true
+begins_after (Some before) entry = rule_of_starts before.from entry.from 1 (nat_lt before.from entry.from)
 
--- S3, S4 and S5 in an entry of inputs, whose number is counted from 0
-abbrev pub input_fault : Targets → Option ℕ → ℕ → Entry → Option StimEnd
-input_fault targets before number entry =
-    first_fault (unless (list_all (has_known_name targets.names) entry.given) (refused 3 number)) (
-    first_fault (unless (list_all (given_fits targets) entry.given) (refused 4 number)) (order_fault before number entry.from))
+-- the rules at an entry of inputs after the earlier entries
+abbrev pub input_rules : Targets → List Entry → Entry → List Rule
+input_rules inputs earlier entry =
+    rule 3 (has_known_inputs inputs entry) ∷ rule 4 (has_fitting_values inputs entry) ∷ begins_after (last_or None earlier) entry ∷ []
 
-abbrev pub inputs_fault : Targets → Option ℕ → ℕ → List Entry → Option StimEnd
-inputs_fault targets before number [] = None
-inputs_fault targets before number (entry ∷ others) =
-    first_fault (input_fault targets before number entry) (inputs_fault targets (Some entry.from) (number + 1) others)
+-- ---- a memory, which is an entry too
 
--- S3, S7 and S4 in a memory, which is an entry too
-abbrev pub memory_fault : Targets → List ℕ → ℕ → Words → Option StimEnd
-memory_fault targets sizes number memory =
-    first_fault (unless (is_one_of targets.names memory.name) (refused 3 number)) (
-    first_fault (unless (nat_le (length memory.words) (slice_index sizes (place_in targets.names memory.name))) (refused 7 number)) (
-    unless (list_all (fits_width (width_of targets memory.name)) memory.words) (refused 4 number)))
+-- S3: there is a memory of this name
+abbrev pub is_known_memory : Targets → Words → Bool
+is_known_memory memories m = is_one_of memories.names m.name
 
-abbrev pub memories_fault : Targets → List ℕ → ℕ → List Words → Option StimEnd
-memories_fault targets sizes number [] = None
-memories_fault targets sizes number (memory ∷ others) =
-    first_fault (memory_fault targets sizes number memory) (memories_fault targets sizes (number + 1) others)
+-- S7: it has as many words
+abbrev pub has_room : Targets → List ℕ → Words → Bool
+has_room memories sizes m = nat_le (length m.words) (slice_index sizes (place_in memories.names m.name))
 
--- the limits on the entries of inputs and on the rows
-abbrev pub limit_fault : Cycles → Option StimEnd
-limit_fault c =
-    first_fault (unless (nat_le (length c.inputs) MOST_TRANSACTIONS) (Limit (length c.inputs) MOST_TRANSACTIONS false))
-    (unless (nat_le c.cycles MOST_CYCLES) (Limit c.cycles MOST_CYCLES true))
+-- S4: each word fits its width
+abbrev pub has_fitting_words : Targets → Words → Bool
+has_fitting_words memories m = list_all (fits_width (width_of memories m.name)) m.words
 
--- the first limit or rule that a stimulus does not keep; memories are counted on after the inputs
-abbrev pub cycles_fault : List InputShape → List MemShape → Cycles → Option StimEnd
-cycles_fault ins mems c =
-    first_fault (limit_fault c) (
-    first_fault (inputs_fault (input_targets ins) None 0 c.inputs)
-    (memories_fault (memory_targets mems) (sizes_of mems) (length c.inputs) c.memories))
+-- the rules at a memory, whatever the earlier ones are
+abbrev pub memory_rules : Targets → List ℕ → List Words → Words → List Rule
+memory_rules memories sizes earlier m =
+    rule 3 (is_known_memory memories m) ∷ rule 7 (has_room memories sizes m) ∷ rule 4 (has_fitting_words memories m) ∷ []
+
+-- ---- a stimulus
+
+-- there are no more entries of inputs, and no more rows, than the limits
+pub record KeepsLimits (c : Cycles) : Type 0 where
+  pub entries : length c.inputs ≤ MOST_TRANSACTIONS
+  pub rows : c.cycles ≤ MOST_CYCLES
+
+abbrev pub InputsKeepRules : List InputShape → Cycles → Type 0
+InputsKeepRules ins c = EntriesKeepRules (input_rules (input_targets ins)) c.inputs
+
+abbrev pub MemoriesKeepRules : List MemShape → Cycles → Type 0
+MemoriesKeepRules mems c = EntriesKeepRules (memory_rules (memory_targets mems) (sizes_of mems)) c.memories
+
+-- a stimulus keeps the limits and the rules
+pub record KeepsRules (ins : List InputShape) (mems : List MemShape) (c : Cycles) : Type 0 where
+  pub limits : KeepsLimits c
+  pub inputs : InputsKeepRules ins c
+  pub memories : MemoriesKeepRules mems c
+
+-- this end tells the first limit or rule that a stimulus does not keep; memories are numbered on after the entries of inputs
+pub data BreaksFirst (ins : List InputShape) (mems : List MemShape) (c : Cycles) : StimEnd → Type 0 where
+  Entries : MOST_TRANSACTIONS < length c.inputs → BreaksFirst ins mems c (Limit (length c.inputs) MOST_TRANSACTIONS false)
+  Rows : length c.inputs ≤ MOST_TRANSACTIONS → MOST_CYCLES < c.cycles → BreaksFirst ins mems c (Limit c.cycles MOST_CYCLES true)
+  InInputs : (end : StimEnd) → KeepsLimits c → FirstBroken (input_rules (input_targets ins)) c.inputs 0 end → BreaksFirst ins mems c end
+  InMemories :
+      (end : StimEnd) → KeepsLimits c → InputsKeepRules ins c →
+      FirstBroken (memory_rules (memory_targets mems) (sizes_of mems)) c.memories (length c.inputs) end → BreaksFirst ins mems c end

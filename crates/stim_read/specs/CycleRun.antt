@@ -1,19 +1,20 @@
 -- What a stimulus of cycles gives to a run, and why it gives nothing. This project's.
-use Rattle.std.specs.Prelude.{◌≡◌, ℕ, List, map, flat_map, Option, Some, None, Result, Ok, Err}
+use Rattle.std.specs.Prelude.{◌≡◌, ℕ, List, map, flat_map, Some, None}
 use Rattle.std.specs.Str.{IsUtf8}
 use Rattle.hw_bits.specs.Values.{values_of, widths_of}
 use Rattle.serde_json.specs.Data.{Data}
 use Rattle.serde_json.specs.Read.{read}
-use Rattle.stim_read.specs.declared.shape.InputShape.{InputShape}
+use Rattle.net_core.specs.declared.stimulus.InputShape.{InputShape}
 use Rattle.net_core.specs.declared.stimulus.CycleList.{CycleList}
 use Rattle.net_core.specs.declared.stimulus.InputSet.{InputSet}
 use Rattle.net_core.specs.declared.stimulus.MemLoad.{MemLoad}
 use Rattle.net_core.specs.declared.stimulus.MemShape.{MemShape}
 use Rattle.stim_read.specs.CycleText.{Entry, Words, Cycles, cycles_in}
-use Rattle.stim_read.specs.CycleRules.{Targets, input_targets, memory_targets, place_in, width_of, cycles_fault, refused}
+use Rattle.stim_read.specs.Rules.{refused}
+use Rattle.stim_read.specs.CycleRules.{Targets, input_targets, memory_targets, place_in, width_of, KeepsRules, BreaksFirst}
 use Rattle.stim_read.specs.declared.given.Given.{Given}
 use Rattle.stim_read.specs.declared.stim_end.StimEnd.{StimEnd}
-use Rattle.stim_read.specs.declared.stim_end.StimEnd.TheVariants.{Refused, Limit, Memory}
+use Rattle.stim_read.specs.declared.stim_end.StimEnd.TheVariants.{Memory}
 
 -- from this row on, the input at this place has this value of this width
 pub record Setting : Type 0 where
@@ -82,7 +83,7 @@ pub record SayCycles (bytes : List ℕ) (c : Cycles) : Type 0 where
 pub record GiveRun (bytes : List ℕ) (ins : List InputShape) (mems : List MemShape) (run : Run) : Type 0 where
   pub stimulus : Cycles
   pub said : SayCycles bytes stimulus
-  pub kept : cycles_fault ins mems stimulus ≡ None
+  pub kept : KeepsRules ins mems stimulus
   pub gives : run ≡ run_of ins mems stimulus
 
 -- the cause for which the bytes are no JSON value
@@ -95,17 +96,7 @@ pub data IsUnsaid (bytes : List ℕ) : StimEnd → Type 0 where
   NoValue : (end : StimEnd) → IsNoJson bytes end → IsUnsaid bytes end
   ByS2 : (value : Data) → IsJson bytes value → cycles_in value ≡ None → IsUnsaid bytes (refused 2 0)
 
--- what an answer tells of the first fault
-abbrev pub IsTold : StimEnd → Option StimEnd → Type 0
-IsTold (Refused rule entry first second delay) fault = fault ≡ Some (Refused rule entry first second delay)
-IsTold (Limit count limit cycles) fault = fault ≡ Some (Limit count limit cycles)
-IsTold Memory fault = Unit {0}
-
-abbrev pub Tells : {T : Type 0} → Result T StimEnd → Option StimEnd → Type 0
-Tells (Ok x) fault = fault ≡ None
-Tells (Err end) fault = IsTold end fault
-
 -- the cause for which the bytes give no run
 pub data IsCause (bytes : List ℕ) (ins : List InputShape) (mems : List MemShape) : StimEnd → Type 0 where
   NoStimulus : (end : StimEnd) → IsUnsaid bytes end → IsCause bytes ins mems end
-  ByRule : (c : Cycles) (end : StimEnd) → SayCycles bytes c → IsTold end (cycles_fault ins mems c) → IsCause bytes ins mems end
+  ByRule : (c : Cycles) (end : StimEnd) → SayCycles bytes c → BreaksFirst ins mems c end → IsCause bytes ins mems end

@@ -4,7 +4,7 @@ use Rattle.std.specs.List.Sorted.{IsNonDecreasingBy}
 use Rattle.hw_bits.specs.Values.{widths_of}
 use Rattle.fil_ast.specs.Signature.{Fixed, SigEvent, Signature}
 use Rattle.fil_ast.specs.declared.tx.Tx.{Tx}
-use Rattle.stim_read.specs.declared.shape.InputShape.{InputShape}
+use Rattle.net_core.specs.declared.stimulus.InputShape.{InputShape}
 use Rattle.net_core.specs.declared.stimulus.CycleList.{CycleList}
 use Rattle.net_core.specs.declared.stimulus.InputSet.{InputSet}
 use Rattle.net_core.specs.declared.stimulus.MemLoad.{MemLoad}
@@ -12,7 +12,7 @@ use Rattle.net_core.specs.declared.stimulus.MemShape.{MemShape}
 use Rattle.stim_read.specs.CycleRules.{input_targets}
 use Rattle.stim_read.specs.TxEvents.{ports_after, port_targets}
 use Rattle.stim_read.specs.TxRun.{Transaction}
-use Rattle.stim_read.specs.declared.limits.TheConstants.{MOST_CYCLES}
+use Rattle.hw_limits.specs.declared.limits.TheConstants.{MOST_CYCLES}
 
 -- one of these inputs, by its place, is set to a value of that input's width
 abbrev pub SetsInput : List InputShape → InputSet → Type 0

@@ -3,6 +3,7 @@ pub use Rattle.fil_ast.specs.Signature
 pub mod Parts
 pub mod Amounts
 pub mod CycleText
+pub mod Rules
 pub mod CycleRules
 pub mod CycleRun
 pub mod TxText

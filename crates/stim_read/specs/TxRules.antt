@@ -1,15 +1,15 @@
--- The rules that transactions keep, and the first that they break. This project's.
-use Rattle.std.specs.Prelude.{ℕ, ◌+◌, ◌*◌, ◌&&◌, ◌==◌, nat_le, is_some, map, List, [], ◌∷◌, true, Bool, Option, Some, None, flat_map, slice_get, if◌then◌else◌}
-use Rattle.std.specs.List.{list_all, range_with_len}
+-- The rules at the starts of a stimulus of transactions. This project's.
+use Rattle.std.specs.Prelude.{ℕ, ◌+◌, ◌*◌, ◌&&◌, ◌==◌, nat_le, Bool, true, false, if◌then◌else◌, is_some, Option, Some, None}
+use Rattle.std.specs.Prelude.{List, [], ◌∷◌, map, flat_map, slice_get}
+use Rattle.std.specs.List.{list_all, range_with_len, filter, last_or}
 use Rattle.std.specs.Option.{unwrap_or}
 use Rattle.std.specs.Str.{bytes_eq}
 use Rattle.hw_names.specs.Name.{Text}
-use Rattle.stim_read.specs.CycleRules.{Targets, has_known_name, fits_width, place_in, refused, first_fault, unless}
+use Rattle.stim_read.specs.Rules.{Rule, rule, rule_of_starts}
+use Rattle.stim_read.specs.CycleRules.{Targets, has_known_name, fits_width, place_in}
 use Rattle.stim_read.specs.TxText.{Starts}
 use Rattle.stim_read.specs.TxEvents.{Event, EventList}
 use Rattle.stim_read.specs.declared.given.Given.{Given}
-use Rattle.stim_read.specs.declared.stim_end.StimEnd.{StimEnd}
-use Rattle.stim_read.specs.declared.stim_end.StimEnd.TheVariants.{Refused}
 use Rattle.stim_read.specs.declared.tx_text.EventName.{EventName}
 use Rattle.stim_read.specs.declared.tx_text.EventName.TheVariants.{First, Named}
 
@@ -61,31 +61,47 @@ all_fit [] values = true
 all_fit (width ∷ widths) [] = true
 all_fit (width ∷ widths) (value ∷ values) = fits_width width value && all_fit widths values
 
--- S3, S6 and S4: each name is an input, each input has a value, and the values fit the inputs' widths
-abbrev pub values_fault : Targets → ℕ → List Given → Option StimEnd
-values_fault inputs number given =
-    first_fault (unless (list_all (has_known_name inputs.names) given) (refused 3 number)) (
-    first_fault (unless (list_all (is_given given) inputs.names) (refused 6 number))
-    (unless (all_fit inputs.widths (map (value_or_0 given) inputs.names)) (refused 4 number)))
+-- what may get values at a start
+abbrev pub inputs_of : Option Event → Targets
+inputs_of None = record { names = []; widths = [] }
+inputs_of (Some event) = event.inputs
 
--- the last start of the event with this number among the earlier ones, of which the latest stands first
-abbrev pub last_start : List Text → ℕ → List Start → Option ℕ
-last_start names event [] = None
-last_start names event (s ∷ earlier) = if event_number names s.event == event then Some s.start else last_start names event earlier
+abbrev pub delay_of : Option Event → ℕ
+delay_of None = 0
+delay_of (Some event) = event.delay
 
--- S5: a start is at least its event's delay after the one before
-abbrev pub start_fault : Option ℕ → ℕ → ℕ → ℕ → Option StimEnd
-start_fault None number delay start = None
-start_fault (Some before) number delay start = unless (nat_le (before + delay) start) (Refused 5 number before start delay)
+-- S3: there is such an event, and each name is one of its inputs
+abbrev pub has_known_names : Option Event → Start → Bool
+has_known_names None s = false
+has_known_names (Some event) s = list_all (has_known_name event.inputs.names) s.given
 
--- S3, S6, S4 and S5 at a start, whose number is counted from 0
-abbrev pub event_fault : Option Event → Option ℕ → ℕ → Start → Option StimEnd
-event_fault None before number s = Some (refused 3 number)
-event_fault (Some event) before number s = first_fault (values_fault event.inputs number s.given) (start_fault before number event.delay s.start)
+-- S6: each of these inputs has a value
+abbrev pub has_all_values : Targets → Start → Bool
+has_all_values inputs s = list_all (is_given s.given) inputs.names
 
-abbrev pub tx_fault : EventList → List Start → ℕ → Start → Option StimEnd
-tx_fault events earlier number s = event_fault (event_by events s.event) (last_start events.names (event_number events.names s.event) earlier) number s
+-- S4: the values fit the inputs' widths
+abbrev pub values_fit : Targets → Start → Bool
+values_fit inputs s = all_fit inputs.widths (map (value_or_0 s.given) inputs.names)
 
-abbrev pub txs_fault : EventList → List Start → ℕ → List Start → Option StimEnd
-txs_fault events earlier number [] = None
-txs_fault events earlier number (s ∷ later) = first_fault (tx_fault events earlier number s) (txs_fault events (s ∷ earlier) (number + 1) later)
+-- S5: a start is at least the delay after the one before, if there is one
+abbrev pub starts_after : Option Start → ℕ → Start → Rule
+starts_after None delay s = rule 5 true
+starts_after (Some before) delay s = rule_of_starts before.start s.start delay (nat_le (before.start + delay) s.start)
+
+-- it starts the event with this number
+abbrev pub is_of : List Text → ℕ → Start → Bool
+is_of names event s = event_number names s.event == event
+
+-- the last start of the event with this number
+abbrev pub last_of : List Text → ℕ → List Start → Option Start
+last_of names event starts = last_or None (filter (is_of names event) starts)
+
+-- the rules at a start of this event, if there is one, after the event's last start before it
+abbrev pub rules_of : Option Event → Option Start → Start → List Rule
+rules_of event before s =
+    rule 3 (has_known_names event s) ∷ rule 6 (has_all_values (inputs_of event) s) ∷ rule 4 (values_fit (inputs_of event) s)
+    ∷ starts_after before (delay_of event) s ∷ []
+
+-- the rules at a start after the earlier starts
+abbrev pub start_rules : EventList → List Start → Start → List Rule
+start_rules events earlier s = rules_of (event_by events s.event) (last_of events.names (event_number events.names s.event) earlier) s

@@ -1,16 +1,16 @@
 -- What a stimulus of transactions gives to a component, and why it gives nothing. This project's.
-use Rattle.std.specs.Prelude.{◌≡◌, ℕ, ◌+◌, ◌-◌, ◌^◌, nat_le, min, max, List, [], map, true, false, Option, Some, None, slice_get}
+use Rattle.std.specs.Prelude.{◌≡◌, ℕ, ◌+◌, ◌-◌, ◌^◌, ◌<◌, ◌≤◌, min, max, List, map, true, false, Option, Some, None, slice_get}
 use Rattle.std.specs.List.{fold, sum_by}
 use Rattle.hw_bits.specs.Values.{values_of, widths_of}
 use Rattle.serde_json.specs.Data.{Data}
 use Rattle.fil_ast.specs.declared.tx.Tx.{Tx}
 use Rattle.fil_ast.specs.declared.tx.TxList.{TxList}
-use Rattle.stim_read.specs.CycleRules.{Targets, refused, first_fault, unless}
-use Rattle.stim_read.specs.CycleRun.{IsJson, IsNoJson, IsTold}
+use Rattle.stim_read.specs.Rules.{refused, EntryKeepsRules, EntriesKeepRules, FirstBroken}
+use Rattle.stim_read.specs.CycleRun.{IsJson, IsNoJson}
 use Rattle.stim_read.specs.TxText.{Starts, Transactions, transactions_in}
 use Rattle.stim_read.specs.TxEvents.{Event, EventList}
-use Rattle.stim_read.specs.TxRules.{Start, starts_in, event_number, event_by, value_or_0, txs_fault}
-use Rattle.stim_read.specs.declared.limits.TheConstants.{MOST_TRANSACTIONS, MOST_CYCLES}
+use Rattle.stim_read.specs.TxRules.{Start, starts_in, event_number, event_by, value_or_0, inputs_of, start_rules}
+use Rattle.hw_limits.specs.declared.limits.TheConstants.{MOST_TRANSACTIONS, MOST_CYCLES}
 use Rattle.stim_read.specs.declared.stim_end.StimEnd.{StimEnd}
 use Rattle.stim_read.specs.declared.stim_end.StimEnd.TheVariants.{Limit}
 
@@ -24,10 +24,6 @@ pub record Transaction : Type 0 where
 pub record TxRun : Type 0 where
   pub transactions : List Transaction
   pub idle : ℕ
-
-abbrev pub inputs_of : Option Event → Targets
-inputs_of None = record { names = []; widths = [] }
-inputs_of (Some event) = event.inputs
 
 abbrev pub transaction_of : EventList → Start → Transaction
 transaction_of events s =
@@ -63,18 +59,34 @@ end_row events t = t.start + end_of (slice_get events t.event)
 abbrev pub run_rows : List Event → List Transaction → ℕ
 run_rows events transactions = saturated (fold (λ n t. max n (end_row events t)) 0 transactions)
 
-abbrev pub count_fault : ℕ → Option StimEnd
-count_fault count = unless (nat_le count MOST_TRANSACTIONS) (Limit count MOST_TRANSACTIONS false)
+-- ---- a stimulus
 
-abbrev pub rows_fault : ℕ → Option StimEnd
-rows_fault rows = unless (nat_le rows MOST_CYCLES) (Limit rows MOST_CYCLES true)
+-- the start with this number, counted from 0, keeps the rules
+abbrev pub StartKeepsRules : EventList → Transactions → ℕ → Type 0
+StartKeepsRules events t k = EntryKeepsRules (start_rules events) (starts_in t.entries) k
 
--- the first limit or rule that a stimulus does not keep: the number of transactions, S3 to S6, and the number of rows
-abbrev pub transactions_fault : EventList → Transactions → Option StimEnd
-transactions_fault events t =
-    first_fault (count_fault (count_of t.entries)) (
-    first_fault (txs_fault events [] 0 (starts_in t.entries)) (
-    rows_fault (run_rows events.events (tx_run_of events t).transactions)))
+abbrev pub StartsKeepRules : EventList → Transactions → Type 0
+StartsKeepRules events t = EntriesKeepRules (start_rules events) (starts_in t.entries)
+
+-- how many rows a run of a stimulus's transactions has
+abbrev pub rows_of_run : EventList → Transactions → ℕ
+rows_of_run events t = run_rows events.events (tx_run_of events t).transactions
+
+-- a stimulus keeps the limits and the rules
+pub record KeepsTxRules (events : EventList) (t : Transactions) : Type 0 where
+  pub count : count_of t.entries ≤ MOST_TRANSACTIONS
+  pub starts : StartsKeepRules events t
+  pub rows : rows_of_run events t ≤ MOST_CYCLES
+
+-- this end tells the first limit or rule that a stimulus does not keep: the number of transactions, S3 to S6 start by start, and the number of rows
+pub data BreaksFirstTx (events : EventList) (t : Transactions) : StimEnd → Type 0 where
+  Count : MOST_TRANSACTIONS < count_of t.entries → BreaksFirstTx events t (Limit (count_of t.entries) MOST_TRANSACTIONS false)
+  AtStart :
+      (end : StimEnd) → count_of t.entries ≤ MOST_TRANSACTIONS → FirstBroken (start_rules events) (starts_in t.entries) 0 end →
+      BreaksFirstTx events t end
+  Rows :
+      count_of t.entries ≤ MOST_TRANSACTIONS → StartsKeepRules events t → MOST_CYCLES < rows_of_run events t →
+      BreaksFirstTx events t (Limit (rows_of_run events t) MOST_CYCLES true)
 
 -- ---- the same as the program holds it
 
@@ -96,7 +108,7 @@ pub record SayTransactions (bytes : List ℕ) (t : Transactions) : Type 0 where
 pub record GiveTransactions (bytes : List ℕ) (events : EventList) (run : TxRun) : Type 0 where
   pub stimulus : Transactions
   pub said : SayTransactions bytes stimulus
-  pub kept : transactions_fault events stimulus ≡ None
+  pub kept : KeepsTxRules events stimulus
   pub gives : run ≡ tx_run_of events stimulus
 
 -- the cause for which the bytes say no transactions
@@ -107,4 +119,4 @@ pub data IsNoTransactions (bytes : List ℕ) : StimEnd → Type 0 where
 -- the cause for which the bytes give no transactions
 pub data IsTxCause (bytes : List ℕ) (events : EventList) : StimEnd → Type 0 where
   NoTransactions : (end : StimEnd) → IsNoTransactions bytes end → IsTxCause bytes events end
-  BrokenRule : (t : Transactions) (end : StimEnd) → SayTransactions bytes t → IsTold end (transactions_fault events t) → IsTxCause bytes events end
+  BrokenRule : (t : Transactions) (end : StimEnd) → SayTransactions bytes t → BreaksFirstTx events t end → IsTxCause bytes events end

@@ -1,2 +1,4 @@
 -- What only the functions inside the crate are specified by.
+pub mod Walk
+pub mod CycleWalk
 pub mod TxWalk

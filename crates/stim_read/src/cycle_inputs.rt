@@ -3,19 +3,20 @@ ghost use Rattle.std.specs.Prelude.{◌≡◌, ◌<◌, ◌≤◌, ◌++◌, [],
 ghost use Rattle.std.specs.List.{list_all};
 ghost use Rattle.hw_bits.specs.declared.bits.TheConstants.{MAX_WIDTH};
 ghost use Rattle.hw_names.specs.Name.{AreDistinct};
-ghost use Rattle.stim_read.specs.declared.shape.InputShape.{InputShape};
+ghost use Rattle.net_core.specs.declared.stimulus.InputShape.{InputShape};
 ghost use Rattle.stim_read.specs.CycleText.{entry_seen};
-ghost use Rattle.stim_read.specs.CycleRules.{input_targets, has_known_name, given_fits, order_fault, input_fault, inputs_fault};
-ghost use Rattle.stim_read.specs.CycleRun.{setting_of, settings_of, setting_seen, Tells};
+ghost use Rattle.stim_read.specs.CycleRules.{input_targets, has_known_name, given_fits};
+ghost use Rattle.stim_read.specs.CycleRun.{setting_of, settings_of, setting_seen};
+ghost use Rattle.stim_read.specs.inside.CycleWalk.{order_fault, input_fault, inputs_fault};
+ghost use Rattle.stim_read.specs.inside.Walk.{Tells};
 
 use crate::cycle_text::InputEntry;
 use crate::given::Given;
 use crate::places::{input_names, place};
-use crate::shape::InputShape;
 use crate::stim_end::{StimEnd, refused};
 use hw_bits::{Bits, Memory};
 use hw_names::Names;
-use net_core::InputSet;
+use net_core::{InputSet, InputShape};
 use std::alloc::Global;
 
 /// Whether each of these names is known.

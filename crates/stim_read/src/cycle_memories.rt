@@ -5,8 +5,10 @@ ghost use Rattle.hw_bits.specs.declared.bits.TheConstants.{MAX_WIDTH};
 ghost use Rattle.hw_bits.specs.Values.{values_of, widths_of};
 ghost use Rattle.hw_names.specs.Name.{AreDistinct};
 ghost use Rattle.stim_read.specs.CycleText.{words_seen};
-ghost use Rattle.stim_read.specs.CycleRules.{memory_targets, sizes_of, fits_width, memory_fault, memories_fault};
-ghost use Rattle.stim_read.specs.CycleRun.{load_of, load_seen, Tells};
+ghost use Rattle.stim_read.specs.CycleRules.{memory_targets, sizes_of, fits_width};
+ghost use Rattle.stim_read.specs.CycleRun.{load_of, load_seen};
+ghost use Rattle.stim_read.specs.inside.CycleWalk.{memory_fault, memories_fault};
+ghost use Rattle.stim_read.specs.inside.Walk.{Tells};
 ghost use Rattle.net_core.specs.declared.stimulus.MemShape.{MemShape};
 
 use crate::cycle_text::MemoryWords;

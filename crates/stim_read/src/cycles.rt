@@ -2,21 +2,22 @@
 ghost use Rattle.std.specs.Prelude.{◌≡◌, ◌≤◌, Some, None, map, All, IfOk, IfErr, MatchResult};
 ghost use Rattle.hw_bits.specs.declared.bits.TheConstants.{MAX_WIDTH};
 ghost use Rattle.hw_names.specs.Name.{AreDistinct};
-ghost use Rattle.stim_read.specs.declared.shape.InputShape.{InputShape};
+ghost use Rattle.net_core.specs.declared.stimulus.InputShape.{InputShape};
 ghost use Rattle.net_core.specs.declared.stimulus.MemShape.{MemShape};
 ghost use Rattle.serde_json.specs.View.{view};
 ghost use Rattle.stim_read.specs.CycleText.{cycles_seen};
-ghost use Rattle.stim_read.specs.CycleRules.{input_targets, memory_targets, limit_fault, cycles_fault};
-ghost use Rattle.stim_read.specs.CycleRun.{run_of, run_seen, IsJson, SayCycles, GiveRun, IsCause, IsNoJson, IsUnsaid, Tells};
+ghost use Rattle.stim_read.specs.CycleRules.{input_targets, memory_targets};
+ghost use Rattle.stim_read.specs.CycleRun.{run_of, run_seen, IsJson, SayCycles, GiveRun, IsCause, IsNoJson, IsUnsaid};
+ghost use Rattle.stim_read.specs.inside.CycleWalk.{limit_fault, cycles_fault};
+ghost use Rattle.stim_read.specs.inside.Walk.{Tells};
 ghost use Rattle.stim_read.specs.Fits.{FitsRun};
 
 use crate::cycle_inputs::settings;
 use crate::cycle_memories::loads;
 use crate::cycle_text::{CycleText, read_cycle_text};
-use crate::limits::{MOST_CYCLES, MOST_TRANSACTIONS};
-use crate::shape::InputShape;
 use crate::stim_end::{StimEnd, refused};
-use net_core::{CycleList, MemShape};
+use hw_limits::{MOST_CYCLES, MOST_TRANSACTIONS};
+use net_core::{CycleList, InputShape, MemShape};
 use serde_json::Value;
 use std::alloc::Global;
 

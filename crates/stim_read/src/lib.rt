@@ -1,8 +1,8 @@
 //! Stimuli: what drives a run, as JSON says it.
 //!
-//! In: the bytes of a stimulus, and what it may speak of: the inputs and the observable memories of a netlist (`InputShape`,
-//! `MemShape`), or the signature of a Filament component. Out: what a run is given (`CycleList`, `TxList`), or why there is none
-//! (`StimEnd`): the first of the rules S1 to S7 that is broken, with its entry, or the limit that is passed.
+//! In: the bytes of a stimulus, and what it may speak of: the inputs and the observable memories of a netlist, or the signature
+//! of a Filament component. Out: what a run is given (`CycleList`, `TxList`), or why there is none (`StimEnd`): the first of the
+//! rules S1 to S7 that is broken, with its entry, or the limit that is passed.
 //!
 //!     { "version": 1, "cycles": 6,                            6 cycles
 //!       "inputs": [{"from": 1, "set": {"at": 1}},             from row 1 on  at = 1
@@ -29,9 +29,7 @@ mod cycle_text;
 mod cycles;
 mod events;
 mod given;
-mod limits;
 mod places;
-mod shape;
 mod stim_end;
 mod tx_starts;
 mod tx_text;
@@ -39,7 +37,5 @@ mod tx_values;
 mod txs;
 
 pub use cycles::read_cycles;
-pub use limits::{MOST_CYCLES, MOST_TRANSACTIONS};
-pub use shape::InputShape;
 pub use stim_end::StimEnd;
 pub use txs::{read_txs, run_rows_of};

@@ -4,11 +4,10 @@ ghost use Rattle.hw_names.specs.Name.{AreDistinct};
 ghost use Rattle.stim_read.specs.Parts.{is_one_of};
 ghost use Rattle.stim_read.specs.CycleRules.{input_targets, memory_targets, place_in};
 
-use crate::shape::InputShape;
 use fil_sig::add_name;
 use hw_bits::Memory;
 use hw_names::Names;
-use net_core::MemShape;
+use net_core::{InputShape, MemShape};
 use std::alloc::Global;
 
 /// The names of inputs, which differ.

@@ -1,6 +1,6 @@
 //! Why a stimulus gives no run.
 ghost use Rattle.std.specs.Prelude.{◌≡◌};
-ghost use Rattle.stim_read.specs.CycleRules.{refused};
+ghost use Rattle.stim_read.specs.Rules.{refused};
 
 use hw_bits::Memory;
 use std::alloc::{AllocError, AllocFailed};

@@ -1,11 +1,10 @@
 //! The starts of an event: the rule S5, and the transactions.
 ghost use Rattle.std.specs.Prelude.{◌≡◌, ◌++◌, length, map, IfOk, OnOk};
 ghost use Rattle.hw_bits.specs.Values.{values_of, widths_of};
-ghost use Rattle.stim_read.specs.CycleRun.{Tells};
 ghost use Rattle.stim_read.specs.TxText.{tx_entry_seen};
-ghost use Rattle.stim_read.specs.TxRules.{start_fault};
 ghost use Rattle.stim_read.specs.TxRun.{Transaction, transaction_seen};
-ghost use Rattle.stim_read.specs.inside.TxWalk.{IsEntry, start_rows, starts_fault, last_after, started};
+ghost use Rattle.stim_read.specs.inside.TxWalk.{IsEntry, start_rows, starts_fault, last_after, started, start_fault};
+ghost use Rattle.stim_read.specs.inside.Walk.{Tells};
 
 use crate::stim_end::StimEnd;
 use crate::tx_text::TxEntry;

@@ -4,10 +4,10 @@ ghost use Rattle.std.specs.List.{list_all};
 ghost use Rattle.hw_bits.specs.declared.bits.TheConstants.{MAX_WIDTH};
 ghost use Rattle.hw_bits.specs.Values.{values_of, widths_of};
 ghost use Rattle.stim_read.specs.CycleRules.{has_known_name};
-ghost use Rattle.stim_read.specs.CycleRun.{Tells};
 ghost use Rattle.stim_read.specs.TxEvents.{event_seen};
-ghost use Rattle.stim_read.specs.TxRules.{value_given, value_or_0, or_0, all_fit, values_fault};
-ghost use Rattle.stim_read.specs.inside.TxWalk.{HasWidths};
+ghost use Rattle.stim_read.specs.TxRules.{value_given, value_or_0, or_0, all_fit};
+ghost use Rattle.stim_read.specs.inside.TxWalk.{HasWidths, values_fault};
+ghost use Rattle.stim_read.specs.inside.Walk.{Tells};
 
 use crate::events::EventInputs;
 use crate::given::Given;

@@ -4,17 +4,16 @@ ghost use Rattle.hw_bits.specs.declared.bits.TheConstants.{MAX_WIDTH};
 ghost use Rattle.hw_names.specs.Name.{AreDistinct};
 ghost use Rattle.fil_ast.specs.Signature.{SigPort};
 ghost use Rattle.fil_sig.specs.Seen.{seen};
-ghost use Rattle.stim_read.specs.CycleRun.{Tells};
 ghost use Rattle.stim_read.specs.TxText.{tx_entry_seen, transactions_seen};
 ghost use Rattle.stim_read.specs.TxEvents.{event_names, port_targets, events_of, event_seen, events_seen, HasFixedDelay};
-ghost use Rattle.stim_read.specs.TxRules.{starts_of, starts_in, event_number, txs_fault};
-ghost use Rattle.stim_read.specs.inside.TxWalk.{IsEntry, HasWidths, AreUsable, start_rows, last_after, last_by, entry_fault};
-ghost use Rattle.stim_read.specs.TxRun.{count_of, count_fault, end_of, run_rows, rows_fault, transaction_of, tx_run_of, transactions_fault, transaction_seen, tx_run_seen, SayTransactions, GiveTransactions, IsNoTransactions, IsTxCause};
+ghost use Rattle.stim_read.specs.TxRules.{starts_of, starts_in, event_number};
+ghost use Rattle.stim_read.specs.inside.TxWalk.{IsEntry, HasWidths, AreUsable, start_rows, last_after, last_by, entry_fault, txs_fault, count_fault, rows_fault, transactions_fault};
+ghost use Rattle.stim_read.specs.TxRun.{count_of, end_of, run_rows, transaction_of, tx_run_of, transaction_seen, tx_run_seen, SayTransactions, GiveTransactions, IsNoTransactions, IsTxCause};
+ghost use Rattle.stim_read.specs.inside.Walk.{Tells};
 ghost use Rattle.stim_read.specs.Fits.{AreLegal, FitsSignature};
 
 use crate::cycles::read_value;
 use crate::events::{EventInputs, Events};
-use crate::limits::{MOST_CYCLES, MOST_TRANSACTIONS};
 use crate::stim_end::{StimEnd, refused};
 use crate::tx_starts::push_starts;
 use crate::tx_text::{TxEntry, TxText, read_tx_text};
@@ -22,6 +21,7 @@ use crate::tx_values::input_values;
 use fil_ast::{Tx, TxList};
 use fil_sig::TimeSig;
 use hw_bits::Memory;
+use hw_limits::{MOST_CYCLES, MOST_TRANSACTIONS};
 use std::alloc::Global;
 
 /// The stimulus of transactions that a text says.

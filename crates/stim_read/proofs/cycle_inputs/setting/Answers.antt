@@ -1,6 +1,6 @@
 use Rattle.std.proofs.Common.{◌≡◌, ◌≤◌, true, false, sym, ap, subst, ◌∙◌}
 use Rattle.std.proofs.lemmas.Bool.{false≢true}
-use Rattle.stim_read.specs.declared.shape.InputShape.{InputShape}
+use Rattle.net_core.specs.declared.stimulus.InputShape.{InputShape}
 use Rattle.hw_bits.specs.declared.bits.TheConstants.{MAX_WIDTH}
 use Rattle.hw_names.specs.Name.{Text}
 use Rattle.stim_read.specs.Parts.{is_one_of}

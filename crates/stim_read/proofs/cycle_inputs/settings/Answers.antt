@@ -1,8 +1,10 @@
 use Rattle.std.proofs.Common.{◌<◌, ◌≤◌, ◌+◌, ◌++◌, Some, length, drop, map, flat_map, append_assoc, refl, sym, ap, ◌∙◌, arith}
 use Rattle.std.proofs.lemmas.List.{drop_all}
 use Rattle.stim_read.specs.CycleText.{entry_seen}
-use Rattle.stim_read.specs.CycleRules.{input_targets, input_fault, inputs_fault, first_fault}
+use Rattle.stim_read.specs.CycleRules.{input_targets}
 use Rattle.stim_read.specs.CycleRun.{settings_of, setting_seen}
+use Rattle.stim_read.specs.inside.CycleWalk.{input_fault, inputs_fault}
+use Rattle.stim_read.specs.inside.Walk.{first_fault}
 use Rattle.stim_read.proofs.FaultLemmas.{passes, told_first, told_by, inputs_cut}
 use Rattle.stim_read.proofs.WalkLemmas.{flat_cut, flat_ends}
 use Rattle.stim_read.proofs.cycle_inputs.settings.Goals as goal

@@ -1,7 +1,8 @@
 use Rattle.std.proofs.Common.{◌≡◌, ◌++◌, drop, map, None, flat_map}
 use Rattle.stim_read.specs.CycleText.{entry_seen}
-use Rattle.stim_read.specs.CycleRules.{input_targets, inputs_fault}
+use Rattle.stim_read.specs.CycleRules.{input_targets}
 use Rattle.stim_read.specs.CycleRun.{settings_of, setting_seen}
+use Rattle.stim_read.specs.inside.CycleWalk.{inputs_fault}
 use Rattle.stim_read.proofs.cycle_inputs.settings.Given as goal
 
 abbrev pub invariant-loop-number : goal.invariant-loop-number

@@ -1,8 +1,10 @@
 use Rattle.std.proofs.Common.{◌≡◌, ◌++◌, Ok, map, sym, ap, subst, ◌∙◌}
 use Rattle.std.specs.List.{list_all}
 use Rattle.stim_read.specs.CycleText.{entry_seen}
-use Rattle.stim_read.specs.CycleRules.{input_targets, has_known_name, given_fits, refused}
-use Rattle.stim_read.specs.CycleRun.{Tells, setting_of, setting_seen}
+use Rattle.stim_read.specs.CycleRules.{input_targets, has_known_name, given_fits}
+use Rattle.stim_read.specs.CycleRun.{setting_of, setting_seen}
+use Rattle.stim_read.specs.Rules.{refused}
+use Rattle.stim_read.specs.inside.Walk.{Tells}
 use Rattle.stim_read.proofs.FaultLemmas.{told_of, entry_unknown, entry_wide, entry_order, passes_memory, on_ok}
 use Rattle.stim_read.proofs.cycle_inputs.take_entry.Goals as goal
 

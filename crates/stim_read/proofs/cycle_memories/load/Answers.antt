@@ -6,7 +6,8 @@ use Rattle.hw_names.specs.Name.{Text}
 use Rattle.net_core.specs.declared.stimulus.MemShape.{MemShape}
 use Rattle.stim_read.specs.CycleText.{words_seen}
 use Rattle.stim_read.specs.Parts.{is_one_of}
-use Rattle.stim_read.specs.CycleRules.{memory_targets, sizes_of, place_in, refused, fits_width}
+use Rattle.stim_read.specs.CycleRules.{memory_targets, sizes_of, place_in, fits_width}
+use Rattle.stim_read.specs.Rules.{refused}
 use Rattle.stim_read.proofs.FaultLemmas.{told_of, memory_unknown, memory_long, memory_wide, memory_kept}
 use Rattle.stim_read.proofs.FitLemmas.{fitted_some, fitted_none, same_load}
 use Rattle.stim_read.proofs.PlaceLemmas.{place_within, field_at, all_hold}

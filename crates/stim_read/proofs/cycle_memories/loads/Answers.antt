@@ -1,8 +1,10 @@
 use Rattle.std.proofs.Common.{◌≡◌, ℕ, ◌<◌, ◌≤◌, ◌+◌, ◌++◌, ◌∷◌, [], None, length, drop, map, append_assoc, refl, sym, ap, subst, ◌∙◌, arith}
 use Rattle.std.proofs.lemmas.List.{drop_all, append-nil, map-append}
 use Rattle.stim_read.specs.CycleText.{words_seen}
-use Rattle.stim_read.specs.CycleRules.{memory_targets, sizes_of, memory_fault, memories_fault, first_fault}
-use Rattle.stim_read.specs.CycleRun.{IsTold, load_of, load_seen}
+use Rattle.stim_read.specs.CycleRules.{memory_targets, sizes_of}
+use Rattle.stim_read.specs.CycleRun.{load_of, load_seen}
+use Rattle.stim_read.specs.inside.CycleWalk.{memory_fault, memories_fault}
+use Rattle.stim_read.specs.inside.Walk.{first_fault, IsTold}
 use Rattle.stim_read.proofs.EachLemmas.{cut_at}
 use Rattle.stim_read.proofs.FaultLemmas.{passes, passes_memory, told_first, told_by, memories_cut}
 use Rattle.stim_read.proofs.FitLemmas.{number_is}

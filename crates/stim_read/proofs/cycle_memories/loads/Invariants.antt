@@ -1,7 +1,8 @@
 use Rattle.std.proofs.Common.{◌≡◌, ◌+◌, ◌++◌, drop, map}
 use Rattle.stim_read.specs.CycleText.{words_seen}
-use Rattle.stim_read.specs.CycleRules.{memory_targets, sizes_of, memories_fault}
+use Rattle.stim_read.specs.CycleRules.{memory_targets, sizes_of}
 use Rattle.stim_read.specs.CycleRun.{load_of, load_seen}
+use Rattle.stim_read.specs.inside.CycleWalk.{memories_fault}
 use Rattle.stim_read.proofs.cycle_memories.loads.Given as goal
 
 abbrev pub invariant-loop-index : goal.invariant-loop-index

@@ -1,8 +1,10 @@
 use Rattle.std.proofs.Common.{◌≡◌, ℕ, None, List, length, map, flat_map, sym, ap, subst, ◌∙◌}
 use Rattle.std.proofs.lemmas.List.{length-map}
 use Rattle.stim_read.specs.CycleText.{entry_seen, words_seen, cycles_seen}
-use Rattle.stim_read.specs.CycleRules.{input_targets, memory_targets, sizes_of, limit_fault, inputs_fault, memories_fault, first_fault}
-use Rattle.stim_read.specs.CycleRun.{IsTold, settings_of, load_of}
+use Rattle.stim_read.specs.CycleRules.{input_targets, memory_targets, sizes_of}
+use Rattle.stim_read.specs.CycleRun.{settings_of, load_of}
+use Rattle.stim_read.specs.inside.CycleWalk.{limit_fault, inputs_fault, memories_fault}
+use Rattle.stim_read.specs.inside.Walk.{first_fault, IsTold}
 use Rattle.stim_read.specs.declared.cycle_text.InputEntry.{InputEntry}
 use Rattle.stim_read.specs.declared.cycle_text.MemoryWords.{MemoryWords}
 use Rattle.stim_read.proofs.FaultLemmas.{passes, told_first, told_later, neither}

@@ -1,5 +1,5 @@
 use Rattle.std.proofs.Common.{◌<◌, length, Ok, ap, arith}
-use Rattle.stim_read.specs.declared.shape.InputShape.{InputShape}
+use Rattle.net_core.specs.declared.stimulus.InputShape.{InputShape}
 use Rattle.stim_read.proofs.PlaceLemmas.{clash, named}
 use Rattle.stim_read.proofs.places.input_names.Goals as goal
 

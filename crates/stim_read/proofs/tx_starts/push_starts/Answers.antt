@@ -4,9 +4,8 @@ use Rattle.std.proofs.lemmas.List.{append-nil, length_push}
 use Rattle.hw_bits.specs.Values.{values_of, widths_of}
 use Rattle.stim_read.specs.TxText.{tx_entry_seen}
 use Rattle.fil_ast.specs.declared.tx.Tx.{Tx}
-use Rattle.stim_read.specs.TxRules.{start_fault}
 use Rattle.stim_read.specs.TxRun.{transaction_seen}
-use Rattle.stim_read.specs.inside.TxWalk.{rows_from, starts_fault, last_after, started}
+use Rattle.stim_read.specs.inside.TxWalk.{rows_from, starts_fault, last_after, started, start_fault}
 use Rattle.stim_read.proofs.FaultLemmas.{passes}
 use Rattle.stim_read.proofs.TxStartLemmas.{rows_here, rows_end, rows_start, told_on, told_here, last_on, pushed_on, started_is}
 use Rattle.stim_read.proofs.tx_starts.push_starts.Goals as goal

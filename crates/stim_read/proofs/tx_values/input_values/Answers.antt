@@ -2,9 +2,10 @@ use Rattle.std.proofs.Common.{◌≡◌, ℕ, true, false, is_some, Vec, Global,
 use Rattle.std.specs.List.{list_all}
 use Rattle.hw_bits.specs.Values.{values_of, widths_of}
 use Rattle.hw_bits.specs.declared.bits.Bits.{Bits}
-use Rattle.stim_read.specs.CycleRules.{Targets, has_known_name, refused}
+use Rattle.stim_read.specs.CycleRules.{Targets, has_known_name}
 use Rattle.stim_read.specs.TxEvents.{event_seen}
 use Rattle.stim_read.specs.TxRules.{value_given, value_or_0, is_given, or_0, all_fit}
+use Rattle.stim_read.specs.Rules.{refused}
 use Rattle.stim_read.proofs.FaultLemmas.{told_of}
 use Rattle.stim_read.proofs.TxValueLemmas.{match_some, match_none, all_given, found_or_0, fit_as, values_missing, values_wide, values_kept}
 use Rattle.stim_read.proofs.tx_values.input_values.Goals as goal

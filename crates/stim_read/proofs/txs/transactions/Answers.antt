@@ -1,11 +1,11 @@
 use Rattle.std.proofs.Common.{◌≡◌, ℕ, ◌+◌, ◌++◌, ◌<◌, None, List, Option, length, map, drop, append_assoc, sym, ap, subst, ◌∙◌, arith}
 use Rattle.std.proofs.lemmas.List.{map-append, length-set}
-use Rattle.stim_read.specs.CycleRules.{first_fault}
 use Rattle.stim_read.specs.TxText.{tx_entry_seen}
 use Rattle.stim_read.specs.TxEvents.{events_seen}
-use Rattle.stim_read.specs.TxRules.{starts_of, starts_in, event_number, txs_fault}
+use Rattle.stim_read.specs.TxRules.{starts_of, starts_in, event_number}
 use Rattle.stim_read.specs.TxRun.{transaction_of, transaction_seen}
-use Rattle.stim_read.specs.inside.TxWalk.{IsEntry, entry_fault, last_after, last_by, start_rows}
+use Rattle.stim_read.specs.inside.TxWalk.{IsEntry, entry_fault, last_after, last_by, start_rows, txs_fault}
+use Rattle.stim_read.specs.inside.Walk.{first_fault}
 use Rattle.stim_read.proofs.FaultLemmas.{passes, told_first, told_by}
 use Rattle.stim_read.proofs.TxSaidLemmas.{mapped_hold}
 use Rattle.stim_read.proofs.TxStartLemmas.{HasLast, onto, fault_turn, event_there, last_moves, counted_after, written_back}

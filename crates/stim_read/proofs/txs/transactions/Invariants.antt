@@ -1,8 +1,9 @@
 use Rattle.std.proofs.Common.{◌≡◌, ◌++◌, [], List, length, drop, map}
 use Rattle.stim_read.specs.TxText.{tx_entry_seen}
 use Rattle.stim_read.specs.TxEvents.{events_seen}
-use Rattle.stim_read.specs.TxRules.{Start, starts_in, txs_fault}
+use Rattle.stim_read.specs.TxRules.{Start, starts_in}
 use Rattle.stim_read.specs.TxRun.{transaction_of, transaction_seen}
+use Rattle.stim_read.specs.inside.TxWalk.{txs_fault}
 use Rattle.stim_read.proofs.TxStartLemmas.{HasLast}
 use Rattle.stim_read.proofs.txs.transactions.Given as goal
 
