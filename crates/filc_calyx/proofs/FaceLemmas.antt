@@ -6,7 +6,7 @@ use Rattle.hw_names.specs.Name.{Text}
 use Rattle.hw_prims.specs.State.{State}
 use Rattle.hw_prims.specs.Table.{Pin, is_memory, pin_names, prim_of}
 use Rattle.hw_prims.specs.declared.prim.Primitive.{Primitive}
-use Rattle.stim_read.specs.declared.shape.InputShape.{InputShape}
+use Rattle.net_core.specs.declared.stimulus.InputShape.{InputShape}
 use Rattle.net_core.specs.Netlist.{CellLine, Netlist}
 use Rattle.net_core.specs.declared.stimulus.MemShape.{MemShape}
 use Rattle.net_sim.specs.Shown.{is_shown, shown_cells}

@@ -1,5 +1,5 @@
 //! The lines of a schedule, put last in a text.
-ghost use Rattle.std.specs.Prelude.{◌≡◌, ◌++◌, ◌<◌, Bool, List, OnOk, codes, decimal, flat_map, length, map};
+ghost use Rattle.std.specs.Prelude.{◌≡◌, ◌++◌, ◌<◌, Bool, List, OnOk, codes, flat_map, length, map};
 ghost use Rattle.hw_prims.specs.Row.{Row};
 ghost use Rattle.net_core.specs.Netlist.{netlist_of};
 ghost use Rattle.net_core.specs.Numbers.{HasNumbers};
@@ -10,34 +10,18 @@ ghost use Rattle.filc_calyx.specs.inside.Scheduling.{AreLabelsOf, Tells, TellsAc
 
 use cal_sched::Walker;
 use hw_bits::Memory;
-use itoa::Buffer;
+use hw_print::{put, put_number};
 use net_core::Net;
 use net_row::Sim;
-
-/// Puts more text last.
-pub(crate) fn push_text(text: &mut Vec<u8>, more: &[u8]) -> Result<(), Memory>
-    ensures { OnOk result (text.new.items ≡ text.old.items ++ more.now) }
-{
-    text.extend_from_slice(more)?;
-    Ok(())
-}
-
-/// Puts a number last, in decimal.
-pub(crate) fn push_number(text: &mut Vec<u8>, number: u128) -> Result<(), Memory>
-    ensures { OnOk result (text.new.items ≡ text.old.items ++ decimal number) }
-{
-    let mut digits = Buffer::new();
-    push_text(text, digits.format(number).as_bytes())
-}
 
 /// Puts a port with its value last.
 fn push_port(text: &mut Vec<u8>, port: &[u8], value: u128) -> Result<(), Memory>
     ensures { OnOk result (text.new.items ≡ text.old.items ++ port_text port.now value) }
 {
-    push_text(text, b" ")?;
-    push_text(text, port)?;
-    push_text(text, b"=")?;
-    push_number(text, value)
+    put(text, b" ")?;
+    put(text, port)?;
+    put(text, b"=")?;
+    put_number(text, value)
 }
 
 /// Puts the outputs of a netlist last, each with its value in the row that was evaluated.
@@ -63,7 +47,7 @@ fn push_labels(text: &mut Vec<u8>, labels: &[Vec<u8>], walker: &Walker) -> Resul
 {
     for (actor, label) in labels.iter().enumerate() {
         if walker.acts(actor) {
-            push_text(text, label)?;
+            put(text, label)?;
         }
     }
     Ok(())

@@ -10,8 +10,8 @@ ghost use Rattle.net_sim.specs.Shown.{IsShown, shown_cells};
 ghost use Rattle.net_sim.specs.Sim.{states_of};
 ghost use Rattle.filc_report.specs.Rows.{memories_text, memory_text};
 
-use crate::lines::{push_number, push_text};
 use hw_bits::Memory;
+use hw_print::{put, put_number};
 use net_core::Net;
 use net_row::Sim;
 
@@ -22,13 +22,13 @@ fn push_memory(text: &mut Vec<u8>, sim: &Sim, mem: usize, name: &[u8]) -> Result
         → OnOk result (text.new.items
         ≡ text.old.items ++ memory_text name.now (memory_words (states_of (netlist_of sim.now.net) sim.now.states cell prim))) }
 {
-    push_text(text, b"mem ")?;
-    push_text(text, name)?;
+    put(text, b"mem ")?;
+    put(text, name)?;
     for at in 0..sim.word_count(mem) {
-        push_text(text, b" ")?;
-        push_number(text, sim.word(mem, at).value())?;
+        put(text, b" ")?;
+        put_number(text, sim.word(mem, at).value())?;
     }
-    push_text(text, b"\n")
+    put(text, b"\n")
 }
 
 /// Puts the lines of the shown memories last, in the order of the cells.

@@ -16,7 +16,7 @@ ghost use Rattle.filc_calyx.specs.inside.Scheduling.{AreInputsIn, CanSchedule, I
 ghost use Rattle.filc_calyx.specs.inside.Scheduling.{Tells, Walks, WalksOver, subject_of};
 
 use crate::labels::labels_of;
-use crate::lines::{push_acting, push_number, push_outputs, push_text};
+use crate::lines::{push_acting, push_outputs};
 use crate::memories::push_memories;
 use crate::schedule::Clash;
 use cal_sched::Walker;
@@ -25,6 +25,7 @@ use filc_load::{Built, name_of};
 use filc_report::{Drive, Inputs, make_sim};
 use hw_bits::{Bits, Memory};
 use hw_names::{Names, Word};
+use hw_print::{put, put_number};
 use net_core::CycleList;
 use net_row::Sim;
 use std::alloc::Global;
@@ -112,11 +113,11 @@ impl<'net, 'top> Scheduler<'net, 'top> {
             → OnOk result (self.new.text.items ≡ self.old.text.items ++ schedule_line x.top acts cycle row) }
     {
         let built = self.built;
-        push_number(&mut self.text, u128::from(cycle))?;
+        put_number(&mut self.text, u128::from(cycle))?;
         push_outputs(&mut self.text, &self.sim, &built.net)?;
-        push_text(&mut self.text, b" |")?;
+        put(&mut self.text, b" |")?;
         push_acting(&mut self.text, &self.labels, &self.walker)?;
-        push_text(&mut self.text, b"\n")
+        put(&mut self.text, b"\n")
     }
 
     /// Evaluates a row. Where it has no Conflict, its line goes last, and the edge after it is made; else the port that is reported is told.

@@ -1,7 +1,7 @@
 -- What comes of `soak`.
 use Rattle.std.proofs.Common.{◌≡◌, ℕ, ◌≤◌, List, Option, None, Some, Result, refl, ap, arith, inl, inr}
 use Rattle.hw_names.specs.Name.{Text}
-use Rattle.stim_read.specs.declared.limits.TheConstants.{MOST_TRANSACTIONS}
+use Rattle.hw_limits.specs.declared.limits.TheConstants.{MOST_TRANSACTIONS}
 use Rattle.filc_run.specs.Soaked.{Soaks, soak_design}
 use Rattle.filc_run.specs.Traced.{IsMadeOf}
 use Rattle.filc_stop.specs.Leaving.{Leaves}

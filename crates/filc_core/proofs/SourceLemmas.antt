@@ -30,7 +30,7 @@ use Rattle.filc_stop.specs.Outcome.{Contents, Outcome}
 use Rattle.filc_stop.specs.declared.ended.Ended.{Ended}
 use Rattle.filc_stop.specs.declared.language.Language.{Language}
 use Rattle.filc_stop.specs.declared.language.Language.TheVariants.{Netlists, Filament, Calyx}
-use Rattle.filc_stop.specs.declared.limits.TheConstants.{MOST_WEIGHT, MOST_WORDS}
+use Rattle.hw_limits.specs.declared.limits.TheConstants.{MOST_WEIGHT, MOST_WORDS}
 
 -- a text that gives a netlist isn't refused
 given_not_refused : (text : Text) (n : Netlist) (ended : Ended) (line : Text) → GivesNet text n → NetFile.IsRefused text ended line → ⊥

@@ -21,8 +21,5 @@ mod top_call;
 mod words;
 
 pub use filc_report::{Drive, Inputs, RowEnd, Transactions, View, run_transactions, stream_rows};
-pub use filc_stop::{
-    Ended, MOST_FIL_BYTES, MOST_NET_BYTES, MOST_NET_NESTING, MOST_STIMULUS_BYTES, MOST_WEIGHT,
-    MOST_WORDS,
-};
+pub use filc_stop::Ended;
 pub use top_call::filc;

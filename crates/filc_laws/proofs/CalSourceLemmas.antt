@@ -13,7 +13,7 @@ use Rattle.cal_ast.specs.Tree.{Design}
 use Rattle.cal_check.specs.Weight.{IsWeight, AreWords}
 use Rattle.cal_parse.proofs.Designs.{one_tree}
 use Rattle.cal_parse.specs.Spelling.{SpellsDesign, IsNested, KeepsNesting, IsRefusedAt, is_left_out}
-use Rattle.cal_parse.specs.declared.parse.TheConstants.{MOST_NESTING}
+use Rattle.hw_limits.specs.declared.limits.TheConstants.{MOST_WEIGHT, MOST_WORDS, MOST_NESTING}
 use Rattle.filc_load.proofs.CalLemmas.{same_nesting}
 use Rattle.filc_load.specs.CalFile as causes
 use Rattle.filc_load.specs.CalFile.{GivesCal, IsRefused, IsLight, LeavesOutAt, left_out_words, first_word}
@@ -21,7 +21,6 @@ use Rattle.filc_stop.specs.Lines.{limit_line, token_line, grammar_line, left_out
 use Rattle.filc_stop.specs.declared.ended.Ended.{Ended}
 use Rattle.filc_stop.specs.declared.ended.Ended.TheVariants.{Refused, Limit}
 use Rattle.filc_stop.specs.declared.language.Language.TheVariants.{Calyx}
-use Rattle.filc_stop.specs.declared.limits.TheConstants.{MOST_WEIGHT, MOST_WORDS}
 use Rattle.filc_laws.proofs.CalCostLemmas.{cal_weight_is_one, cal_words_are_one}
 use Rattle.filc_laws.proofs.CalPlaceLemmas.{cal_place_is_one, refused_cal_spells_none}
 use Rattle.filc_laws.proofs.CalRuleLemmas.{cal_refusal_is_one, refused_cal_breaks_rules}

@@ -12,10 +12,9 @@ use Rattle.fil_ast.specs.Refusal.{IsRefusal}
 use Rattle.fil_ast.specs.Rules.{FilRules}
 use Rattle.fil_ast.specs.Tree.{Component, Design}
 use Rattle.fil_ast.specs.Weight.{told_weight}
-use Rattle.fil_ast.specs.declared.tree.TheConstants.{MOST_OFFSET}
+use Rattle.hw_limits.specs.declared.limits.TheConstants.{MOST_WEIGHT, MOST_NESTING, MOST_OFFSET}
 use Rattle.fil_parse.proofs.Designs.{one_tree}
 use Rattle.fil_parse.specs.Spelling.{SpellsDesign, IsNested, KeepsNesting, IsRefusedAt, first_large}
-use Rattle.fil_parse.specs.declared.parse.TheConstants.{MOST_NESTING}
 use Rattle.filc_load.proofs.FilLemmas.{same_nesting}
 use Rattle.filc_load.proofs.TopLemmas.{one_number}
 use Rattle.filc_load.specs.FilFile.{HasTop, GivesFil, IsRefused, HasNoTokens, NestsTooDeep, HasNoGrammar, HasLargeOffset, BreaksRule, IsTooHeavy}
@@ -23,7 +22,6 @@ use Rattle.filc_stop.specs.Lines.{limit_line, token_line, grammar_line, evidence
 use Rattle.filc_stop.specs.declared.ended.Ended.{Ended}
 use Rattle.filc_stop.specs.declared.ended.Ended.TheVariants.{Refused, Limit}
 use Rattle.filc_stop.specs.declared.language.Language.TheVariants.{Filament}
-use Rattle.filc_stop.specs.declared.limits.TheConstants.{MOST_WEIGHT}
 use Rattle.filc_laws.proofs.FilPlaceLemmas.{fil_place_is_one, refused_fil_spells_none}
 use Rattle.filc_laws.proofs.FilRuleLemmas.{fil_refusal_is_one, refused_design_breaks_rules}
 use Rattle.filc_laws.proofs.LineLemmas.{IsOne, one_of, one_broken}

@@ -14,7 +14,7 @@ use Rattle.filc_stop.specs.Lines.{limit_line, grammar_line, loop_text, rule_name
 use Rattle.filc_stop.specs.declared.ended.Ended.{Ended}
 use Rattle.filc_stop.specs.declared.ended.Ended.TheVariants.{Refused, Limit}
 use Rattle.filc_stop.specs.declared.language.Language.TheVariants.{Netlists}
-use Rattle.filc_stop.specs.declared.limits.TheConstants.{MOST_NET_NESTING, MOST_WEIGHT, MOST_WORDS}
+use Rattle.hw_limits.specs.declared.limits.TheConstants.{MOST_NET_NESTING, MOST_WEIGHT, MOST_WORDS}
 use Rattle.filc_laws.proofs.LineLemmas.{IsOne, one_of, loop_of}
 use Rattle.filc_laws.proofs.NetPlaceLemmas.{net_place_is_one}
 use Rattle.filc_laws.proofs.NetRuleLemmas.{net_rule_is_one, broken_net_is_not_valid, least_port_is_one}

@@ -8,7 +8,7 @@ use Rattle.filc_load.specs.StimulusFile.{IsRefusedBy, TooLong, BreaksRule, IsToo
 use Rattle.filc_stop.specs.Lines.{limit_line, counted_name, stimulus_line}
 use Rattle.filc_stop.specs.declared.ended.Ended.{Ended}
 use Rattle.filc_stop.specs.declared.ended.Ended.TheVariants.{Stimulus, Limit}
-use Rattle.filc_stop.specs.declared.limits.TheConstants.{MOST_STIMULUS_BYTES}
+use Rattle.hw_limits.specs.declared.limits.TheConstants.{MOST_STIMULUS_BYTES}
 use Rattle.filc_laws.proofs.CauseLemmas.{run_cause_is_one, transaction_cause_is_one}
 use Rattle.filc_laws.specs.OneStimulus.{CauseIsOne, HasNoCause, RunIsRefusedOnce, TransactionsAreRefusedOnce}
 

@@ -2,7 +2,7 @@
 use Rattle.std.specs.Prelude.{◌≡◌, List}
 use Rattle.hw_names.specs.Name.{Text}
 use Rattle.fil_ast.specs.Tree.{Component}
-use Rattle.stim_read.specs.declared.shape.InputShape.{InputShape}
+use Rattle.net_core.specs.declared.stimulus.InputShape.{InputShape}
 use Rattle.net_core.specs.Netlist.{Netlist}
 use Rattle.net_core.specs.declared.stimulus.MemShape.{MemShape}
 use Rattle.stim_read.specs.CycleRun.{Run, GiveRun, IsCause}

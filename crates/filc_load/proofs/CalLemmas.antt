@@ -32,7 +32,7 @@ use Rattle.filc_stop.specs.Lines.{limit_line, loop_text, rule_name, rule_line}
 use Rattle.filc_stop.specs.declared.ended.Ended.{Ended}
 use Rattle.filc_stop.specs.declared.ended.Ended.TheVariants.{Refused, Limit}
 use Rattle.filc_stop.specs.declared.language.Language.TheVariants.{Calyx}
-use Rattle.filc_stop.specs.declared.limits.TheConstants.{MOST_WEIGHT, MOST_WORDS}
+use Rattle.hw_limits.specs.declared.limits.TheConstants.{MOST_WEIGHT, MOST_WORDS}
 use Rattle.filc_stop.specs.declared.stop.Stop.{Stop}
 
 no_more : (R : Terminal → Terminal → Type 0) (others : List Terminal) → ArePairs R [] others → others ≡ []

@@ -33,7 +33,7 @@ use Rattle.filc_load.specs.FilFile.{GivesFil, HasTop, IsLight, IsFilTextOf, IsAc
 use Rattle.filc_stop.specs.declared.ended.Ended.{Ended}
 use Rattle.filc_stop.specs.declared.ended.Ended.TheVariants.{Refused, Limit}
 use Rattle.filc_stop.specs.declared.language.Language.TheVariants.{Filament}
-use Rattle.filc_stop.specs.declared.limits.TheConstants.{MOST_WEIGHT}
+use Rattle.hw_limits.specs.declared.limits.TheConstants.{MOST_WEIGHT}
 use Rattle.filc_stop.specs.declared.stop.Stop.{Stop}
 
 no_more : (R : Terminal → Terminal → Type 0) (others : List Terminal) → ArePairs R [] others → others ≡ []

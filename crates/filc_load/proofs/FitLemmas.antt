@@ -9,7 +9,7 @@ use Rattle.hw_names.specs.Name.{Text}
 use Rattle.hw_prims.specs.Memory.{word_count, word_width}
 use Rattle.hw_prims.specs.Table.{Pin, pin_widths}
 use Rattle.hw_prims.specs.declared.prim.Primitive.{Primitive}
-use Rattle.stim_read.specs.declared.shape.InputShape.{InputShape}
+use Rattle.net_core.specs.declared.stimulus.InputShape.{InputShape}
 use Rattle.net_core.specs.Netlist.{Netlist}
 use Rattle.net_core.specs.declared.stimulus.CycleList.{CycleList}
 use Rattle.net_core.specs.declared.stimulus.MemLoad.{MemLoad}

@@ -15,7 +15,7 @@ use Rattle.net_sim.specs.Layout.{name_of}
 use Rattle.net_sim.specs.Order.{IsLeastLoopOf}
 use Rattle.stim_read.specs.CycleRun.{run_seen}
 use Rattle.stim_read.specs.TxRun.{tx_run_seen}
-use Rattle.stim_read.specs.declared.limits.TheConstants.{MOST_CYCLES}
+use Rattle.hw_limits.specs.declared.limits.TheConstants.{MOST_CYCLES, MOST_STIMULUS_BYTES}
 use Rattle.stim_read.specs.declared.stim_end.StimEnd.{StimEnd}
 use Rattle.filc_stop.specs.Language.{most_bytes}
 use Rattle.filc_stop.specs.Lines.{limit_line, loop_text, rule_name, rule_line, stimulus_line, conflict_line}
@@ -25,7 +25,6 @@ use Rattle.filc_stop.specs.declared.ended.Ended.{Ended}
 use Rattle.filc_stop.specs.declared.ended.Ended.TheVariants.{Refused, Stimulus, Conflict, Limit}
 use Rattle.filc_stop.specs.declared.language.Language.{Language}
 use Rattle.filc_stop.specs.declared.language.Language.TheVariants.{Netlists, Filament, Calyx}
-use Rattle.filc_stop.specs.declared.limits.TheConstants.{MOST_STIMULUS_BYTES}
 use Rattle.filc_stop.specs.declared.refusal.Refusal.TheVariants as refusal
 use Rattle.filc_stop.specs.declared.stop.Stop.{Stop}
 use Rattle.filc_stop.specs.declared.stop.Stop.TheVariants as stop

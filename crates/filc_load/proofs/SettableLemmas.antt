@@ -16,7 +16,7 @@ use Rattle.hw_prims.specs.Memory.{word_width, keeps_words}
 use Rattle.hw_prims.specs.Table.{Pin, is_made, IsMade, is_memory, prim_of}
 use Rattle.hw_prims.specs.declared.prim.Primitive.{Primitive}
 use Rattle.hw_prims.specs.declared.prim.Primitive.TheVariants.{StdMemD1, StdMemD2}
-use Rattle.stim_read.specs.declared.shape.InputShape.{InputShape}
+use Rattle.net_core.specs.declared.stimulus.InputShape.{InputShape}
 use Rattle.net_core.proofs.ValidLemmas.{port_names_are_distinct, cell_names_are_distinct}
 use Rattle.net_core.specs.Netlist.{Netlist, CellLine}
 use Rattle.net_core.specs.Rules.{PortLine, ports_of, own_port, IsValid}

@@ -1,20 +1,22 @@
 -- A stimulus gives a netlist one run, or a component one list of transactions, or it is refused, not both.
-use Rattle.std.proofs.Common.{◌≡◌, ℕ, ◌≤◌, List, Option, Some, None, length, refl, sym, ap, ◌∙◌, arith}
+use Rattle.std.proofs.Common.{◌≡◌, ℕ, ◌≤◌, List, Option, Some, None, length, refl, sym, ap, subst, ◌∙◌, arith}
 use Rattle.std.proofs.lemmas.Option.{same_Some}
 use Rattle.hw_names.specs.Name.{Text}
-use Rattle.stim_read.specs.declared.shape.InputShape.{InputShape}
+use Rattle.net_core.specs.declared.stimulus.InputShape.{InputShape}
 use Rattle.net_core.specs.declared.stimulus.MemShape.{MemShape}
 use Rattle.stim_read.specs.CycleText.{Cycles, cycles_in}
-use Rattle.stim_read.specs.CycleRules.{cycles_fault}
-use Rattle.stim_read.specs.CycleRun.{Run, run_of, SayCycles, GiveRun, NoMemory, ByS1, IsUnsaid, NoValue, ByS2, IsCause, NoStimulus, ByRule, IsTold}
+use Rattle.stim_read.specs.CycleRules.{KeepsRules}
+use Rattle.stim_read.specs.CycleRun.{Run, run_of, SayCycles, GiveRun, NoMemory, ByS1, IsUnsaid, NoValue, ByS2, IsCause, NoStimulus, ByRule}
 use Rattle.stim_read.specs.TxEvents.{EventList}
 use Rattle.stim_read.specs.TxText.{Transactions, transactions_in}
-use Rattle.stim_read.specs.TxRun.{TxRun, tx_run_of, transactions_fault, SayTransactions, GiveTransactions, IsNoTransactions, NoJson, NotTransactions, IsTxCause, NoTransactions, BrokenRule}
+use Rattle.stim_read.specs.TxRun.{TxRun, tx_run_of, KeepsTxRules, SayTransactions, GiveTransactions, IsNoTransactions, NoJson, NotTransactions, IsTxCause, NoTransactions, BrokenRule}
 use Rattle.stim_read.specs.declared.stim_end.StimEnd.{StimEnd}
 use Rattle.stim_read.specs.declared.stim_end.StimEnd.TheVariants as stim
+use Rattle.stim_read.proofs.CycleRuleLemmas.{kept_unbroken}
+use Rattle.stim_read.proofs.TxRuleLemmas.{kept_tx_unbroken}
 use Rattle.filc_load.specs.StimulusFile.{IsRefusedBy, TooLong, BreaksRule, IsTooLarge}
 use Rattle.filc_stop.specs.declared.ended.Ended.{Ended}
-use Rattle.filc_stop.specs.declared.limits.TheConstants.{MOST_STIMULUS_BYTES}
+use Rattle.hw_limits.specs.declared.limits.TheConstants.{MOST_STIMULUS_BYTES}
 
 -- what is read of one text is one value, and says one thing
 said_once : {V A : Type 0} {read : Option V} (says : V → Option A) (v v' : V) (o o' : Option A) → read ≡ Some v → read ≡ Some v' → says v ≡ o → says v' ≡ o' → o ≡ o'
@@ -49,20 +51,15 @@ said_tx_end bytes t _ said (NoJson _ (ByS1 none)) = absurd (none said.value said
 said_tx_end bytes t _ said (NotTransactions value json none) =
     absurd (let e = said_once transactions_in value said.value None (Some t) json.reads said.json.reads none said.says in cc e)
 
-told_end : (end : StimEnd) (fault : Option StimEnd) → fault ≡ None → IsTold end fault → end ≡ stim.Memory
-told_end (stim.Refused rule entry first second delay) fault none told = let e : None ≡ Some (stim.Refused rule entry first second delay) = sym none ∙ told in cc e
-told_end (stim.Limit count limit cycles) fault none told = let e : None ≡ Some (stim.Limit count limit cycles) = sym none ∙ told in cc e
-told_end stim.Memory fault none told = refl
-
 pub given_end : (bytes : List ℕ) (ins : List InputShape) (mems : List MemShape) (run : Run) (end : StimEnd) → GiveRun bytes ins mems run → IsCause bytes ins mems end → end ≡ stim.Memory
 given_end bytes ins mems run _ gives (NoStimulus end unsaid) = said_end bytes gives.stimulus end gives.said unsaid
-given_end bytes ins mems run _ gives (ByRule c end said told) =
-    told_end end (cycles_fault ins mems c) (ap (cycles_fault ins mems) (one_text bytes c gives.stimulus said gives.said) ∙ gives.kept) told
+given_end bytes ins mems run _ gives (ByRule c end said breaks) =
+    absurd (kept_unbroken ins mems c end (subst (KeepsRules ins mems) (one_text bytes gives.stimulus c gives.said said) gives.kept) breaks)
 
 pub given_tx_end : (bytes : List ℕ) (events : EventList) (run : TxRun) (end : StimEnd) → GiveTransactions bytes events run → IsTxCause bytes events end → end ≡ stim.Memory
 given_tx_end bytes events run _ gives (NoTransactions end unsaid) = said_tx_end bytes gives.stimulus end gives.said unsaid
-given_tx_end bytes events run _ gives (BrokenRule t end said told) =
-    told_end end (transactions_fault events t) (ap (transactions_fault events) (one_list bytes t gives.stimulus said gives.said) ∙ gives.kept) told
+given_tx_end bytes events run _ gives (BrokenRule t end said breaks) =
+    absurd (kept_tx_unbroken events t end (subst (KeepsTxRules events) (one_list bytes gives.stimulus t gives.said said) gives.kept) breaks)
 
 -- a text against which nothing but want of memory stands isn't refused
 pub not_refused_by : (causes : StimEnd → Type 0) (text : Text) (ended : Ended) (line : Text) → ((end : StimEnd) → causes end → end ≡ stim.Memory) → length text ≤ MOST_STIMULUS_BYTES → IsRefusedBy causes text ended line → ⊥

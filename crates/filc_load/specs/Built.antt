@@ -17,7 +17,7 @@ use Rattle.fil_ast.specs.declared.tree.FilDesign.{FilDesign}
 use Rattle.fil_ast.specs.declared.tx.Tx.{Tx}
 use Rattle.fil_ast.specs.declared.tx.TxList.{TxList}
 use Rattle.fil_parse.specs.Written.{DesignIsWritten}
-use Rattle.fil_share.specs.Uses.{LATEST}
+use Rattle.hw_limits.specs.declared.limits.TheConstants.{MOST_CYCLES}
 use Rattle.net_core.specs.Netlist.{Netlist, netlist_of}
 use Rattle.net_core.specs.Numbers.{HasNumbers}
 use Rattle.net_core.specs.Rules.{IsValid}
@@ -157,7 +157,7 @@ pub record FitsNet (n : Netlist) (list : CycleList) : Type 0 where
 -- input of its event, of that input's width
 pub record FitsComponent (c : Component) (tx : Tx) : Type 0 where
   pub event : tx.event < length c.events
-  pub start : tx.start ≤ LATEST
+  pub start : tx.start ≤ MOST_CYCLES
   pub widths : widths_of tx.values.items ≡ map (λ (p : DataPort). p.width) (filter (is_of_event (event_name c tx.event)) c.ins)
 
 -- why a text gives nothing: one of these causes, or there was no memory

@@ -8,12 +8,11 @@ use Rattle.cal_ast.specs.Rules.{CalRules, IsRefusal}
 use Rattle.cal_ast.specs.Tree.{Design}
 use Rattle.cal_check.specs.Weight.{IsWeight, AreWords}
 use Rattle.cal_parse.specs.Spelling.{SpellsDesign, IsNested, KeepsNesting, IsRefusedAt, is_left_out}
-use Rattle.cal_parse.specs.declared.parse.TheConstants.{MOST_NESTING}
+use Rattle.hw_limits.specs.declared.limits.TheConstants.{MOST_WEIGHT, MOST_WORDS, MOST_NESTING}
 use Rattle.filc_stop.specs.Lines.{limit_line, token_line, grammar_line, left_out_line, loop_text, rule_name, rule_line}
 use Rattle.filc_stop.specs.declared.ended.Ended.{Ended}
 use Rattle.filc_stop.specs.declared.ended.Ended.TheVariants.{Refused, Limit}
 use Rattle.filc_stop.specs.declared.language.Language.TheVariants.{Calyx}
-use Rattle.filc_stop.specs.declared.limits.TheConstants.{MOST_WEIGHT, MOST_WORDS}
 
 -- ---- what a text gives
 

@@ -9,14 +9,12 @@ use Rattle.fil_ast.specs.Rules.{FilRules}
 use Rattle.fil_ast.specs.Top.{IsTop}
 use Rattle.fil_ast.specs.Tree.{Component, Design}
 use Rattle.fil_ast.specs.Weight.{told_weight}
-use Rattle.fil_ast.specs.declared.tree.TheConstants.{MOST_OFFSET}
+use Rattle.hw_limits.specs.declared.limits.TheConstants.{MOST_WEIGHT, MOST_NESTING, MOST_OFFSET}
 use Rattle.fil_parse.specs.Spelling.{SpellsDesign, IsNested, KeepsNesting, IsRefusedAt, first_large}
-use Rattle.fil_parse.specs.declared.parse.TheConstants.{MOST_NESTING}
 use Rattle.filc_stop.specs.Lines.{limit_line, token_line, grammar_line, evidence_text, rule_name, rule_line}
 use Rattle.filc_stop.specs.declared.ended.Ended.{Ended}
 use Rattle.filc_stop.specs.declared.ended.Ended.TheVariants.{Refused, Limit}
 use Rattle.filc_stop.specs.declared.language.Language.TheVariants.{Filament}
-use Rattle.filc_stop.specs.declared.limits.TheConstants.{MOST_WEIGHT}
 
 -- the text spells this design, and keeps the limits: brackets stand no deeper in one another, and no offset or delay is larger
 pub record IsFilTextOf (design : Design) (text : Text) : Type 0 where

@@ -12,7 +12,7 @@ use Rattle.filc_stop.specs.Lines.{limit_line, grammar_line, loop_text, rule_name
 use Rattle.filc_stop.specs.declared.ended.Ended.{Ended}
 use Rattle.filc_stop.specs.declared.ended.Ended.TheVariants.{Refused, Limit}
 use Rattle.filc_stop.specs.declared.language.Language.TheVariants.{Netlists}
-use Rattle.filc_stop.specs.declared.limits.TheConstants.{MOST_NET_NESTING, MOST_WEIGHT, MOST_WORDS}
+use Rattle.hw_limits.specs.declared.limits.TheConstants.{MOST_NET_NESTING, MOST_WEIGHT, MOST_WORDS}
 
 -- how deep the brackets and negations of a netlist's text nest, byte by byte
 abbrev pub net_nesting : Text → ℕ

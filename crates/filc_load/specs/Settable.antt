@@ -1,6 +1,6 @@
 -- What a stimulus may set in a netlist: its inputs, and the words of its shown memories. This project's.
 use Rattle.std.specs.Prelude.{List, map, Option, Some, None}
-use Rattle.stim_read.specs.declared.shape.InputShape.{InputShape}
+use Rattle.net_core.specs.declared.stimulus.InputShape.{InputShape}
 use Rattle.hw_names.specs.Name.{Text}
 use Rattle.hw_prims.specs.Memory.{word_count, word_width}
 use Rattle.hw_prims.specs.Table.{Pin, prim_of}

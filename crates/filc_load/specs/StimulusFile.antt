@@ -15,7 +15,7 @@ use Rattle.filc_stop.specs.Outcome.{Contents, Outcome, refused_with}
 use Rattle.filc_load.specs.Settable.{settable_inputs, settable_memories}
 use Rattle.filc_stop.specs.declared.ended.Ended.{Ended}
 use Rattle.filc_stop.specs.declared.ended.Ended.TheVariants.{Stimulus, Limit}
-use Rattle.filc_stop.specs.declared.limits.TheConstants.{MOST_STIMULUS_BYTES}
+use Rattle.hw_limits.specs.declared.limits.TheConstants.{MOST_STIMULUS_BYTES}
 
 -- the text is within the limit, keeps the rules S1 to S7 for the netlist, and gives it this run
 pub record GivesRun (text : Text) (n : Netlist) (run : Run) : Type 0 where

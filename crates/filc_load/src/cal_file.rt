@@ -17,9 +17,10 @@ use crate::source::read_source;
 use cal_ast::{CalDesign, CalOk};
 use cal_check::{CalEnd, cal_weight, cal_words, check_calyx};
 use cal_parse::{CalTextEnd, parse_calyx};
-use filc_stop::{Language, MOST_WEIGHT, MOST_WORDS, Refusal, Stop};
+use filc_stop::{Language, Refusal, Stop};
 use hw_bits::Memory;
 use hw_io::Files;
+use hw_limits::{MOST_WEIGHT, MOST_WORDS};
 use hw_names::Word;
 use std::alloc::Global;
 

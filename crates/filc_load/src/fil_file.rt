@@ -22,9 +22,10 @@ use crate::top::top_of;
 use fil_ast::{FilDesign, FilOk};
 use fil_check::{Evidence, FilEnd, check_fil, fil_weight};
 use fil_parse::{FilTextEnd, parse_fil};
-use filc_stop::{Language, MOST_WEIGHT, Refusal, Stop};
+use filc_stop::{Language, Refusal, Stop};
 use hw_bits::Memory;
 use hw_io::Files;
+use hw_limits::MOST_WEIGHT;
 use hw_names::{NameId, Word};
 use std::alloc::Global;
 

@@ -13,16 +13,15 @@ ghost use Rattle.net_sim.specs.PortOrder.{IsPortOrderOf};
 ghost use Rattle.filc_stop.specs.Stops.{IsOfSource};
 ghost use Rattle.filc_load.specs.Built.{KnowsFile, IsNetOf, IsReady, IsBuiltFrom, IsUnbuilt, IsUnfit, IsOverweight, IsUnread, AreNamesOf};
 ghost use Rattle.filc_load.specs.Source.{FileGivesNet};
-ghost use Rattle.filc_stop.specs.declared.limits.TheConstants.{MOST_NET_BYTES, MOST_WEIGHT, MOST_WORDS};
+ghost use Rattle.hw_limits.specs.declared.limits.TheConstants.{MOST_WEIGHT, MOST_WORDS, MOST_NET_BYTES};
 
 use crate::ports::name_of;
 use crate::source::read_source;
-use filc_stop::{
-    Language, MOST_NET_BYTES, MOST_NET_NESTING, MOST_WEIGHT, MOST_WORDS, Refusal, Stop,
-};
+use filc_stop::{Language, Refusal, Stop};
 use hw_bits::Memory;
 use hw_io::Files;
 use hw_lex::nesting_of_bytes;
+use hw_limits::{MOST_NET_BYTES, MOST_NET_NESTING, MOST_WEIGHT, MOST_WORDS};
 use hw_names::Word;
 use net_core::{Net, NetEnd, Table, net_weight, net_words, valid};
 use net_sim::{OrderEnd, PortOrder, order};

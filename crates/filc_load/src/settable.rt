@@ -10,9 +10,8 @@ use crate::ports::name_of;
 use hw_bits::Memory;
 use hw_names::{Names, Word};
 use hw_prims::Primitive;
-use net_core::{MemShape, Net, NetCell};
+use net_core::{InputShape, MemShape, Net, NetCell};
 use std::alloc::Global;
-use stim_read::InputShape;
 
 /// The inputs of a netlist, in order.
 pub(crate) fn settable_inputs(alloc: Global, built: &Built) -> Result<Vec<InputShape>, Memory>

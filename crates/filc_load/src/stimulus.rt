@@ -10,15 +10,16 @@ ghost use Rattle.stim_read.specs.TxRun.{tx_run_seen};
 ghost use Rattle.filc_load.specs.Built.{KnowsFile, IsReady, IsFilReady, IsGivenBy, AreGivenBy, FitsNet, FitsComponent, GivesNothing, IsNotGiven};
 ghost use Rattle.filc_stop.specs.Stops.{IsOfStimulus};
 ghost use Rattle.filc_load.specs.StimulusFile.{GivesRun, GivesTransactions, run_causes, transaction_causes};
-ghost use Rattle.filc_stop.specs.declared.limits.TheConstants.{MOST_STIMULUS_BYTES};
+ghost use Rattle.hw_limits.specs.declared.limits.TheConstants.{MOST_STIMULUS_BYTES};
 
 use crate::fil_file::FilBuilt;
 use crate::net_file::Built;
 use crate::settable::{settable_inputs, settable_memories};
 use fil_ast::TxList;
 use fil_sig::component_signature;
-use filc_stop::{MOST_STIMULUS_BYTES, Refusal, Stop};
+use filc_stop::{Refusal, Stop};
 use hw_io::{Files, ReadEnd, read_whole};
+use hw_limits::MOST_STIMULUS_BYTES;
 use net_core::CycleList;
 use std::alloc::Global;
 use stim_read::{StimEnd, read_cycles, read_txs};

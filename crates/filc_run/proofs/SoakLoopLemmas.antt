@@ -58,13 +58,17 @@ module _ (through : Text → Text → Text → Type 0) (scope : Scope) (P : Text
       (sig : Signature) → instance_signature scope i.name ≡ Some sig → (input output : SigPort) → Contains sig.ins input → Contains sig.outs output → DependsWithin through i output.name input.name → P (dotted i.name output.name) (dotted i.name input.name)
 
   pub holds_of_reads : All HoldsOfArguments scope.invocations → All HoldsOfConnection scope.comp.body → All HoldsOfInstance scope.instances → (port other : Text) → ReadsPort through scope port other → P port other
-  holds_of_reads arguments connections instances port other (ByArgument v sig k arg input has means given taken is reads) =
-      let each = All-contains HoldsOfArguments scope.invocations v arguments has sig means in
-      subst (λ (p : Text). P p other) is (zip_at (λ (a : ValueTree) (i : SigPort). HoldsOf (dotted v.inst i.name) a) v.gives.args sig.ins each k arg input given taken other (read_is scope arg other reads))
-  holds_of_reads arguments connections instances port other (ByConnection value has reads) =
-      All-contains HoldsOfConnection scope.comp.body (Connect port value) connections has port value refl other (read_is scope value other reads)
-  holds_of_reads arguments connections instances port other (ByInstance i sig input output has means ins outs depends is is_other) =
-      subst (λ (p : Text). P p other) is (subst (P (dotted i.name output.name)) is_other (All-contains HoldsOfInstance scope.instances i instances has sig means input output ins outs depends))
+  holds_of_reads arguments connections instances port other (ByArgument r) =
+      let v = r.invocation in
+      let each = All-contains HoldsOfArguments scope.invocations v arguments r.invoked r.signature r.signed in
+      subst (λ (p : Text). P p other) r.is_port
+      (zip_at (λ (a : ValueTree) (i : SigPort). HoldsOf (dotted v.inst i.name) a) v.gives.args r.signature.ins each r.place r.value r.input r.given r.taken other (read_is scope r.value other r.is_other))
+  holds_of_reads arguments connections instances port other (ByConnection r) =
+      All-contains HoldsOfConnection scope.comp.body (Connect port r.value) connections r.connected port r.value refl other (read_is scope r.value other r.is_other)
+  holds_of_reads arguments connections instances port other (ByInstance r) =
+      let i = r.instance in
+      subst (λ (p : Text). P p other) r.is_port
+      (subst (P (dotted i.name r.output.name)) r.is_other (All-contains HoldsOfInstance scope.instances i instances r.has r.signature r.signed r.input r.output r.has_input r.has_output r.depends))
 
 -- ---- the first component
 

@@ -7,6 +7,7 @@ use Rattle.std.proofs.lemmas.List.{length-map, get_or-map}
 use Rattle.std.proofs.lemmas.Option.{same_Some}
 use Rattle.std.proofs.lemmas.Slice.Eq.{bytes_eq-Decides}
 use Rattle.hw_names.specs.Name.{Text, AreDistinct}
+use Rattle.fil_ast.proofs.UseLemmas.{parts_of}
 use Rattle.fil_ast.specs.Connections.{ConnectsOnce}
 use Rattle.fil_ast.specs.Items.{Item, scope_after, scope_with}
 use Rattle.fil_ast.specs.Naming.{GivesKnown, IsKnownValue, IsMadeOf, NamesEvent, instance_names, invocation_names, port_names}
@@ -153,7 +154,7 @@ module _ (comps : Design) (name : Text) (ins outs : List DataPort) (body : List 
     holds_one : (u : Use) → IsUse sig inst gives.times u → u.hold ≡ 1
     holds_one u is =
         let one = simple_delay sig simple u.event is.event is.of in
-        same_Some u.hold 1 (sym (sym (ap (λ (d : _). hold_of d u.at (slice_get gives.times (u.event + 1))) one) ∙ is.held))
+        same_Some u.hold 1 (sym (sym (ap (λ (d : _). hold_of d u.at (slice_get gives.times (u.event + 1))) one) ∙ (parts_of is).held))
 
     keeps_delays : KeepsDelays scope sig inst gives
     keeps_delays = λ u is e has named.
@@ -178,7 +179,7 @@ module _ (comps : Design) (name : Text) (ins outs : List DataPort) (body : List 
 
     no_earlier : (u earlier : Use) → IsUseOf scope here u → IsEarlierUse scope u earlier → ⊥
     no_earlier u earlier is before =
-        alone before.invocation before.is_earlier (sym before.uses.2.named ∙ before.same_instance ∙ is.2.named)
+        alone before.invocation before.is_earlier (sym (parts_of before.uses.2).named ∙ before.same_instance ∙ (parts_of is.2).named)
 
     keeps_apart : KeepsUsesApart scope here
     keeps_apart = λ u earlier is before. absurd (no_earlier u earlier is before)
@@ -188,7 +189,7 @@ module _ (comps : Design) (name : Text) (ins outs : List DataPort) (body : List 
 
     triggers : TriggersWithInterface scope here
     triggers = record {
-      triggers = λ u is some. subst (λ (c : Component). HasInterface c u.at.event) (sym same) (has_interface u.at.event (time_is row u.event u.at is.2.time));
+      triggers = λ u is some. subst (λ (c : Component). HasInterface c u.at.event) (sym same) (has_interface u.at.event (time_is row u.event u.at (parts_of is.2).time));
       once = λ earlier u w has is_same is other named. absurd (alone earlier has is_same);
     }
 

@@ -3,7 +3,7 @@ ghost use Rattle.std.specs.Prelude.{◌≡◌, ◌≤◌, IfErr, IfOk, IsErrOf};
 ghost use Rattle.hw_io.specs.Faults.{Rose};
 ghost use Rattle.fil_ast.specs.Tree.{design_of};
 ghost use Rattle.stim_read.specs.TxRun.{transaction_seen, tx_run_seen};
-ghost use Rattle.stim_read.specs.declared.limits.TheConstants.{MOST_TRANSACTIONS};
+ghost use Rattle.hw_limits.specs.declared.limits.TheConstants.{MOST_TRANSACTIONS};
 ghost use Rattle.filc_load.specs.Built.{IsFilReady};
 ghost use Rattle.filc_stop.specs.Leaving.{Leaves};
 ghost use Rattle.filc_stop.specs.Stops.{IsWritingStop};

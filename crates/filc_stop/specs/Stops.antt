@@ -4,7 +4,7 @@ use Rattle.std.specs.Borrow.{Bor}
 use Rattle.std.specs.Io.KnownBytes.{Appends}
 use Rattle.hw_io.specs.Writing.{AppendsPrefix}
 use Rattle.hw_names.specs.Name.{Text}
-use Rattle.fil_ast.specs.declared.tree.TheConstants.{MOST_OFFSET}
+use Rattle.hw_limits.specs.declared.limits.TheConstants.{MOST_CYCLES, MOST_WEIGHT, MOST_WORDS, MOST_OFFSET, MOST_STIMULUS_BYTES}
 use Rattle.fil_check.specs.Least.{evidence_of}
 use Rattle.filc_stop.specs.Language.{most_bytes, most_nesting}
 use Rattle.filc_stop.specs.Lines.{as_line, read_fault_line, limit_line, token_line, grammar_line, left_out_line, loop_text, evidence_text, rule_name, rule_line}
@@ -12,8 +12,6 @@ use Rattle.filc_stop.specs.Lines.{counted_name, stimulus_line, conflict_line, me
 use Rattle.filc_stop.specs.declared.ended.Ended.{Ended}
 use Rattle.filc_stop.specs.declared.ended.Ended.TheVariants.{Refused, ReadFault, WriteFault, Memory, Stimulus, Conflict, Limit}
 use Rattle.filc_stop.specs.declared.language.Language.TheVariants.{Filament}
-use Rattle.filc_stop.specs.declared.limits.TheConstants.{MOST_STIMULUS_BYTES, MOST_WEIGHT, MOST_WORDS}
-use Rattle.stim_read.specs.declared.limits.TheConstants.{MOST_CYCLES}
 use Rattle.filc_stop.specs.declared.refusal.Refusal.{Refusal}
 use Rattle.filc_stop.specs.declared.refusal.Refusal.TheVariants as refusal
 use Rattle.filc_stop.specs.declared.stop.Stop.{Stop}

@@ -2,9 +2,7 @@
 ghost use Rattle.std.specs.Prelude.{◌≡◌, ◌≤◌, ◌^◌};
 ghost use Rattle.filc_stop.specs.Language.{ending_of, letter_of, most_bytes, most_nesting};
 
-use crate::limits::{MOST_CAL_BYTES, MOST_FIL_BYTES, MOST_NET_BYTES, MOST_NET_NESTING};
-use cal_parse::MOST_NESTING as MOST_CAL_NESTING;
-use fil_parse::MOST_NESTING as MOST_FIL_NESTING;
+use hw_limits::{MOST_CAL_BYTES, MOST_FIL_BYTES, MOST_NESTING, MOST_NET_BYTES, MOST_NET_NESTING};
 
 /// The language of a file, which the end of its name tells.
 #[derive(Clone, Copy, Debug, PartialEq, Eq)]
@@ -47,8 +45,8 @@ impl Language {
     {
         match self {
             Language::Netlists => MOST_NET_NESTING,
-            Language::Filament => MOST_FIL_NESTING as u64,
-            Language::Calyx => MOST_CAL_NESTING as u64,
+            Language::Filament => MOST_NESTING as u64,
+            Language::Calyx => MOST_NESTING as u64,
         }
     }
 

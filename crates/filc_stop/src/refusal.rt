@@ -8,16 +8,14 @@ ghost use Rattle.filc_stop.specs.Stops.{answer_of, refusal_line};
 
 use crate::ended::Ended;
 use crate::language::Language;
-use crate::limits::{MOST_STIMULUS_BYTES, MOST_WEIGHT, MOST_WORDS};
 use crate::line::{
     write_conflict, write_filament_rule, write_grammar, write_left_out, write_limit, write_rule,
     write_stimulus, write_token,
 };
-use fil_ast::MOST_OFFSET;
 use fil_check::Evidence;
 use hw_io::{Failed, Sink};
+use hw_limits::{MOST_CYCLES, MOST_OFFSET, MOST_STIMULUS_BYTES, MOST_WEIGHT, MOST_WORDS};
 use hw_names::Word;
-use stim_read::MOST_CYCLES;
 
 /// Why what is asked for is refused, or its run ends early.
 #[derive(Debug, Drop)]

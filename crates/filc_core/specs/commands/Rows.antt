@@ -2,7 +2,7 @@
 use Rattle.std.specs.Prelude.{◌≡◌, ◌⊎◌, ℕ, ◌<◌, ◌≤◌, ◌^◌, [], ◌∷◌, codes, decimal, Some, None}
 use Rattle.hw_names.specs.Name.{Text}
 use Rattle.net_core.specs.Netlist.{Netlist}
-use Rattle.stim_read.specs.declared.limits.TheConstants.{MOST_CYCLES}
+use Rattle.hw_limits.specs.declared.limits.TheConstants.{MOST_CYCLES}
 use Rattle.filc_load.specs.Source.{FileGivesNet, IsRefusedForSource}
 use Rattle.filc_report.specs.Runs.{RunComes, plain_run}
 use Rattle.filc_stop.specs.Leaving.{MakesNone}

@@ -2,7 +2,7 @@
 -- It reads no file. This project's.
 use Rattle.std.specs.Prelude.{◌≡◌, ◌⊎◌, ℕ, ◌<◌, ◌≤◌, ◌^◌, [], ◌∷◌, codes, decimal, None}
 use Rattle.hw_names.specs.Name.{Text}
-use Rattle.stim_read.specs.declared.limits.TheConstants.{MOST_TRANSACTIONS}
+use Rattle.hw_limits.specs.declared.limits.TheConstants.{MOST_TRANSACTIONS}
 use Rattle.filc_run.specs.Soaked.{Soaks, soak_design}
 use Rattle.filc_run.specs.Traced.{IsMadeOf}
 use Rattle.filc_stop.specs.Lines.{limit_line}

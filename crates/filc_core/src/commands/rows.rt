@@ -8,9 +8,9 @@ use filc_load::net_file;
 use filc_report::run;
 use filc_stop::{Language, Refusal, Stop};
 use hw_io::{Files, Sink};
+use hw_limits::MOST_CYCLES;
 use net_core::CycleList;
 use std::alloc::Global;
-use stim_read::MOST_CYCLES;
 
 /// The rows of a netlist's outputs, for so many cycles.
 #[derive(Clone, Copy, Debug, PartialEq, Eq)]

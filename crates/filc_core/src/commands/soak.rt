@@ -7,8 +7,8 @@ use crate::words::count_of;
 use filc_run::write_soak;
 use filc_stop::{Refusal, Stop};
 use hw_io::{Files, Sink};
+use hw_limits::MOST_TRANSACTIONS;
 use std::alloc::Global;
-use stim_read::MOST_TRANSACTIONS;
 
 /// The netlist of the program's own design, and what its run adds up to under so many transactions.
 #[derive(Clone, Copy, Debug, PartialEq, Eq)]

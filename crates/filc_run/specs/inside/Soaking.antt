@@ -8,7 +8,7 @@ use Rattle.fil_driven.specs.TxDrive.{driven_by}
 use Rattle.fil_fsm.specs.Refines.{Refines}
 use Rattle.fil_sig.specs.Seen.{seen}
 use Rattle.stim_read.specs.TxRun.{tx_run_seen}
-use Rattle.stim_read.specs.declared.limits.TheConstants.{MOST_TRANSACTIONS}
+use Rattle.hw_limits.specs.declared.limits.TheConstants.{MOST_TRANSACTIONS}
 use Rattle.filc_load.specs.Built.{IsReady}
 use Rattle.filc_report.specs.Runs.{no_loads}
 use Rattle.filc_report.specs.Sums.{AddUp, due_in}

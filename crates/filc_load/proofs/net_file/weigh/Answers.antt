@@ -4,7 +4,7 @@ use Rattle.net_core.specs.Weight.{weight_of}
 use Rattle.net_core.specs.Words.{word_total}
 use Rattle.filc_stop.specs.Lines.{limit_line}
 use Rattle.filc_load.specs.NetFile.{IsTooHeavy, HasTooManyWords}
-use Rattle.filc_stop.specs.declared.limits.TheConstants.{MOST_WEIGHT, MOST_WORDS}
+use Rattle.hw_limits.specs.declared.limits.TheConstants.{MOST_WEIGHT, MOST_WORDS}
 use Rattle.filc_load.proofs.net_file.weigh.Goals as goal
 
 pub returns-then-weight-gt-MOST_WEIGHT-clause-refused : goal.returns-then-weight-gt-MOST_WEIGHT-clause-refused

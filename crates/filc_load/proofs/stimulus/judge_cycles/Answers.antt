@@ -2,7 +2,7 @@ use Rattle.std.proofs.Common.{◌≤◌, ◌∙◌, List, sym, subst}
 use Rattle.std.specs.Prelude.{All}
 use Rattle.hw_bits.specs.declared.bits.TheConstants.{MAX_WIDTH}
 use Rattle.hw_names.specs.Name.{AreDistinct}
-use Rattle.stim_read.specs.declared.shape.InputShape.{InputShape}
+use Rattle.net_core.specs.declared.stimulus.InputShape.{InputShape}
 use Rattle.net_core.specs.Netlist.{netlist_of}
 use Rattle.net_core.specs.declared.stimulus.MemShape.{MemShape}
 use Rattle.stim_read.specs.CycleRules.{input_targets, memory_targets}

@@ -16,8 +16,8 @@ returns-clause-line c = λ x row acts is values tells.
     let cycle = c.args.cycle in
     let valued = subst (λ (m : Netlist). self.sim.values ≡ map row (port_names m)) (sym is.net) values in
     let labels = subst (λ (all : List (Vec ℕ Global)). AreLabelsOf (actors_of x.top) all) (sym c.deref.ensures.value) is.labels in
-    let counted = c.in_ok-push_number.ensures ∙ ap (λ (n : ℕ). text ++ decimal n) c.from.ensures in
-    on_ok_weaker c.push_text-2.result
-    (line_made x (outputs_of_net (netlist_of self.built.now.net)) acts cycle row text c.push_number.new.text.items c.push_outputs.new.text.items c.push_text.new.text.items c.push_acting.new.text.items c.push_text-2.new.text.items
-    (ap outputs_of_net is.net ∙ is.outs) counted (c.in_ok-push_outputs.ensures row valued) c.in_ok-push_text.ensures (c.in_ok-push_acting.ensures (actors_of x.top) (λ actor. acts actor cycle) labels tells))
-    c.push_text-2.ensures
+    let counted = c.in_ok-put_number.ensures ∙ ap (λ (n : ℕ). text ++ decimal n) c.from.ensures in
+    on_ok_weaker c.put-2.result
+    (line_made x (outputs_of_net (netlist_of self.built.now.net)) acts cycle row text c.put_number.new.out.items c.push_outputs.new.text.items c.put.new.out.items c.push_acting.new.text.items c.put-2.new.out.items
+    (ap outputs_of_net is.net ∙ is.outs) counted (c.in_ok-push_outputs.ensures row valued) c.in_ok-put.ensures (c.in_ok-push_acting.ensures (actors_of x.top) (λ actor. acts actor cycle) labels tells))
+    c.put-2.ensures

@@ -2,7 +2,7 @@ use Rattle.std.proofs.Common.{[], ◌≤◌, refl, inl, inr, arith}
 use Rattle.hw_io.proofs.WritingLemmas.{appends_none}
 use Rattle.net_core.specs.Netlist.{netlist_of}
 use Rattle.net_core.specs.declared.stimulus.CycleList.{CycleList}
-use Rattle.stim_read.specs.declared.limits.TheConstants.{MOST_CYCLES}
+use Rattle.hw_limits.specs.declared.limits.TheConstants.{MOST_CYCLES}
 use Rattle.filc_stop.specs.Stops.{IsOfRun}
 use Rattle.filc_stop.specs.declared.language.Language.TheVariants.{Netlists}
 use Rattle.filc_core.proofs.PerformLemmas.{IsNoReadFault, source_stops, read_one, reports, design_told, if_stops, no_fault_at_run}

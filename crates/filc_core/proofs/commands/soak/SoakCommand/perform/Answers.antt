@@ -1,6 +1,6 @@
 use Rattle.std.proofs.Common.{[], ◌≤◌, refl, inl, inr, arith}
 use Rattle.hw_io.proofs.WritingLemmas.{appends_none}
-use Rattle.stim_read.specs.declared.limits.TheConstants.{MOST_TRANSACTIONS}
+use Rattle.hw_limits.specs.declared.limits.TheConstants.{MOST_TRANSACTIONS}
 use Rattle.filc_stop.specs.Stops.{IsWritingStop}
 use Rattle.filc_core.proofs.PerformLemmas.{IsNoReadFault, if_stops, no_fault_at_writing, reports}
 use Rattle.filc_core.proofs.SoakLemmas.{soak_leaves, soak_reads}
