@@ -6,7 +6,7 @@
 //!     Stop::Refused(..)    ->   status 1, "refused F12 Pair item 3 gap 5 cycle 5"
 //!     Stop::ReadFault      ->   status 3, "read fault: pair.fil"
 //!
-//! `language` has the languages by their files' endings, with the limits of `limits`; `refusal` has what is told of a refused
+//! `language` has the languages by their files' endings, with the limits of `hw_limits`; `refusal` has what is told of a refused
 //! source; `line` writes the line's bytes.
 //!
 //! What the layer above uses: `Stop::tell` appends exactly the line of the stop (`IsTold`), or a prefix of it where the stream
