@@ -1,2 +1,4 @@
 pub mod PrimitiveLemmas
 pub mod UseLemmas
+pub mod HoldLemmas
+pub mod SharingLemmas

@@ -28,15 +28,31 @@ abbrev pub KeepsUsesApart : Scope → Invocation → Type 0
 KeepsUsesApart scope v =
     (u earlier : Use) → IsUseOf scope v u → IsEarlierUse scope u earlier → (earlier.at.event ≡ u.at.event) × AreDisjoint earlier u
 
--- from the start of the one to the end of the other is at most the delay
+-- from the start of the first to the end of the last is at most the delay
 abbrev pub IsWithin : ℕ → Use → Use → Type 0
 IsWithin delay first last = last.at.plus + last.hold ≤ first.at.plus + delay
 
--- F12: the uses of an event of an instance by one transaction end, from the first start on, within the delay of the event on which they are
+-- it is one of these uses, and none of them starts before it
+pub record StartsFirst (Among : Use → Type 0) (first : Use) : Type 0 where
+  pub among : Among first
+  pub least : (other : Use) → Among other → first.at.plus ≤ other.at.plus
+
+-- it is one of these uses, and none of them starts after it
+pub record StartsLast (Among : Use → Type 0) (last : Use) : Type 0 where
+  pub among : Among last
+  pub greatest : (other : Use) → Among other → other.at.plus ≤ last.at.plus
+
+-- a use so far of the event that this use is of: this use itself, or one by an earlier invocation of the instance
+abbrev pub IsUseSoFar : Scope → Use → Use → Type 0
+IsUseSoFar scope u other = (other ≡ u) ⊎ IsEarlierUse scope u other
+
+-- F12: where an event of an instance has two or more uses so far, from the start of the first to the end of the last is at most the delay of the event of the
+-- component on which they are
 abbrev pub EndsInTime : Scope → Invocation → Type 0
 EndsInTime scope v =
-    (u earlier : Use) → IsUseOf scope v u → IsEarlierUse scope u earlier → (e : Event) → Contains scope.comp.events e → e.name ≡ u.at.event →
-    IsWithin e.delay u earlier × IsWithin e.delay earlier u
+    (u earlier first last : Use) → IsUseOf scope v u → IsEarlierUse scope u earlier →
+    StartsFirst (IsUseSoFar scope u) first → StartsLast (IsUseSoFar scope u) last →
+    (e : Event) → Contains scope.comp.events e → e.name ≡ u.at.event → IsWithin e.delay first last
 
 -- the component's event has an interface port
 abbrev pub HasInterface : Component → Text → Type 0

@@ -12,6 +12,7 @@ use Rattle.net_core.specs.Guard.{guard_holds, source_value}
 use Rattle.cal_ast.specs.CalRun.{look}
 use Rattle.cal_ast.specs.Laws.{local_values}
 use Rattle.cal_ast.specs.Tree.{port_of}
+use Rattle.fil_ast.proofs.HoldLemmas.{use_listed}
 use Rattle.fil_ast.proofs.UseLemmas.{parts_of}
 use Rattle.fil_ast.specs.Behaviours.{timed_event, timed_port}
 use Rattle.fil_ast.specs.Holds.{uses_of}
@@ -39,7 +40,7 @@ use Rattle.fil_lower.proofs.GuardLemmas.{guard_is_open}
 use Rattle.fil_lower.proofs.LoweredParts.{LoweredComp, StandingComp}
 use Rattle.fil_lower.proofs.SourceLemmas.{IsMadeAt, all_made, known_before, reads_same}
 use Rattle.fil_lower.proofs.TimedAsLemmas.{contains_map, number_of}
-use Rattle.fil_lower.proofs.UseLemmas.{some_at, use_listed}
+use Rattle.fil_lower.proofs.UseLemmas.{some_at}
 use Rattle.fil_lower.proofs.ValueLemmas.{IsElsewhere, flat_values, no_values}
 use Rattle.fil_lower.proofs.WellLemmas.{timed}
 
@@ -146,7 +147,7 @@ module _ (comp : LoweredComp) (standing : StandingComp comp) where
         let u = a.use_at in
         let has_q : Contains (inputs_of_callee l v.inst) a.q = subst (λ (ps : List SigPort). Contains ps a.q) (sym (callee_inputs v f)) (Contains-at f.sig.ins a.k a.q a.at_q) in
         let in_slots : Contains call.slots (slot_of c u) =
-        subst (λ (ss : List Slot). Contains ss (slot_of c u)) slots (contains_map (slot_of c) (uses_of (whole_scope earlier c) v) u (use_listed (whole_scope earlier c) v f.sig f.signed u a.used)) in
+        subst (λ (ss : List Slot). Contains ss (slot_of c u)) slots (contains_map (slot_of c) (uses_of (whole_scope earlier c) v) u (use_listed (whole_scope earlier c) v u (f.sig, f.signed, a.used))) in
         let in_callee : Contains (plan.callee call.inst).sig.ins (timed_port a.q) =
         subst (λ (x : Text). Contains (plan.callee x).sig.ins (timed_port a.q)) inst (subst (λ (x : TimedPort). Contains (callee_of earlier c v.inst).sig.ins x) (sym a.is) has_p) in
         guard_is_open comp standing (event_number c.events u.at.event) a.event a.at_event v has_v a.q has_q (interval_between u.at u.at a.q) a.between (sym a.event_named) r below

@@ -10,6 +10,7 @@ use Rattle.std.proofs.lemmas.Slice.Eq.{bytes_eq-Decides}
 use Rattle.std.proofs.lemmas.Slice.Zip.{all_zipped_more}
 use Rattle.hw_names.specs.Name.{Text, AreDistinct}
 use Rattle.hw_prims.specs.Timed.{TimedPort, end_of}
+use Rattle.fil_ast.proofs.HoldLemmas.{use_listed}
 use Rattle.fil_ast.specs.Behaviours.{timed_port}
 use Rattle.fil_ast.specs.Holds.{uses_of}
 use Rattle.fil_ast.specs.Items.{scope_after}
@@ -28,7 +29,6 @@ use Rattle.fil_lower.specs.PlanRules.{IsAvailable}
 use Rattle.fil_lower.proofs.CallLemmas.{IsCalled, found_among}
 use Rattle.fil_lower.proofs.NameLemmas.{first_differs, from_map, later_distinct, other_name, same_name, sig_names}
 use Rattle.fil_lower.proofs.TimedAsLemmas.{IsTimedAs, contains_map, named_at_number}
-use Rattle.fil_lower.proofs.UseLemmas.{use_listed}
 
 pub found_passes : {X : Type 0} (test : X → Bool) (xs : List X) (x : X) → find test xs ≡ Some x → test x ≡ true
 found_passes test [] x is = absurd (none-some x is)
@@ -173,7 +173,7 @@ module _ (earlier : Design) (c : Component) where
         let u = o.3 v.inst v.gives.times i f.holds f.each.times at_i in
         let in_outs : Contains (callee_of earlier c m.call.inst).sig.outs o.0 = subst (λ (n : Text). Contains (callee_of earlier c n).sig.outs o.0) (sym m.inst) o.1 in
         let in_slots : Contains m.call.slots (slot_of c u.0) =
-        subst (λ (ss : List Slot). Contains ss (slot_of c u.0)) (sym m.slots) (contains_map (slot_of c) (uses_of (whole_scope earlier c) v) u.0 (use_listed (whole_scope earlier c) v f.sig f.signed u.0 u.1)) in
+        subst (λ (ss : List Slot). Contains ss (slot_of c u.0)) (sym m.slots) (contains_map (slot_of c) (uses_of (whole_scope earlier c) v) u.0 (use_listed (whole_scope earlier c) v u.0 (f.sig, f.signed, u.1))) in
         let low : i.from ≤ offset = inside.1 in
         let high : offset < i.to = inside.2 in
         let begins : i.from ≡ u.0.at.plus + o.0.from = u.4 in

@@ -1,12 +1,10 @@
 -- What the rules say of each invocation of a component, in the scope of the whole component.
-use Rattle.std.proofs.Common.{◌≡◌, ℕ, zero, suc, ◌+◌, ◌<◌, ◌≤◌, Bool, true, false, cond, List, [], ◌∷◌, ◌++◌, length, flat_map, reverse, take, drop, get_or, slice_get, All, Option, Some, None, option_map, refl, sym, ap, subst, ◌∙◌, is_some, add-one, arith}
+use Rattle.std.proofs.Common.{◌≡◌, ℕ, zero, suc, ◌+◌, ◌≤◌, Bool, true, false, cond, List, [], ◌∷◌, ◌++◌, flat_map, reverse, take, drop, get_or, slice_get, All, Option, Some, None, option_map, refl, sym, ap, subst, ◌∙◌, is_some, arith}
 use Rattle.std.specs.List.{find}
 use Rattle.std.specs.Option.{IfSome, IsSome, option_and_then, option_map_or}
 use Rattle.std.specs.Prelude.{AllPairs, Contains, bytes_eq, if◌then◌else◌}
-use Rattle.std.proofs.lemmas.List.{get_or_default}
 use Rattle.std.proofs.lemmas.List.Elements.{All-cons, All-contains, All-head, All-nil, All-take}
 use Rattle.std.proofs.lemmas.Option.{none-some, option_and_then_some, same_Some, slice_get-get_or}
-use Rattle.std.proofs.Math.Seq.{take-length}
 use Rattle.hw_names.specs.Name.{Text, AreDistinct}
 use Rattle.hw_prims.specs.Filament.{behaviour_of}
 use Rattle.hw_prims.specs.Timed.{Behaviour}
@@ -26,9 +24,9 @@ use Rattle.fil_ast.specs.Typing.{GivesEach}
 use Rattle.fil_ast.specs.Wires.{whole_scope}
 use Rattle.fil_share.specs.Instances.{CanBeMade, signature_of}
 use Rattle.fil_share.proofs.CalleeLemmas.{named_among}
-use Rattle.fil_share.proofs.ListLemmas.{All-flat_map, AllPairs-append, Contains-at}
-use Rattle.fil_share.proofs.MakesLemmas.{at_statement, flat_next, makes_instances}
-use Rattle.fil_share.proofs.OwnLemmas.{KeepsNames, cut_before, cut_with, find_last, found_all, found_more, found_own, names_of, same_meaning, some_there}
+use Rattle.fil_share.proofs.ListLemmas.{All-flat_map, Contains-at}
+use Rattle.fil_share.proofs.MakesLemmas.{at_statement, makes_instances}
+use Rattle.fil_share.proofs.OwnLemmas.{KeepsNames, cut_before, cut_with, find_last, found_more, names_of, pairs_in_time, same_meaning, some_there, uses_paired}
 use Rattle.fil_lower.specs.PlanOf.{behaviour_made, behaviour_named}
 use Rattle.fil_lower.proofs.CalleeLemmas.{is_first}
 use Rattle.fil_lower.proofs.NameLemmas.{found_back}
@@ -87,9 +85,6 @@ module _ (earlier : Design) (distinct : AreDistinct (component_names earlier)) (
           (sym (ap (λ (o : Option Text). if is_some o then primitive_signature i.made i.params else option_and_then (bare_signature i.params) (component_named earlier i.made)) some) ∙ signed)
 
 -- ---- invocations
-
-no_statement : Statement
-no_statement = New [] [] []
 
 -- F4, F7, F10 and F13 of an invocation, and the names of its times
 pub record IsCalled (earlier : Design) (c : Component) (v : Invocation) : Type 0 where
@@ -212,43 +207,24 @@ module _ (comps : Design) (rules : FilRules comps) (n : ℕ) (c : Component) (he
   abbrev pub ShareWell : Invocation → Invocation → Type 0
   ShareWell v w = (u x : Use) → IsUseOf (whole_scope earlier c) v u → IsUseOf (whole_scope earlier c) w x → u.inst ≡ x.inst → u.event ≡ x.event → ShareUses c u x
 
-  share_next : (k : ℕ) (s : Statement) → slice_get c.body k ≡ Some s → k ≤ length c.body → All (λ v. All (ShareWell v) (invocations_at s)) (flat_map invocations_at (take k c.body))
-  share_next k s at within i d below j e below' u x uses_u uses_x same_instance same_event =
-      let v = get_or (flat_map invocations_at (take k c.body)) i d in
-      let w = get_or (invocations_at s) j e in
-      let own = found_own earlier c named k s at j e below' in
-      let old = found_more earlier c named (flat_map instances_at (take k c.body)) (instances_at s) v.inst (found_all earlier c named k within i d below) in
-      let used_x = to_with k s at w own.0 own.1 x uses_x in
-      let used_u = to_with k s at v old.0 old.1 u uses_u in
-      let has_v : Contains (flat_map invocations_at (take k c.body)) v = (i, below, get_or_default (flat_map invocations_at (take k c.body)) i v d below) in
-      let earlier_use : IsEarlierUse (scope_with earlier c (take k c.body) s) x u = record { invocation = v; is_earlier = has_v; uses = used_u; same_instance = same_instance; same_event = same_event } in
-      let keeps = at_statement comps rules n c here k s at in
-      let apart : All (KeepsUsesApart (scope_with earlier c (take k c.body) s)) (invocations_at s) = keeps 10 F1 (omega arith) in
-      let in_time : All (EndsInTime (scope_with earlier c (take k c.body) s)) (invocations_at s) = keeps 11 F1 (omega arith) in
-      let triggers : All (TriggersWithInterface (scope_with earlier c (take k c.body) s)) (invocations_at s) = keeps 12 F1 (omega arith) in
-      let kept = apart j e below' x u used_x earlier_use in
-      let same_inst : v.inst ≡ w.inst = sym (parts_of uses_u.2).named ∙ same_instance ∙ (parts_of uses_x.2).named in
-      record { event = kept.0; disjoint = kept.1; in_time = in_time j e below' x u used_x earlier_use; interface = (triggers j e below').once v x u has_v same_inst used_x used_u kept.0 }
-
-  one_call : (s : Statement) → AllPairs ShareWell (invocations_at s)
-  one_call (New name made params) i j d less within = absurd (omega arith)
-  one_call (Connect output value) i j d less within = absurd (omega arith)
-  one_call (Call name inst gives) i j d less within = absurd (omega arith)
-  one_call (Both name made params gives) i j d less within = absurd (omega arith)
-
-  share_all : (k : ℕ) → k ≤ length c.body → AllPairs ShareWell (flat_map invocations_at (take k c.body))
-  share_all zero within = λ i j d less below. absurd (omega arith)
-  share_all (suc k) within =
-      let s = get_or c.body k no_statement in
-      let below : k < length c.body = omega arith in
-      let at : slice_get c.body k ≡ Some s = slice_get-get_or c.body k no_statement below in
-      let calls : flat_map invocations_at (take k c.body) ++ invocations_at s ≡ flat_map invocations_at (take (suc k) c.body) =
-      sym (flat_next invocations_at c.body k s at) ∙ ap (λ (m : ℕ). flat_map invocations_at (take m c.body)) (add-one k) in
-      let P : List Invocation → Type 0 = AllPairs ShareWell in
-      subst P calls (AllPairs-append ShareWell (flat_map invocations_at (take k c.body)) (invocations_at s) (share_all k (omega arith)) (one_call s) (share_next k s at (omega arith)))
-
   pub share : AllPairs ShareWell (whole_scope earlier c).invocations
-  share =
-      let P : List Statement → Type 0 = λ body. AllPairs ShareWell (flat_map invocations_at body) in
-      let all : length c.body ≤ length c.body = omega arith in
-      subst P (take-length c.body) (share_all (length c.body) all)
+  share = uses_paired earlier c named (ShareUses c) each
+    where
+      apart_at : (k : ℕ) (s : Statement) → slice_get c.body k ≡ Some s → All (KeepsUsesApart (scope_with earlier c (take k c.body) s)) (invocations_at s)
+      apart_at k s at = at_statement comps rules n c here k s at 10 F1 (omega arith)
+
+      in_time_at : (k : ℕ) (s : Statement) → slice_get c.body k ≡ Some s → All (EndsInTime (scope_with earlier c (take k c.body) s)) (invocations_at s)
+      in_time_at k s at = at_statement comps rules n c here k s at 11 F1 (omega arith)
+
+      each : (k : ℕ) (s : Statement) (at : slice_get c.body k ≡ Some s) → All (λ w. (x u : Use) → IsUseOf (scope_with earlier c (take k c.body) s) w x → IsEarlierUse (scope_with earlier c (take k c.body) s) x u → ShareUses c u x) (invocations_at s)
+      each k s at j d below x u used known =
+          let w = get_or (invocations_at s) j d in
+          let triggers : All (TriggersWithInterface (scope_with earlier c (take k c.body) s)) (invocations_at s) = at_statement comps rules n c here k s at 12 F1 (omega arith) in
+          let kept = apart_at k s at j d below x u used known in
+          let same_inst : known.invocation.inst ≡ w.inst = sym (parts_of known.uses.2).named ∙ known.same_instance ∙ (parts_of used.2).named in
+          record {
+            event = kept.0;
+            disjoint = kept.1;
+            in_time = pairs_in_time earlier c named apart_at in_time_at k s at j d below x u used known;
+            interface = (triggers j d below).once known.invocation x u known.is_earlier same_inst used known.uses kept.0;
+          }

@@ -1,8 +1,6 @@
 -- A component's instances have distinct names, and its outputs are connected once each.
-use Rattle.std.proofs.Common.{◌≡◌, ℕ, List, [], ◌∷◌, ◌++◌, map, flat_map, take, slice_get, Some, option_map, refl, sym, ap, subst, ◌∙◌, inl, inr, arith}
+use Rattle.std.proofs.Common.{◌≡◌, ℕ, List, map, take, slice_get, Some, option_map, refl, sym, ap, subst, ◌∙◌, inl, inr, arith}
 use Rattle.std.specs.Prelude.{Contains}
-use Rattle.std.proofs.lemmas.List.{map-append}
-use Rattle.std.proofs.lemmas.List.Elements.{All-head}
 use Rattle.std.proofs.lemmas.List.Folds.{flat_map-map}
 use Rattle.std.proofs.lemmas.Option.{slice_get-map}
 use Rattle.hw_names.specs.Name.{Text, AreDistinct}
@@ -11,47 +9,25 @@ use Rattle.fil_ast.specs.Connections.{ConnectsOnce, connected_at}
 use Rattle.fil_ast.specs.Items.{scope_after}
 use Rattle.fil_ast.specs.Naming.{instance_names}
 use Rattle.fil_ast.specs.Rules.{F1, FilRules}
-use Rattle.fil_ast.specs.Scope.{Instance, instances_at}
+use Rattle.fil_ast.specs.Scope.{Instance}
 use Rattle.fil_ast.specs.Tree.{Component, Design, Statement, New, Call, Both, Connect}
 use Rattle.fil_ast.specs.Wires.{whole_scope}
 use Rattle.fil_share.proofs.MakesLemmas.{at_statement}
 use Rattle.fil_share.proofs.OwnLemmas.{names_of}
 use Rattle.fil_lower.proofs.ChainLemmas.{all_of, apart_at}
-use Rattle.fil_lower.proofs.NewNameLemmas.{AddsNew, distinct_all}
+use Rattle.fil_lower.proofs.NewNameLemmas.{AddsNew, distinct_all, instances_distinct}
 
 abbrev name_of : Instance → Text
 name_of i = i.name
 
-names_joined : (body : List Statement) → instance_names (flat_map instances_at body) ≡ flat_map (λ s. instance_names (instances_at s)) body
-names_joined [] = refl
-names_joined (s ∷ body) = map-append name_of (instances_at s) (flat_map instances_at body) ∙ ap (λ rest. instance_names (instances_at s) ++ rest) (names_joined body)
-
 module _ (comps : Design) (rules : FilRules comps) (n : ℕ) (c : Component) (here : slice_get comps n ≡ Some c) where
   -- ---- instances
-
-  abbrev made_at : Statement → List Text
-  made_at s = instance_names (instances_at s)
-
-  adds_instance : (k : ℕ) (s : Statement) → slice_get c.body k ≡ Some s → AddsNew made_at c.body k s
-  adds_instance k (Call name inst gives) at = inl refl
-  adds_instance k (Connect output value) at = inl refl
-  adds_instance k (New name made params) at =
-      let i : Instance = record { name = name; made = made; params = params } in
-      let new = All-head (λ (i : Instance). ¬ Contains (instance_names (flat_map instances_at (take k c.body))) i.name) i [] ((names_of comps rules n c here).new_names k (New name made params) at).instances in
-      inr (name, refl, subst (λ (ns : List Text). ¬ Contains ns name) (names_joined (take k c.body)) new)
-  adds_instance k (Both name made params gives) at =
-      let i : Instance = record { name = name; made = made; params = params } in
-      let new = All-head (λ (i : Instance). ¬ Contains (instance_names (flat_map instances_at (take k c.body))) i.name) i [] ((names_of comps rules n c here).new_names k (Both name made params gives) at).instances in
-      inr (name, refl, subst (λ (ns : List Text). ¬ Contains ns name) (names_joined (take k c.body)) new)
-
-  instances_distinct : AreDistinct (instance_names (whole_scope (take n comps) c).instances)
-  instances_distinct = (let D : List Text → Type 0 = AreDistinct in subst D (sym (names_joined c.body)) (distinct_all made_at c.body adds_instance))
 
   -- instances of one name are at one place
   pub same_instance : (k j : ℕ) (a b : Instance) → slice_get (whole_scope (take n comps) c).instances k ≡ Some a → slice_get (whole_scope (take n comps) c).instances j ≡ Some b → a.name ≡ b.name → k ≡ j
   same_instance k j a b at_k at_j same =
       let is = (whole_scope (take n comps) c).instances in
-      same_number (instance_names is) k j b.name instances_distinct
+      same_number (instance_names is) k j b.name (instances_distinct (take n comps) c (names_of comps rules n c here))
       (slice_get-map name_of is k ∙ ap (option_map name_of) at_k ∙ ap Some same) (slice_get-map name_of is j ∙ ap (option_map name_of) at_j)
 
   -- ---- connections

@@ -26,10 +26,12 @@ use Rattle.fil_ast.specs.Signature.{Signature}
 use Rattle.fil_ast.specs.Tree.{Component, Design}
 use Rattle.fil_fsm.specs.Chain.{register}
 use Rattle.fil_share.proofs.ListLemmas.{AllPairs-append, Contains-at}
+use Rattle.fil_share.proofs.OwnLemmas.{names_of}
 use Rattle.fil_lower.specs.Lowering.{HasEnoughBits, HasNewRegisters, IsLoweringOf, Lowering, Registers, all_registers, lowered_cell, lowered_component, lowering_with}
 use Rattle.fil_lower.proofs.DesignLemmas.{names_distinct}
 use Rattle.fil_lower.proofs.ListLemmas.{contains_in_flat, from_flat}
-use Rattle.fil_lower.proofs.MadeLemmas.{OfPrimitive, OfComponent, found_by_name, instances_distinct}
+use Rattle.fil_lower.proofs.MadeLemmas.{OfPrimitive, OfComponent, found_by_name}
+use Rattle.fil_lower.proofs.NewNameLemmas.{instances_distinct}
 use Rattle.fil_lower.proofs.NameLemmas.{from_map}
 use Rattle.fil_lower.proofs.TimedAsLemmas.{contains_map}
 use Rattle.fil_lower.proofs.UseLemmas.{some_at}
@@ -148,7 +150,7 @@ module _ (comps : Design) (rules : FilRules comps) (design : calyx.Design) (lowe
     cells_distinct =
         let D : List Text → Type 0 = AreDistinct in
         subst D (sym cell_names_are)
-        (AllPairs-append (λ (a b : Text). a ≢ b) (instance_names l.scope.instances) (all_registers l) (instances_distinct comps rules n c here) new.distinct
+        (AllPairs-append (λ (a b : Text). a ≢ b) (instance_names l.scope.instances) (all_registers l) (instances_distinct (take n comps) c (names_of comps rules n c here)) new.distinct
         (λ j d within k e inside same. new.fresh k e inside (subst (Contains (instance_names l.scope.instances)) same (Contains-get_or (instance_names l.scope.instances) j d within))))
 
     pub cell_found : (d : CellDef) → Contains low.cells d → cell_named low.cells d.name ≡ Some d

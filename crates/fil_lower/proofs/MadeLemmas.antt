@@ -1,31 +1,29 @@
 -- What the instances of a component that keeps the rules are made of; their names differ.
-use Rattle.std.proofs.Common.{◌≡◌, ◌⊎◌, ℕ, zero, suc, ◌<◌, ◌≤◌, Bool, List, [], ◌∷◌, ◌++◌, length, map, flat_map, take, get_or, slice_get, All, Option, Some, None, option_map, is_some, refl, sym, ap, subst, ◌∙◌, inl, inr, add-one, arith}
+use Rattle.std.proofs.Common.{◌≡◌, ◌⊎◌, ℕ, ◌<◌, Bool, List, [], ◌∷◌, map, take, get_or, slice_get, All, Option, Some, None, option_map, is_some, refl, sym, ap, ◌∙◌, inl, inr, arith}
 use Rattle.std.specs.List.{find}
 use Rattle.std.specs.Option.{option_and_then}
 use Rattle.std.specs.Prelude.{Contains, bytes_eq, if◌then◌else◌}
-use Rattle.std.proofs.lemmas.List.{append-nil, length-take, map-append}
-use Rattle.std.proofs.lemmas.List.Elements.{All-contains, All-head}
+use Rattle.std.proofs.lemmas.List.{length-take}
+use Rattle.std.proofs.lemmas.List.Elements.{All-contains}
 use Rattle.std.proofs.lemmas.Option.{none-some, option_and_then_some, same_Some, slice_get-get_or, slice_get_within}
 use Rattle.std.proofs.lemmas.Slice.Eq.{bytes_eq-Decides}
-use Rattle.std.proofs.Math.Seq.{take-length}
 use Rattle.hw_names.specs.Name.{Text, AreDistinct}
-use Rattle.hw_names.proofs.NameLemmas.{AreDistinct-push}
 use Rattle.hw_prims.specs.Table.{prim_of}
 use Rattle.hw_prims.specs.declared.prim.Primitive.{Primitive}
-use Rattle.fil_ast.specs.Naming.{instance_names}
 use Rattle.fil_ast.specs.Primitives.{signature_by, table_name, timing_of}
 use Rattle.fil_ast.specs.Rules.{FilRules}
 use Rattle.fil_ast.specs.Scope.{Instance, Scope, bare_signature, component_named, instance_named, instance_signature, instances_at, signature_in}
 use Rattle.fil_ast.specs.Signature.{Signature, component_signature}
-use Rattle.fil_ast.specs.Tree.{Component, Design, Statement, New, Call, Both, Connect}
+use Rattle.fil_ast.specs.Tree.{Component, Design}
 use Rattle.fil_ast.specs.Wires.{whole_scope}
 use Rattle.fil_share.specs.Instances.{CanBeMade, signature_of}
 use Rattle.fil_share.proofs.CalleeLemmas.{named_among}
 use Rattle.fil_share.proofs.ListLemmas.{All-flat_map, slice_get-take}
-use Rattle.fil_share.proofs.MakesLemmas.{flat_next, makes_instances}
-use Rattle.fil_share.proofs.OwnLemmas.{KeepsNames, names_of, some_there}
+use Rattle.fil_share.proofs.MakesLemmas.{makes_instances}
+use Rattle.fil_share.proofs.OwnLemmas.{names_of, some_there}
 use Rattle.fil_lower.proofs.AvailableLemmas.{found_passes}
 use Rattle.fil_lower.proofs.CallLemmas.{found_among}
+use Rattle.fil_lower.proofs.NewNameLemmas.{instances_distinct}
 use Rattle.fil_lower.proofs.NameLemmas.{later_distinct, first_differs, other_name, same_name}
 use Rattle.fil_lower.proofs.TimedAsLemmas.{contains_map, place_of}
 use Rattle.fil_lower.proofs.ListLemmas.{contains_none, first_or_later}
@@ -68,46 +66,8 @@ module _ (comps : Design) (rules : FilRules comps) (n : ℕ) (c : Component) (he
   abbrev scope : Scope
   scope = whole_scope earlier c
 
-  abbrev made_by : ℕ → List Instance
-  made_by k = flat_map instances_at (take k c.body)
-
-  named : KeepsNames earlier c
-  named = names_of comps rules n c here
-
-  distinct_next : (k : ℕ) (s : Statement) → slice_get c.body k ≡ Some s → AreDistinct (instance_names (made_by k)) → AreDistinct (instance_names (made_by k ++ instances_at s))
-  distinct_next k s at distinct = by s (named.new_names k s at).instances
-    where
-      D : List Instance → Type 0
-      D is = AreDistinct (instance_names is)
-
-      pushed : (i : Instance) → ¬ Contains (instance_names (made_by k)) i.name → D (made_by k ++ i ∷ [])
-      pushed i new =
-          let E : List Text → Type 0 = AreDistinct in
-          subst E (sym (map-append (λ (j : Instance). j.name) (made_by k) (i ∷ []))) (AreDistinct-push (instance_names (made_by k)) i.name distinct new)
-
-      by : (s : Statement) → All (λ (i : Instance). ¬ Contains (instance_names (made_by k)) i.name) (instances_at s) → D (made_by k ++ instances_at s)
-      by (New name made params) new = pushed _ (All-head (λ (i : Instance). ¬ Contains (instance_names (made_by k)) i.name) _ [] new)
-      by (Both name made params gives) new = pushed _ (All-head (λ (i : Instance). ¬ Contains (instance_names (made_by k)) i.name) _ [] new)
-      by (Call name inst gives) new = subst D (sym (append-nil (made_by k))) distinct
-      by (Connect output value) new = subst D (sym (append-nil (made_by k))) distinct
-
-  distinct_to : (k : ℕ) → k ≤ length c.body → AreDistinct (instance_names (made_by k))
-  distinct_to zero within = λ i j d less below. absurd (omega arith)
-  distinct_to (suc k) within =
-      let s = get_or c.body k (New [] [] []) in
-      let at : slice_get c.body k ≡ Some s = slice_get-get_or c.body k (New [] [] []) (omega (arith, within)) in
-      let grown : made_by k ++ instances_at s ≡ made_by (suc k) = sym (flat_next instances_at c.body k s at) ∙ ap made_by (add-one k) in
-      let D : List Instance → Type 0 = λ is. AreDistinct (instance_names is) in
-      subst D grown (distinct_next k s at (distinct_to k (omega (arith, within))))
-
-  -- the instances of a component have names of their own
-  pub instances_distinct : AreDistinct (instance_names scope.instances)
-  instances_distinct =
-      let D : List Statement → Type 0 = λ body. AreDistinct (instance_names (flat_map instances_at body)) in
-      subst D (take-length c.body) (distinct_to (length c.body) (omega arith))
-
   pub instance_found : (i : Instance) → Contains scope.instances i → instance_named scope.instances i.name ≡ Some i
-  instance_found i has = found_by_name (λ (j : Instance). j.name) scope.instances i instances_distinct has
+  instance_found i has = found_by_name (λ (j : Instance). j.name) scope.instances i (instances_distinct earlier c (names_of comps rules n c here)) has
 
   can_be_made : All (CanBeMade earlier) scope.instances
   can_be_made = All-flat_map (CanBeMade earlier) instances_at c.body (λ k d within. (makes_instances comps rules n c here).made k (get_or c.body k d) (slice_get-get_or c.body k d within))

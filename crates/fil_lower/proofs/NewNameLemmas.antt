@@ -1,5 +1,5 @@
--- Lists of names to which each statement adds a new one at most: the names are distinct, and so are those of a component's invocations.
-use Rattle.std.proofs.Common.{◌≡◌, ◌⊎◌, ℕ, zero, suc, ◌<◌, ◌≤◌, List, [], ◌∷◌, ◌++◌, length, map, flat_map, take, get_or, slice_get, All, Some, refl, sym, ap, subst, ◌∙◌, inl, inr, add-one, arith}
+-- Lists of names to which each statement adds a new one at most: the names are distinct, and so are those of a component's instances and of its invocations.
+use Rattle.std.proofs.Common.{◌≡◌, ◌⊎◌, ℕ, zero, suc, ◌<◌, ◌≤◌, List, [], ◌∷◌, ◌++◌, length, flat_map, take, get_or, slice_get, All, Some, refl, sym, ap, subst, ◌∙◌, inl, inr, add-one, arith}
 use Rattle.std.specs.Prelude.{Contains}
 use Rattle.std.proofs.lemmas.List.{append-nil, map-append}
 use Rattle.std.proofs.lemmas.List.Elements.{All-head, Contains-append_right}
@@ -7,8 +7,8 @@ use Rattle.std.proofs.lemmas.Option.{slice_get-get_or}
 use Rattle.std.proofs.Math.Seq.{take-length}
 use Rattle.hw_names.specs.Name.{Text, AreDistinct}
 use Rattle.hw_names.proofs.NameLemmas.{AreDistinct-push}
-use Rattle.fil_ast.specs.Naming.{invocation_names, port_names}
-use Rattle.fil_ast.specs.Scope.{Invocation, invocations_at}
+use Rattle.fil_ast.specs.Naming.{instance_names, invocation_names, port_names}
+use Rattle.fil_ast.specs.Scope.{Instance, Invocation, instances_at, invocations_at}
 use Rattle.fil_ast.specs.Tree.{Component, Design, Statement, New, Call, Both, Connect}
 use Rattle.fil_ast.specs.Wires.{whole_scope}
 use Rattle.fil_share.proofs.MakesLemmas.{flat_next}
@@ -43,6 +43,35 @@ module _ (f : Statement → List Text) (body : List Statement) where
         let D : List Statement → Type 0 = λ b. AreDistinct (flat_map f b) in
         let all : length body ≤ length body = omega arith in
         subst D (take-length body) (distinct_to (length body) all)
+
+-- ---- instances
+
+abbrev made_at : Statement → List Text
+made_at s = instance_names (instances_at s)
+
+made_joined : (body : List Statement) → instance_names (flat_map instances_at body) ≡ flat_map made_at body
+made_joined [] = refl
+made_joined (s ∷ body) = map-append (λ (i : Instance). i.name) (instances_at s) (flat_map instances_at body) ∙ ap (λ rest. made_at s ++ rest) (made_joined body)
+
+module _ (earlier : Design) (c : Component) (named : KeepsNames earlier c) where
+  abbrev IsNew : ℕ → Instance → Type 0
+  IsNew k i = ¬ Contains (instance_names (flat_map instances_at (take k c.body))) i.name
+
+  adds_instance : (k : ℕ) (s : Statement) → slice_get c.body k ≡ Some s → AddsNew made_at c.body k s
+  adds_instance k s at = by s (named.new_names k s at).instances
+    where
+      first : (i : Instance) → All (IsNew k) (i ∷ []) → ¬ Contains (flat_map made_at (take k c.body)) i.name
+      first i new = subst (λ (names : List Text). ¬ Contains names i.name) (made_joined (take k c.body)) (All-head (IsNew k) i [] new)
+
+      by : (s : Statement) → All (IsNew k) (instances_at s) → AddsNew made_at c.body k s
+      by (Call name inst gives) new = inl refl
+      by (Connect output value) new = inl refl
+      by (New name made params) new = inr (name, refl, first (record { name = name; made = made; params = params }) new)
+      by (Both name made params gives) new = inr (name, refl, first (record { name = name; made = made; params = params }) new)
+
+  -- the instances of a component have names of their own
+  pub instances_distinct : AreDistinct (instance_names (whole_scope earlier c).instances)
+  instances_distinct = (let D : List Text → Type 0 = AreDistinct in subst D (sym (made_joined c.body)) (distinct_all made_at c.body adds_instance))
 
 -- ---- invocations
 

@@ -10,6 +10,7 @@ use Rattle.std.proofs.lemmas.Option.{none-some, same_Some, slice_get-map}
 use Rattle.std.proofs.lemmas.Slice.Eq.{bytes_eq-Decides}
 use Rattle.hw_names.specs.Name.{Text}
 use Rattle.hw_prims.specs.Timed.{Fixed, HasDelay, TimedEvent, TimedPort}
+use Rattle.fil_ast.proofs.HoldLemmas.{use_listed, uses_by_call}
 use Rattle.fil_ast.proofs.UseLemmas.{parts_of}
 use Rattle.fil_ast.specs.Behaviours.{timed_delay, timed_event}
 use Rattle.fil_ast.specs.Holds.{uses_of}
@@ -30,7 +31,7 @@ use Rattle.fil_lower.proofs.CallLemmas.{IsCalled, ShareUses}
 use Rattle.fil_lower.proofs.ListLemmas.{contains_none, first_or_later}
 use Rattle.fil_lower.proofs.NameLemmas.{from_map}
 use Rattle.fil_lower.proofs.TimedAsLemmas.{IsTimedAs, contains_map, number_of}
-use Rattle.fil_lower.proofs.UseLemmas.{all_uses, use_listed, uses_rise}
+use Rattle.fil_lower.proofs.UseLemmas.{all_uses}
 
 -- ---- lists
 
@@ -144,12 +145,12 @@ module _ (earlier : Design) (c : Component) where
     pub slot_for_each : (p : TimedPort) → Contains (callee_of earlier c v.inst).sig.ins p → (slot : Slot) × Contains (map (slot_of c) (uses_of (whole_scope earlier c) v)) slot × (slot.target ≡ p.event)
     slot_for_each p has =
         let s = timed.starts p has v.inst v.gives.times f.each.times in
-        (slot_of c s.0, contains_map (slot_of c) (uses_of (whole_scope earlier c) v) s.0 (use_listed (whole_scope earlier c) v f.sig f.signed s.0 s.1), s.2)
+        (slot_of c s.0, contains_map (slot_of c) (uses_of (whole_scope earlier c) v) s.0 (use_listed (whole_scope earlier c) v s.0 (f.sig, f.signed, s.1)), s.2)
 
     pub slots_once : AllPairs (λ (s t : Slot). s.target ≢ t.target) (map (slot_of c) (uses_of (whole_scope earlier c) v))
     slots_once =
         pairs_map (λ (s t : Slot). s.target ≢ t.target) (slot_of c) (uses_of (whole_scope earlier c) v)
-        (λ i j d less within same. let rise = uses_rise (whole_scope earlier c) v f.sig f.signed i j d less within in omega (arith, rise, same))
+        (λ i j d less within same. let rise = (uses_by_call (whole_scope earlier c) v).1 i j d less within in omega (arith, rise, same))
 
   -- two invocations of one instance share its events
   pub shared_uses : (v w : Invocation) → IsCalled earlier c v → IsCalled earlier c w → ((u x : timeline.Use) → IsUseOf (whole_scope earlier c) v u → IsUseOf (whole_scope earlier c) w x → u.inst ≡ x.inst → u.event ≡ x.event → ShareUses c u x) →

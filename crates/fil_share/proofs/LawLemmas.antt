@@ -5,7 +5,7 @@ use Rattle.std.proofs.lemmas.Bool.{cases_lt}
 use native.Mathlib.Numerals.{unary_clauses}
 use Rattle.std.proofs.lemmas.List.{get_or_default, get_or-map, get_or_append_left, get_or-append-add, length-map, length-append}
 use Rattle.std.proofs.lemmas.List.Elements.{All-nil, All-cons, All-map, All-weaker}
-use Rattle.fil_share.specs.Sharing.{IsHeld, AreApart, KeepsApart, EndsInTime, CanShare}
+use Rattle.fil_share.specs.Sharing.{IsHeld, AreApart, KeepsApart, EndsInPairs, CanShare}
 use Rattle.fil_share.specs.Laws.{KeepDelay, IsShort, use_from, uses_from, RulesAreExact}
 use Rattle.fil_share.specs.declared.hold.Hold.{Hold}
 use Rattle.fil_share.proofs.ListLemmas.{AllPairs-append, AllPairs-map, All-flat_map}
@@ -23,7 +23,7 @@ later_starts delay start (next ∷ starts) legal =
     All-cons P next starts here (All-weaker Q P (λ row h. let g : next + delay ≤ row = h in omega arith) starts (later_starts delay next starts (legal_tail delay start (next ∷ starts) legal)))
 
 -- each use ends within the delay of the start of each
-near_at : (delay : ℕ) (uses : List Hold) → EndsInTime delay uses → All (IsShort delay) uses → (i j : ℕ) (d : Hold) → i < length uses → j < length uses → (get_or uses i d).to ≤ (get_or uses j d).from + delay
+near_at : (delay : ℕ) (uses : List Hold) → EndsInPairs delay uses → All (IsShort delay) uses → (i j : ℕ) (d : Hold) → i < length uses → j < length uses → (get_or uses i d).to ≤ (get_or uses j d).from + delay
 near_at delay uses ends short i j d i_in j_in =
     elim (cases_lt i j) [
       | inl less ↦ (ends i j d less j_in).1
@@ -35,7 +35,7 @@ near_at delay uses ends short i j d i_in j_in =
       ]
     ]
 
-near : (delay : ℕ) (uses : List Hold) → EndsInTime delay uses → All (IsShort delay) uses → (i j : ℕ) (d e : Hold) → i < length uses → j < length uses → (get_or uses i d).to ≤ (get_or uses j e).from + delay
+near : (delay : ℕ) (uses : List Hold) → EndsInPairs delay uses → All (IsShort delay) uses → (i j : ℕ) (d e : Hold) → i < length uses → j < length uses → (get_or uses i d).to ≤ (get_or uses j e).from + delay
 near delay uses ends short i j d e i_in j_in =
     subst (λ (h : Hold). (get_or uses i d).to ≤ h.from + delay) (get_or_default uses j d e j_in) (near_at delay uses ends short i j d i_in j_in)
 

@@ -1,5 +1,4 @@
 pub mod ListLemmas
-pub mod HoldLemmas
 pub mod SharingLemmas
 pub mod LawLemmas
 pub mod MeetLemmas

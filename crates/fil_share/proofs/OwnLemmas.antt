@@ -9,10 +9,12 @@ use Rattle.std.proofs.lemmas.List.Concat.{flat_map-append}
 use Rattle.std.proofs.lemmas.List.Elements.{All-append, All-cons, All-contains, All-head, All-map, All-nil, All-tail, All-weaker}
 use Rattle.std.proofs.lemmas.List.Folds.{find-append}
 use Rattle.std.proofs.lemmas.List.Kept.{AllPairs-cons, AllPairs-filter}
-use Rattle.std.proofs.lemmas.Option.{same_Some, slice_get-get_or}
+use Rattle.std.proofs.lemmas.Option.{same_Some, slice_get-get_or, slice_get_within, get_or_from_slice_get}
 use Rattle.std.proofs.lemmas.Slice.Eq.{bytes_eq-Decides}
 use Rattle.std.proofs.Math.Seq.{take-length}
 use Rattle.hw_names.specs.Name.{Text}
+use Rattle.fil_ast.proofs.HoldLemmas.{IsHoldBy, holds_by_call, uses_by_call}
+use Rattle.fil_ast.proofs.SharingLemmas.{AreInTime, KeepsPairsInTime, OfEarlier, ends_by_pairs, pairs_by_ends}
 use Rattle.fil_ast.proofs.UseLemmas.{one_use as same_use, parts_of}
 use Rattle.fil_ast.specs.Holds.{Start, Hold, Follows, NeverMeet, uses_of, hold_from, holds_by, holds_from}
 use Rattle.fil_ast.specs.Items.{scope_after, scope_with}
@@ -27,7 +29,6 @@ use Rattle.fil_ast.specs.Wires.{whole_scope}
 use Rattle.fil_share.specs.Inner.{AreSpaced, IsSpaced, SpacedHoldsAreApart}
 use Rattle.fil_share.specs.Instances.{signature_of}
 use Rattle.fil_share.specs.Own.{OwnHoldsAreApart}
-use Rattle.fil_share.proofs.HoldLemmas.{IsHoldBy, holds_by_call, uses_by_call}
 use Rattle.fil_share.proofs.ListLemmas.{two_of, AllPairs-head, AllPairs-tail, AllPairs-append, All-flat_map, Contains-at}
 use Rattle.fil_share.proofs.Lookup.{find_nowhere}
 use Rattle.fil_share.proofs.MakesLemmas.{at_statement, flat_next}
@@ -148,6 +149,10 @@ module _ (earlier : Design) (c : Component) (named : KeepsNames earlier c) where
     pub to_with : (v : Invocation) (u : Use) → IsFound (made_in k ++ instances_at s) v.inst → IsUseOf whole v u → IsUseOf with v u
     to_with v u found (sig, is, used) = (sig, same_meaning (made_in k ++ instances_at s) (flat_map instances_at (drop (k + 1) c.body)) v.inst cut_with found ∙ is, used)
 
+    pub to_whole : (v : Invocation) (u : Use) → IsFound (made_in k ++ instances_at s) v.inst → IsUseOf with v u → IsUseOf whole v u
+    to_whole v u found (sig, is, used) =
+        (sig, sym (same_meaning (made_in k ++ instances_at s) (flat_map instances_at (drop (k + 1) c.body)) v.inst cut_with found) ∙ is, used)
+
   -- the instance of each invocation is made by then
   abbrev pub FoundIn : List Instance → Invocation → Type 0
   FoundIn instances v = IsFound instances v.inst
@@ -200,6 +205,63 @@ module _ (earlier : Design) (c : Component) (named : KeepsNames earlier c) where
         let P : List Invocation → Type 0 = AllPairs R in
         subst P calls (AllPairs-append R (called_in k) (invocations_at s) (pairs_to k (omega arith)) (one_call s) (next k s at (omega arith)))
 
+  -- two invocations' uses of an event of an instance stand in the relation
+  abbrev pub OfUses : (Use → Use → Type 0) → Invocation → Invocation → Type 0
+  OfUses R v w = (u x : Use) → IsUseOf whole v u → IsUseOf whole w x → u.inst ≡ x.inst → u.event ≡ x.event → R u x
+
+  -- so do each two, where each use by the first statements does with each earlier one
+  module _ (R : Use → Use → Type 0) (last : ℕ) (short : last ≤ length c.body) (each : (k : ℕ) (s : Statement) (at : slice_get c.body k ≡ Some s) → k < last → All (λ w. (x u : Use) → IsUseOf (with k s at) w x → IsEarlierUse (with k s at) x u → R u x) (invocations_at s)) where
+    uses_next : (k : ℕ) (s : Statement) → slice_get c.body k ≡ Some s → k < last → All (λ v. All (OfUses R v) (invocations_at s)) (called_in k)
+    uses_next k s at within i d below j e below' u x uses_u uses_x same_instance same_event =
+        let v = get_or (called_in k) i d in
+        let w = get_or (invocations_at s) j e in
+        let used_x = to_with k s at w x (found_own k s at j e below') uses_x in
+        let used_u = to_with k s at v u (found_more (made_in k) (instances_at s) v.inst (found_all k (omega arith) i d below)) uses_u in
+        each k s at within j e below' x u used_x
+        (record { invocation = v; is_earlier = (i, below, get_or_default (called_in k) i v d below); uses = used_u; same_instance = same_instance; same_event = same_event })
+
+    pub uses_so_far : (k : ℕ) → k ≤ last → AllPairs (OfUses R) (called_in k)
+    uses_so_far k within = pairs_to (OfUses R) last short uses_next k within
+
+    -- and as a statement sees them
+    pub of_earlier : (k : ℕ) (s : Statement) (at : slice_get c.body k ≡ Some s) → k ≤ last → OfEarlier R (with k s at)
+    of_earlier k s at within i j v w u x less at_i at_j use_v use_w =
+        let found : All (FoundIn (made_in k)) (called_in k) = found_all k (omega arith) in
+        let below = slice_get_within (called_in k) j w at_j in
+        let is_v : get_or (called_in k) i v ≡ v = get_or_from_slice_get (called_in k) i v v at_i in
+        let is_w : get_or (called_in k) j v ≡ w = get_or_from_slice_get (called_in k) j w v at_j in
+        let found_v : FoundIn (made_in k) v = subst (FoundIn (made_in k)) is_v (found i v (omega arith)) in
+        let found_w : FoundIn (made_in k) w = subst (FoundIn (made_in k)) is_w (found j v below) in
+        let pair : OfUses R v w = subst (OfUses R v) is_w (subst (λ (y : Invocation). OfUses R y (get_or (called_in k) j v)) is_v (uses_so_far k within i j v less below)) in
+        pair u x (to_whole k s at v u (found_more (made_in k) (instances_at s) v.inst found_v) use_v) (to_whole k s at w x (found_more (made_in k) (instances_at s) w.inst found_w) use_w)
+
+  module _ (R : Use → Use → Type 0) (each : (k : ℕ) (s : Statement) (at : slice_get c.body k ≡ Some s) → All (λ w. (x u : Use) → IsUseOf (with k s at) w x → IsEarlierUse (with k s at) x u → R u x) (invocations_at s)) where
+    pub uses_paired : AllPairs (OfUses R) whole.invocations
+    uses_paired =
+        let P : List Statement → Type 0 = λ body. AllPairs (OfUses R) (flat_map invocations_at body) in
+        let all : length c.body ≤ length c.body = omega arith in
+        subst P (take-length c.body) (uses_so_far R (length c.body) all (λ k s at below. each k s at) (length c.body) all)
+
+    pub all_earlier : (k : ℕ) (s : Statement) (at : slice_get c.body k ≡ Some s) → OfEarlier R (with k s at)
+    all_earlier k s at =
+        let all : length c.body ≤ length c.body = omega arith in
+        let below = slice_get_within c.body k s at in
+        of_earlier R (length c.body) all (λ k s at below. each k s at) k s at (omega arith)
+
+  -- F12 at all statements gives it of each two uses, and the other way
+  module _ (apart : (k : ℕ) (s : Statement) → slice_get c.body k ≡ Some s → All (KeepsUsesApart (scope_with earlier c (take k c.body) s)) (invocations_at s)) where
+    pub pairs_in_time : ((k : ℕ) (s : Statement) → slice_get c.body k ≡ Some s → All (EndsInTime (scope_with earlier c (take k c.body) s)) (invocations_at s))
+        → (k : ℕ) (s : Statement) → slice_get c.body k ≡ Some s → All (KeepsPairsInTime (scope_with earlier c (take k c.body) s)) (invocations_at s)
+    pairs_in_time ends k s at j d below =
+        pairs_by_ends (with k s at) (get_or (invocations_at s) j d) (apart k s at j d below)
+        (all_earlier AreDisjoint (λ k s at j d below x u used known. (apart k s at j d below x u used known).1) k s at) (ends k s at j d below)
+
+    pub ends_in_time : ((k : ℕ) (s : Statement) → slice_get c.body k ≡ Some s → All (KeepsPairsInTime (scope_with earlier c (take k c.body) s)) (invocations_at s))
+        → (k : ℕ) (s : Statement) → slice_get c.body k ≡ Some s → All (EndsInTime (scope_with earlier c (take k c.body) s)) (invocations_at s)
+    ends_in_time pairs k s at j d below =
+        ends_by_pairs (with k s at) (get_or (invocations_at s) j d) (apart k s at j d below)
+        (all_earlier (AreInTime whole) (λ k s at j d below x u used known. pairs k s at j d below x u used known) k s at) (pairs k s at j d below)
+
   -- an invocation's uses of one event are one
   pub one_use : (v : Invocation) (u x : Use) → IsUseOf whole v u → IsUseOf whole v x → u.event ≡ x.event → (u.at ≡ x.at) × (u.hold ≡ x.hold)
   one_use v u x (sig, is, used) (sig', is', used') same =
@@ -245,21 +307,11 @@ module _ (earlier : Design) (c : Component) (named : KeepsNames earlier c) where
     abbrev ShareWell : Invocation → Invocation → Type 0
     ShareWell v w = (u x : Use) → IsUseOf whole v u → IsUseOf whole w x → u.inst ≡ x.inst → u.event ≡ x.event → AreShared c u x
 
-    share_next : (k : ℕ) (s : Statement) → slice_get c.body k ≡ Some s → k ≤ length c.body → All (λ v. All (ShareWell v) (invocations_at s)) (called_in k)
-    share_next k s at within i d below j e below' u x uses_u uses_x same_instance same_event =
-        let v = get_or (called_in k) i d in
-        let w = get_or (invocations_at s) j e in
-        let used_x = to_with k s at w x (found_own k s at j e below') uses_x in
-        let used_u = to_with k s at v u (found_more (made_in k) (instances_at s) v.inst (found_all k within i d below)) uses_u in
-        let earlier : IsEarlierUse (with k s at) x u = record { invocation = v; is_earlier = (i, below, get_or_default (called_in k) i v d below); uses = used_u; same_instance = same_instance; same_event = same_event } in
-        let kept = sharing.apart k s at j e below' x u used_x earlier in
-        record { event = kept.0; disjoint = kept.1; in_time = sharing.in_time k s at j e below' x u used_x earlier }
-
     share : AllPairs ShareWell whole.invocations
-    share =
-        let P : List Statement → Type 0 = λ body. AllPairs ShareWell (flat_map invocations_at body) in
-        let all : length c.body ≤ length c.body = omega arith in
-        subst P (take-length c.body) (pairs_to ShareWell (length c.body) all (λ k s at below. share_next k s at (omega arith)) (length c.body) all)
+    share = uses_paired (AreShared c)
+        (λ k s at j d below x u used known.
+        let kept = sharing.apart k s at j d below x u used known in
+        record { event = kept.0; disjoint = kept.1; in_time = pairs_in_time sharing.apart sharing.in_time k s at j d below x u used known })
 
     -- a hold by transaction m
     abbrev IsHoldOf : ℕ → Start → Hold → Type 0

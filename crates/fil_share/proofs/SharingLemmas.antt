@@ -4,7 +4,7 @@ use Rattle.std.specs.Prelude.{Contains, take, ◌↔◌}
 use Rattle.std.proofs.lemmas.Bool.{cases_lt}
 use Rattle.std.proofs.lemmas.List.{take_more}
 use Rattle.std.proofs.lemmas.List.Elements.{All-contains, Contains-get_or}
-use Rattle.fil_share.specs.Sharing.{IsHeld, AreApart, IsWithin, KeepsApart, EndsInTime, CanShare, StartsFirst, StartsLast, SpansInTime}
+use Rattle.fil_share.specs.Sharing.{IsHeld, AreApart, IsWithin, KeepsApart, EndsInPairs, CanShare, StartsFirst, StartsLast, SpansInTime}
 use Rattle.fil_share.specs.declared.hold.Hold.{Hold}
 use Rattle.fil_share.proofs.ListLemmas.{two_of, leader, leads_now, leads_still, AllPairs-take}
 
@@ -44,7 +44,7 @@ within_span delay uses held apart first last is_first is_last fits a b has_a has
       | inr (inr (inr h)) ↦ omega arith
     ]
 
-pub ends_in_span : (delay : ℕ) (uses : List Hold) → All IsHeld uses → KeepsApart uses → (first last : Hold) → StartsFirst uses first → StartsLast uses last → IsWithin delay first last → EndsInTime delay uses
+pub ends_in_span : (delay : ℕ) (uses : List Hold) → All IsHeld uses → KeepsApart uses → (first last : Hold) → StartsFirst uses first → StartsLast uses last → IsWithin delay first last → EndsInPairs delay uses
 ends_in_span delay uses held apart first last is_first is_last fits i j d less within =
     let i_in : i < length uses = omega arith in
     let at = within_span delay uses held apart first last is_first is_last fits in (
@@ -65,7 +65,7 @@ starts_differ uses held apart several first last is_first is_last =
     let held_two : two.from < two.to = held 1 first (omega arith) in
     elim (apart 0 1 first (omega arith) (omega arith)) [ inl h ↦ omega arith | inr h ↦ omega arith ]
 
-pub spans_in_time : (delay : ℕ) (uses : List Hold) → All IsHeld uses → KeepsApart uses → EndsInTime delay uses → SpansInTime delay uses
+pub spans_in_time : (delay : ℕ) (uses : List Hold) → All IsHeld uses → KeepsApart uses → EndsInPairs delay uses → SpansInTime delay uses
 spans_in_time delay uses held apart ends several first last is_first is_last =
     let less : first.from < last.from = starts_differ uses held apart several first last is_first is_last in
     elim (two_of (λ a b. IsWithin delay a b × IsWithin delay b a) uses first last ends is_first.0 is_last.0) [
@@ -74,14 +74,14 @@ spans_in_time delay uses held apart ends several first last is_first is_last =
       | inr (inr h) ↦ h.1
     ]
 
-pub ends_in_time : (delay : ℕ) (uses : List Hold) → All IsHeld uses → KeepsApart uses → SpansInTime delay uses → EndsInTime delay uses
+pub ends_in_time : (delay : ℕ) (uses : List Hold) → All IsHeld uses → KeepsApart uses → SpansInTime delay uses → EndsInPairs delay uses
 ends_in_time delay [] held apart spans i j d less within = absurd (omega arith)
 ends_in_time delay (use_now ∷ uses) held apart spans i j d less within =
     let first = leader StartsBefore (λ a b c h k. omega arith) (λ a b. elim (cases_lt a.from b.from) [ inl h ↦ inl (omega arith) | inr h ↦ inr h ]) use_now uses in
     let last = leader StartsAfter (λ a b c h k. omega arith) (λ a b. elim (cases_lt a.from b.from) [ inl h ↦ inr (omega arith) | inr h ↦ inl h ]) use_now uses in
     ends_in_span delay (use_now ∷ uses) held apart first.0 last.0 first.1 last.1 (spans (omega arith) first.0 last.0 first.1 last.1) i j d less within
 
-pub forms_agree : (delay : ℕ) (uses : List Hold) → All IsHeld uses → KeepsApart uses → EndsInTime delay uses ↔ SpansInTime delay uses
+pub forms_agree : (delay : ℕ) (uses : List Hold) → All IsHeld uses → KeepsApart uses → EndsInPairs delay uses ↔ SpansInTime delay uses
 forms_agree delay uses held apart = (spans_in_time delay uses held apart, ends_in_time delay uses held apart)
 
 -- a value where there is none

@@ -1,7 +1,7 @@
 -- What the rules of sharing are for: holds of a unit by legal transactions never meet. Filament, PLDI 2023; the laws are this project's.
 use Rattle.std.specs.Prelude.{◌≡◌, ◌⊎◌, ◌↔◌, ℕ, ◌+◌, ◌<◌, ◌≤◌, List, [], ◌∷◌, map, flat_map, length, All, Contains, Some, slice_get}
 use Rattle.std.specs.List.{AllAdjacentBelow}
-use Rattle.fil_share.specs.Sharing.{IsHeld, IsWithin, KeepsApart, EndsInTime, CanShare, SpansInTime, IsFirstMeet}
+use Rattle.fil_share.specs.Sharing.{IsHeld, IsWithin, KeepsApart, EndsInPairs, CanShare, SpansInTime, IsFirstMeet}
 use Rattle.fil_share.specs.declared.hold.Hold.{Hold}
 use Rattle.fil_share.specs.declared.hold.Meet.{Meet}
 
@@ -27,7 +27,7 @@ Holds row hold = (hold.from ≤ row) × (row < hold.to)
 
 -- the two forms of F12
 abbrev pub FormsAgree : Type 0
-FormsAgree = (delay : ℕ) (uses : List Hold) → All IsHeld uses → KeepsApart uses → EndsInTime delay uses ↔ SpansInTime delay uses
+FormsAgree = (delay : ℕ) (uses : List Hold) → All IsHeld uses → KeepsApart uses → EndsInPairs delay uses ↔ SpansInTime delay uses
 
 abbrev pub SharingKeepsApart : Type 0
 SharingKeepsApart =

@@ -23,13 +23,13 @@ IsWithin delay first last = last.to ≤ first.from + delay
 abbrev pub KeepsApart : List Hold → Type 0
 KeepsApart uses = AllPairs AreApart uses
 
--- F12: of each two uses, each ends within the delay after the other's start; a use alone is not judged
-abbrev pub EndsInTime : ℕ → List Hold → Type 0
-EndsInTime delay uses = AllPairs (λ first second. IsWithin delay first second × IsWithin delay second first) uses
+-- F12 in pairs: of each two uses, each ends within the delay after the other's start; a use alone is not judged
+abbrev pub EndsInPairs : ℕ → List Hold → Type 0
+EndsInPairs delay uses = AllPairs (λ first second. IsWithin delay first second × IsWithin delay second first) uses
 
 -- F11 and F12
 abbrev pub CanShare : ℕ → List Hold → Type 0
-CanShare delay uses = KeepsApart uses × EndsInTime delay uses
+CanShare delay uses = KeepsApart uses × EndsInPairs delay uses
 
 -- it is one of the uses, and none starts before it, or none after it
 abbrev pub StartsFirst : List Hold → Hold → Type 0

@@ -1,6 +1,6 @@
 //! The first and the last of several uses, and whether they end in time.
 ghost use Rattle.std.specs.Prelude.{◌≤◌, ◌↔◌, [], ◌∷◌, ◌++◌, All, IsNone, IfSome};
-ghost use Rattle.fil_share.specs.Sharing.{IsHeld, EndsWithin, KeepsApart, EndsInTime, StartsFirst, StartsLast, BreaksInTime};
+ghost use Rattle.fil_share.specs.Sharing.{IsHeld, EndsWithin, KeepsApart, EndsInPairs, StartsFirst, StartsLast, BreaksInTime};
 
 use crate::hold::{Hold, Meet};
 use hw_limits::MOST_ROWS;
@@ -37,7 +37,7 @@ pub(crate) fn overrun(earlier: &[Hold], use_now: &Hold, delay: u64) -> Option<Me
     requires small { All (EndsWithin MOST_ROWS) (earlier.now ++ use_now.now ∷ []) }
     requires delay { delay ≤ MOST_ROWS }
     requires apart { KeepsApart (earlier.now ++ use_now.now ∷ []) }
-    ensures none { IsNone result ↔ EndsInTime delay (earlier.now ++ use_now.now ∷ []) }
+    ensures none { IsNone result ↔ EndsInPairs delay (earlier.now ++ use_now.now ∷ []) }
     ensures late { IfSome result (BreaksInTime delay earlier.now use_now.now) }
 {
     if earlier.is_empty() {

@@ -185,7 +185,7 @@ module _ (comps : Design) (name : Text) (ins outs : List DataPort) (body : List 
     keeps_apart = λ u earlier is before. absurd (no_earlier u earlier is before)
 
     ends_in_time : EndsInTime scope here
-    ends_in_time = λ u earlier is before e has named. absurd (no_earlier u earlier is before)
+    ends_in_time = λ u earlier first last is before is_first is_last e has named. absurd (no_earlier u earlier is before)
 
     triggers : TriggersWithInterface scope here
     triggers = record {

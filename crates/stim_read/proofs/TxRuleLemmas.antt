@@ -1,5 +1,5 @@
 -- The walk over a stimulus of transactions finds the first limit or rule that the stimulus does not keep.
-use Rattle.std.proofs.Common.{◌≡◌, ℕ, ◌+◌, ◌≤◌, Bool, true, false, cond, nat_le, if◌then◌else◌, List, [], ◌∷◌, ◌++◌, map, Option, Some, None, inl, inr, refl, sym, ap, subst, ◌∙◌}
+use Rattle.std.proofs.Common.{◌≡◌, ℕ, ◌+◌, ◌≤◌, Bool, true, false, cond, nat_le, if◌then◌else◌, List, [], ◌∷◌, ◌++◌, Option, Some, None, inl, inr, refl, sym, ap, subst, ◌∙◌}
 use Rattle.std.specs.List.{list_all, filter, last_or}
 use Rattle.std.proofs.lemmas.Bool.{cases_Bool, leb-true, leb-false, le-leb, lt-leb}
 use Rattle.std.proofs.lemmas.List.{append-nil}
@@ -11,10 +11,10 @@ use Rattle.stim_read.specs.Rules.{told_of, refused}
 use Rattle.stim_read.specs.CycleRules.{has_known_name}
 use Rattle.stim_read.specs.TxText.{Transactions}
 use Rattle.stim_read.specs.TxEvents.{Event, EventList}
-use Rattle.stim_read.specs.TxRules.{Start, starts_in, event_number, event_by, has_known_names, has_all_values, values_fit, starts_after, is_of, last_of, rules_of, start_rules}
+use Rattle.stim_read.specs.TxRules.{Start, starts_in, event_number, event_by, has_all_values, values_fit, starts_after, is_of, last_of, rules_of, start_rules}
 use Rattle.stim_read.specs.TxRun.{count_of, rows_of_run, StartsKeepRules, KeepsTxRules, BreaksFirstTx, Count, AtStart, Rows}
 use Rattle.stim_read.specs.inside.Walk.{first_fault, unless}
-use Rattle.stim_read.specs.inside.TxWalk.{latest_start, start_fault, event_fault, tx_fault, txs_fault, count_fault, rows_fault, transactions_fault}
+use Rattle.stim_read.specs.inside.TxWalk.{latest_start, start_fault, event_fault, txs_fault, count_fault, rows_fault, transactions_fault}
 use Rattle.stim_read.specs.declared.stim_end.StimEnd.{StimEnd}
 use Rattle.stim_read.specs.declared.stim_end.StimEnd.TheVariants.{Limit}
 use Rattle.stim_read.proofs.FaultLemmas.{alone, assoc, neither, neither_there, refused_then, judged_later, broken, kept_so, kept_by}

@@ -10,8 +10,9 @@ use Rattle.fil_ast.specs.Naming.{instance_names}
 use Rattle.fil_ast.specs.Scope.{Instance, Scope}
 use Rattle.fil_share.specs.declared.uses.Use.{Use}
 use Rattle.fil_share.proofs.Lookup.{not_found}
+use Rattle.fil_share.proofs.OwnLemmas.{names_of}
 use Rattle.fil_lower.specs.inside.Place.{is_of}
-use Rattle.fil_lower.proofs.MadeLemmas.{instances_distinct}
+use Rattle.fil_lower.proofs.NewNameLemmas.{instances_distinct}
 use Rattle.fil_lower.proofs.UseNumberLemmas.{keyed_more, keyed_same}
 use Rattle.fil_lower.proofs.StepLemmas.{some_read}
 use Rattle.fil_lower.proofs.starts.uses_keyed.Goals.{in-Some+in_ok-push, in_default}
@@ -42,7 +43,7 @@ loop-number-preserved c =
                 subst A (sym w.in_ok-push.ensures.items) (All-push (λ (e : Entry). e.key < length scope.instances) entries _ (c.loop-number.invariant.small scope shows) below);
             keyed = λ scope shows n inst at_n.
                 let D : Scope → Type 0 = λ s. AreDistinct (instance_names s.instances) in
-                let distinct = subst D (sym shows.whole) (instances_distinct shows.design shows.rules shows.number scope.comp shows.at) in
+                let distinct = subst D (sym shows.whole) (instances_distinct (take shows.number shows.design) scope.comp (names_of shows.design shows.rules shows.number scope.comp shows.at)) in
                 ap (λ (es : List Entry). map (slice_get uses) (with_key n es)) w.in_ok-push.ensures.items
                 ∙ keyed_more own uses j u at (instance_names scope.instances) entries w.in-Some.key n inst distinct
                 (w.in-Some.ensures.at scope shows.instances ∙ ap Some (sym named)) at_n (c.loop-number.invariant.keyed scope shows n inst at_n);

@@ -1,5 +1,5 @@
-use Rattle.fil_share.proofs.HoldLemmas.{holds_are_listed}
+use Rattle.fil_ast.proofs.HoldLemmas.{is_listed, listed_is}
 use Rattle.fil_share.proofs.own.holds_are_listed.Goals as goal
 
 pub returns : goal.returns
-returns c = holds_are_listed
+returns c = λ scope starts h. (listed_is scope starts h, is_listed scope starts h)

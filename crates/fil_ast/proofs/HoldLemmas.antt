@@ -1,9 +1,9 @@
 -- The holds that are listed are those that there are.
-use Rattle.std.proofs.Common.{◌≡◌, ℕ, zero, suc, ◌+◌, ◌<◌, ◌≤◌, Bool, true, false, cond, List, [], ◌∷◌, ◌++◌, map, filter, flat_map, get_or, slice_get, All, Contains, Option, Some, None, refl, sym, ap, ap₂, subst, ◌∙◌, arith}
+use Rattle.std.proofs.Common.{◌≡◌, ℕ, zero, suc, ◌+◌, ◌<◌, ◌≤◌, Bool, true, false, cond, List, [], ◌∷◌, ◌++◌, map, filter, flat_map, get_or, slice_get, All, Contains, Option, Some, None, inl, inr, refl, sym, ap, ap₂, subst, ◌∙◌, arith}
 use Rattle.std.specs.Prelude.{AllPairs}
 use Rattle.std.specs.Str.{bytes_eq}
 use Rattle.std.proofs.lemmas.List.{get_or_default}
-use Rattle.std.proofs.lemmas.List.Elements.{All-append, All-cons, All-contains, All-head, All-map, All-nil, All-tail, All-weaker, Contains-append_left, Contains-append_right}
+use Rattle.std.proofs.lemmas.List.Elements.{All-append, All-cons, All-contains, All-contains_itself, All-head, All-map, All-nil, All-tail, All-weaker, Contains-append_cases, Contains-append_left, Contains-append_right}
 use Rattle.std.proofs.lemmas.List.Kept.{AllPairs-cons}
 use Rattle.std.proofs.lemmas.Option.{none-some, same_Some}
 use Rattle.std.proofs.lemmas.Slice.Eq.{bytes_eq-Decides}
@@ -15,8 +15,6 @@ use Rattle.fil_ast.specs.Sharing.{IsUseOf}
 use Rattle.fil_ast.specs.Signature.{SigEvent, Signature}
 use Rattle.fil_ast.specs.Timeline.{Use, IsUse, use_of}
 use Rattle.fil_ast.specs.Tree.{TimeAt}
-use Rattle.fil_share.specs.Held.{HoldsAreListed}
-use Rattle.fil_share.proofs.ListLemmas.{All-flat_map}
 
 -- elements of lists that are made of others
 pub in_map : {X Y : Type 0} (f : X → Y) (xs : List X) (x : X) → Contains xs x → Contains (map f xs) (f x)
@@ -42,6 +40,19 @@ in_flat f (z ∷ xs) x y (zero, within, same) has =
     Contains-append_left (f z) (flat_map f xs) y (subst (λ z. Contains (f z) y) (sym same) has)
 in_flat f (z ∷ xs) x y (suc k, within, same) has =
     Contains-append_right (f z) (flat_map f xs) y (in_flat f xs x y (k, omega arith, same) has)
+
+pub from_flat : {X Y : Type 0} (f : X → List Y) (xs : List X) (y : Y) → Contains (flat_map f xs) y → (x : X) × Contains xs x × Contains (f x) y
+from_flat f [] y (k, within, same) = absurd (omega arith)
+from_flat {X} {Y} f (x ∷ xs) y has = elim (Contains-append_cases (f x) (flat_map f xs) y has) [
+  | inl first ↦ (x, (zero, omega arith, refl), first)
+  | inr rest ↦
+      let there = from_flat f xs y rest in
+      (there.0, (suc there.1.0, omega (arith, there.1.1), there.1.2), there.2)
+]
+
+All-flat_map : {X Y : Type 0} (P : Y → Type 0) (f : X → List Y) (xs : List X) → All (λ x. All P (f x)) xs → All P (flat_map f xs)
+All-flat_map P f [] each = All-nil P
+All-flat_map P f (x ∷ xs) each = All-append P (f x) (flat_map f xs) (All-head (λ x. All P (f x)) x xs each) (All-flat_map P f xs (All-tail (λ x. All P (f x)) x xs each))
 
 -- what passes a filter
 pub All-passed : {X : Type 0} (P : X → Type 0) (p : X → Bool) (xs : List X) → All P xs → All (λ x. P x × (p x ≡ true)) (filter p xs)
@@ -77,6 +88,9 @@ module _ (sig : Signature) (inst : Text) (times : List TimeAt) where
             AllPairs-cons (λ (u w : Use). u.event < w.event) u (uses_from (suc k) es inst times)
                 (All-weaker (IsFrom (suc k)) (λ (w : Use). u.event < w.event) (λ w f. let over = f.1 in omega arith) (uses_from (suc k) es inst times) known.0) known.1,
           )
+
+pub from_filter : {X : Type 0} (p : X → Bool) (xs : List X) (x : X) → Contains (filter p xs) x → Contains xs x × (p x ≡ true)
+from_filter p xs x has = All-contains (λ x. Contains xs x × (p x ≡ true)) (filter p xs) x (All-passed (Contains xs) p xs (All-contains_itself xs)) has
 
 -- an invocation's hold by transaction m
 pub record IsHoldBy (scope : Scope) (m : ℕ) (s : Start) (v : Invocation) (h : Hold) : Type 0 where
@@ -118,7 +132,7 @@ module _ (sig : Signature) (inst : Text) (times : List TimeAt) (u : Use) (used :
   listed_from k (e ∷ es) (suc j) number at =
       Contains-append_right (uses_listed (use_of k e inst times)) (uses_from (suc k) es inst times) u (listed_from (suc k) es j (omega arith) at)
 
-use_listed : (scope : Scope) (v : Invocation) (u : Use) → IsUseOf scope v u → Contains (uses_of scope v) u
+pub use_listed : (scope : Scope) (v : Invocation) (u : Use) → IsUseOf scope v u → Contains (uses_of scope v) u
 use_listed scope v u (sig, is, used) =
     subst (λ (o : Option Signature). Contains (uses_by v o) u) (sym is) (listed_from sig v.inst v.gives.times u used 0 sig.events u.event (omega arith) used.of)
 
@@ -207,6 +221,3 @@ module _ (scope : Scope) where
       (subst B same (subst H (sym is.held)
       (in_flat (holds_by scope h.tx is.start) scope.invocations is.invocation (hold_from h.tx is.start.row is.invocation.name is.use_at) is.invoked
       (hold_there scope h.tx is.start is.invocation is.use_at is.uses is.on_event))))
-
-pub holds_are_listed : HoldsAreListed
-holds_are_listed scope starts h = (listed_is scope starts h, is_listed scope starts h)
