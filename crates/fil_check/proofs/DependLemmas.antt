@@ -1,22 +1,19 @@
 -- Lists of ports that are reached, and of names, one more at a time.
-use Rattle.std.proofs.Common.{◌≡◌, ◌↔◌, ◌⊎◌, inl, inr, ℕ, ◌+◌, ◌<◌, ◌≤◌, Bool, true, false, List, [], ◌∷◌, ◌++◌, Option, Some, None, Ok, Result, Vec, Global, Contains, length, map, take, get_or, slice_get, option_map, refl, sym, ap, ap₂, subst, ◌∙◌, append_assoc, length-append, arith}
-use Rattle.std.specs.Option.{IfSome}
-use Rattle.std.specs.Prelude.{IsSome}
+use Rattle.std.proofs.Common.{◌≡◌, ◌↔◌, ◌⊎◌, inl, inr, ℕ, ◌+◌, ◌<◌, ◌≤◌, List, [], ◌∷◌, ◌++◌, Option, Some, Vec, Global, Contains, length, map, take, get_or, slice_get, refl, sym, ap, ap₂, subst, ◌∙◌, append_assoc, length-append, arith}
+use Rattle.std.specs.Prelude.{All}
 use Rattle.std.proofs.lemmas.Bool.{cases_lt}
-use Rattle.std.proofs.lemmas.List.{take_more, get_or-take, get_or-append-add, get_or_append_left, length-take}
-use Rattle.std.proofs.lemmas.Option.{same_Some, slice_get_within, slice_get-map, get_or_from_slice_get}
-use Rattle.hw_bits.specs.declared.memory.Memory.{Memory}
+use Rattle.std.proofs.lemmas.List.{take_more, get_or-append-add, get_or_append_left, map-append}
+use Rattle.std.proofs.lemmas.List.Elements.{All-cons, All-nil}
+use Rattle.std.proofs.lemmas.Option.{same_Some, slice_get_within}
 use Rattle.hw_graph.proofs.MemberLemmas.{In, in_of, contains_of, in_left, in_right, in_append}
 use Rattle.hw_graph.specs.Graph as graph
-use Rattle.hw_names.proofs.NameLemmas.{Contains-slice_get, same_number, text_of-slice_get}
-use Rattle.hw_names.specs.Name.{Text, AreDistinct, text_of}
-use Rattle.hw_names.specs.declared.names.NameId.{NameId}
+use Rattle.hw_names.proofs.NameLemmas.{text_of-slice_get}
+use Rattle.hw_names.specs.Name.{Text, AreDistinct, KeepsTexts, text_of}
 use Rattle.fil_ast.specs.Tree.{DataPort, port_tree}
-use Rattle.fil_ast.specs.declared.tree.FilComp.{FilComp}
 use Rattle.fil_ast.specs.declared.tree.FilPort.{FilPort}
+use Rattle.fil_check.proofs.GivenLemmas.{mapped_at}
 use Rattle.fil_check.proofs.InstanceLemmas.{front_at, last_at}
-use Rattle.fil_check.proofs.MeaningLemmas.{not_found}
-use Rattle.fil_check.specs.inside.Reached.{IsReachedFrom, ReachesInputs}
+use Rattle.fil_check.specs.inside.Reached.{AreNumbered, port_names}
 
 pushed : {X : Type 0} (xs : List X) (x i : X) → Contains (xs ++ x ∷ []) i ↔ (Contains xs i ⊎ (x ≡ i))
 pushed xs x i = (to, from)
@@ -68,75 +65,72 @@ module _ (few ports : List ℕ) (count k i : ℕ) (lt : k < length ports) (so_fa
         | inr e ↦ absurd (omega (arith, pair.0, great, e))
       ]
 
--- ---- where an output stands among the ports
-
-module _ (reads : List (List ℕ)) (ports : List Text) (text : Text) (distinct : AreDistinct ports) where
-  abbrev ReachesFromName : ℕ → Type 0
-  ReachesFromName i = (start : ℕ) × (slice_get ports start ≡ Some text) × graph.Reaches reads start i
-
-  pub from_start : (start : Option NameId) → IfSome start (λ (id : NameId). slice_get ports id.0 ≡ Some text) → (IsSome start ↔ Contains ports text) → (i : ℕ) → IsReachedFrom reads start i ↔ ReachesFromName i
-  from_start None at present i = (λ r. absurd r, λ named. absurd (not_found (Contains ports text) present (Contains-slice_get ports named.0 text named.1)))
-  from_start (Some id) at present i = (
-    λ r. (id.0, at, r),
-    λ named. subst (λ (s : ℕ). graph.Reaches reads s i) (same_number ports named.0 id.0 text distinct named.1 at) named.2,
-  )
-
-pub output_reached : (names ports : List Text) (reads : List (List ℕ)) (comp : FilComp) (q : FilPort) (numbers : Vec ℕ Global) (text : Text) (start : Option NameId) (count : ℕ) → count ≡ length comp.ins.items → slice_get names q.name.0 ≡ Some text → AreDistinct ports
-    → IfSome start (λ (id : NameId). slice_get ports id.0 ≡ Some text) → (IsSome start ↔ Contains ports text) → ((i : ℕ) → Contains numbers.items i ↔ ((i < count) × IsReachedFrom reads start i)) → ReachesInputs names ports reads comp q numbers
-output_reached names ports reads comp q numbers text start count all named distinct at present reached i =
-    let called : text ≡ text_of names q.name = sym (text_of-slice_get names q.name text named) in
-    let by_name = from_start reads ports text distinct start at present i in (
-      λ has.
-          let r = (reached i).0 has in
-          (omega (arith, r.0, all), subst (λ (t : Text). (st : ℕ) × (slice_get ports st ≡ Some t) × graph.Reaches reads st i) called (by_name.0 r.1)),
-      λ pair. (reached i).1 (omega (arith, pair.0, all), by_name.1 (subst (λ (t : Text). (st : ℕ) × (slice_get ports st ≡ Some t) × graph.Reaches reads st i) (sym called) pair.1)),
-    )
+-- what is reached, of those below a count
+pub below_reached : (reads : List (List ℕ)) (count start : ℕ) (few ports : Vec ℕ Global) (listed : List ℕ) → listed ≡ ports.items → ((i : ℕ) → Contains few.items i ↔ ((i < count) × Contains listed i))
+    → ((i : ℕ) → Contains ports.items i ↔ graph.Reaches reads start i) → (i : ℕ) → Contains few.items i ↔ ((i < count) × graph.Reaches reads start i)
+below_reached reads count start few ports listed same below reached i = (
+  λ has. let r = (below i).0 has in (r.0, (reached i).0 (subst (λ (l : List ℕ). Contains l i) same r.1)),
+  λ r. (below i).1 (r.0, subst (λ (l : List ℕ). Contains l i) (sym same) ((reached i).1 r.1)),
+)
 
 -- ---- one output more
 
-module _ (names ports : List Text) (reads : List (List ℕ)) (comp : FilComp) (inputs : List (Vec ℕ Global)) (k : ℕ) (numbers : Vec ℕ Global) (q : FilPort) (all : length inputs ≡ k) (at : slice_get comp.outs.items k ≡ Some q) (reached : ReachesInputs names ports reads comp q numbers) where
-  pub output_more : ((o : ℕ) (p : FilPort) (ns : Vec ℕ Global) → o < k → slice_get comp.outs.items o ≡ Some p → slice_get inputs o ≡ Some ns → ReachesInputs names ports reads comp p ns)
-      → (o : ℕ) (p : FilPort) (ns : Vec ℕ Global) → o < k + 1 → slice_get comp.outs.items o ≡ Some p → slice_get (inputs ++ numbers ∷ []) o ≡ Some ns → ReachesInputs names ports reads comp p ns
-  output_more before o p ns lt at_p at_ns = by (cases_lt o k)
+module _ (reads : List (List ℕ)) (outputs : List ℕ) (count : ℕ) (inputs : List (Vec ℕ Global)) (k start : ℕ) (numbers : Vec ℕ Global) (all : length inputs ≡ k) (at : slice_get outputs k ≡ Some start)
+    (reached : (i : ℕ) → Contains numbers.items i ↔ ((i < count) × graph.Reaches reads start i)) where
+  abbrev IsReached : ℕ → Vec ℕ Global → Type 0
+  IsReached s ns = (i : ℕ) → Contains ns.items i ↔ ((i < count) × graph.Reaches reads s i)
+
+  pub output_more : ((o s : ℕ) (ns : Vec ℕ Global) → o < k → slice_get outputs o ≡ Some s → slice_get inputs o ≡ Some ns → IsReached s ns)
+      → (o s : ℕ) (ns : Vec ℕ Global) → o < k + 1 → slice_get outputs o ≡ Some s → slice_get (inputs ++ numbers ∷ []) o ≡ Some ns → IsReached s ns
+  output_more before o s ns lt at_s at_ns = by (cases_lt o k)
     where
-      by : (o < k) ⊎ (k ≤ o) → ReachesInputs names ports reads comp p ns
-      by (inl less) = before o p ns less at_p (sym (front_at inputs (numbers ∷ []) o (omega (arith, less, all))) ∙ at_ns)
+      by : (o < k) ⊎ (k ≤ o) → IsReached s ns
+      by (inl less) = before o s ns less at_s (sym (front_at inputs (numbers ∷ []) o (omega (arith, less, all))) ∙ at_ns)
       by (inr past) =
           let o_is : k ≡ o = omega (arith, lt, past) in
           let o_is_last : length inputs ≡ o = omega (arith, all, o_is) in
-          let same_p : q ≡ p = same_Some q p (sym at ∙ (ap (slice_get comp.outs.items) o_is ∙ at_p)) in
+          let same_s : start ≡ s = same_Some start s (sym at ∙ (ap (slice_get outputs) o_is ∙ at_s)) in
           let same_ns : numbers ≡ ns = same_Some numbers ns (sym (last_at inputs numbers) ∙ (ap (slice_get (inputs ++ numbers ∷ [])) o_is_last ∙ at_ns)) in
-          let first : ReachesInputs names ports reads comp p numbers = subst (λ (x : FilPort). ReachesInputs names ports reads comp x numbers) same_p reached in
-          subst (λ (x : Vec ℕ Global). ReachesInputs names ports reads comp p x) same_ns first
+          subst (IsReached s) same_ns (subst (λ (x : ℕ). IsReached x numbers) same_s reached)
 
--- the same of an output whose name is found among the ports
-pub output_next : (names ports : List Text) (reads : List (List ℕ)) (comp : FilComp) (inputs : List (Vec ℕ Global)) (k : ℕ) (numbers : Vec ℕ Global) (q : FilPort) (text : Text) (start : Option NameId) (count : ℕ) → length inputs ≡ k → slice_get comp.outs.items k ≡ Some q
-    → slice_get names q.name.0 ≡ Some text → count ≡ length comp.ins.items → AreDistinct ports → IfSome start (λ (id : NameId). slice_get ports id.0 ≡ Some text) → (IsSome start ↔ Contains ports text)
-    → ((i : ℕ) → Contains numbers.items i ↔ ((i < count) × IsReachedFrom reads start i))
-    → ((o : ℕ) (p : FilPort) (ns : Vec ℕ Global) → o < k → slice_get comp.outs.items o ≡ Some p → slice_get inputs o ≡ Some ns → ReachesInputs names ports reads comp p ns)
-    → (o : ℕ) (p : FilPort) (ns : Vec ℕ Global) → o < k + 1 → slice_get comp.outs.items o ≡ Some p → slice_get (inputs ++ numbers ∷ []) o ≡ Some ns → ReachesInputs names ports reads comp p ns
-output_next names ports reads comp inputs k numbers q text start count all at named count_is distinct found present reached before =
-    output_more names ports reads comp inputs k numbers q all at (output_reached names ports reads comp q numbers text start count count_is named distinct found present reached) before
+-- ---- the numbers of names
 
--- ---- distinct names, taken one by one
+pub numbered_none : (names : List Text) → AreNumbered names [] []
+numbered_none names = refl
 
-pub name_taken : (whole : List Text) (k : ℕ) (text : Text) (b : Bool) (old new : List Text) → AreDistinct whole → slice_get whole k ≡ Some text → old ≡ take k whole
-    → (◌≡◌ {A = Result Bool Memory} (Ok b) (Ok true) → (¬ Contains old text) × (new ≡ old ++ text ∷ [])) → (◌≡◌ {A = Result Bool Memory} (Ok b) (Ok false) → Contains old text × (new ≡ old)) → new ≡ take (k + 1) whole
-name_taken whole k text true old new distinct at before added there =
-    let lt = slice_get_within whole k text at in
-    (added refl).1 ∙ (ap₂ (λ (xs : List Text) (x : Text). xs ++ x ∷ []) before (sym (get_or_from_slice_get whole k text [] at)) ∙ sym (take_more whole k [] lt))
-name_taken whole k text false old new distinct at before added there =
-    let has : Contains (take k whole) text = subst (λ (l : List Text). Contains l text) before (there refl).0 in
-    let lt = slice_get_within whole k text at in
-    let short : has.0 < k = omega (arith, has.1, length-take k whole) in
-    absurd (distinct has.0 k text short lt (sym (get_or-take k whole has.0 text short) ∙ (has.2 ∙ sym (get_or_from_slice_get whole k text text at))))
+module _ (old new : List Text) (keeps : KeepsTexts old new) where
+  pub numbered_kept : (numbers : List ℕ) (texts : List Text) → AreNumbered old numbers texts → AreNumbered new numbers texts
+  numbered_kept [] [] e = refl
+  numbered_kept [] (t ∷ texts) e = absurd (cc)
+  numbered_kept (n ∷ numbers) [] e = absurd (cc)
+  numbered_kept (n ∷ numbers) (t ∷ texts) e =
+      let head : slice_get old n ≡ Some t = cc in
+      let tail : AreNumbered old numbers texts = cc in
+      ap₂ ◌∷◌ (keeps n t head) (numbered_kept numbers texts tail)
+
+  pub numbered_more : (numbers : List ℕ) (texts : List Text) (n : ℕ) (text : Text) → AreNumbered old numbers texts → slice_get new n ≡ Some text → AreNumbered new (numbers ++ n ∷ []) (texts ++ text ∷ [])
+  numbered_more numbers texts n text are at =
+      map-append (slice_get new) numbers (n ∷ [])
+      ∙ ap₂ (λ (os : List (Option Text)) (o : Option Text). os ++ o ∷ []) (numbered_kept numbers texts are) at
+      ∙ sym (map-append (λ (t : Text). Some t) texts (text ∷ []))
+
+pub numbered_within : (names : List Text) (numbers : List ℕ) (texts : List Text) → AreNumbered names numbers texts → All (λ (n : ℕ). n < length names) numbers
+numbered_within names [] texts e = All-nil (λ (n : ℕ). n < length names)
+numbered_within names (n ∷ numbers) [] e = absurd (cc)
+numbered_within names (n ∷ numbers) (t ∷ texts) e =
+    let head : slice_get names n ≡ Some t = cc in
+    let tail : AreNumbered names numbers texts = cc in
+    All-cons (λ (n : ℕ). n < length names) n numbers (slice_get_within names n t head) (numbered_within names numbers texts tail)
 
 -- the name of a port of the component by its number
-pub name_at : (names : List Text) (ports : List FilPort) (k : ℕ) (q : FilPort) (text : Text) → slice_get ports k ≡ Some q → slice_get names q.name.0 ≡ Some text → slice_get (map (λ (p : DataPort). p.name) (map (port_tree names) ports)) k ≡ Some text
+pub name_at : (names : List Text) (ports : List FilPort) (k : ℕ) (q : FilPort) (text : Text) → slice_get ports k ≡ Some q → slice_get names q.name.0 ≡ Some text → slice_get (port_names names ports) k ≡ Some text
 name_at names ports k q text at named =
-    slice_get-map (λ (p : DataPort). p.name) (map (port_tree names) ports) k
-    ∙ (ap (option_map (λ (p : DataPort). p.name)) (slice_get-map (port_tree names) ports k ∙ ap (option_map (port_tree names)) at)
-    ∙ ap Some (text_of-slice_get names q.name text named))
+    mapped_at (λ (p : FilPort). text_of names p.name) ports k q at ∙ ap Some (text_of-slice_get names q.name text named)
+
+-- names of code's ports are those of the tree's
+pub tree_names : (names : List Text) (ports : List FilPort) → port_names names ports ≡ map (λ (p : DataPort). p.name) (map (port_tree names) ports)
+tree_names names [] = refl
+tree_names names (p ∷ ports) = ap (λ (l : List Text). text_of names p.name ∷ l) (tree_names names ports)
 
 -- names in the midst of distinct ones
 pub middle_distinct : (xs ys zs : List Text) → AreDistinct ((xs ++ ys) ++ zs) → AreDistinct ys

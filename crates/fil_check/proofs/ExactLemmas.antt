@@ -11,6 +11,7 @@ use Rattle.std.proofs.lemmas.Option.{none-some, same_Some, slice_get-get_or, sli
 use Rattle.std.proofs.lemmas.Slice.Eq.{bytes_eq-Decides}
 use Rattle.hw_names.specs.Name.{Text, AreDistinct}
 use Rattle.fil_ast.proofs.UseLemmas.{parts_of}
+use Rattle.fil_ast.proofs.SharingLemmas.{KeepsPairsInTime}
 use Rattle.fil_ast.specs.Evidence.{AreKeptApart, Fits}
 use Rattle.fil_ast.specs.Holds as held
 use Rattle.fil_ast.specs.Holds.{Start, Hold, AreLegalStarts, IsHeldIn, holds_of}
@@ -19,17 +20,17 @@ use Rattle.fil_ast.specs.Naming.{event_names, instance_names}
 use Rattle.fil_ast.specs.Primitives.{is_filament_primitive, primitive_signature}
 use Rattle.fil_ast.specs.Rules.{Rule, F1, F11, F12, Keeps, KeepsComponent, KeepsRules, OfInvocation}
 use Rattle.fil_ast.specs.Scope.{Scope, Instance, Invocation, bare_signature, component_named, instance_named, instance_signature, instances_at, invocations_at, signature_in}
-use Rattle.fil_ast.specs.Sharing.{EndsInTime, IsUseOf, KeepsUsesApart}
+use Rattle.fil_ast.specs.Sharing.{IsUseOf, KeepsUsesApart}
 use Rattle.fil_ast.specs.Signature.{Delay, Fixed, Gap, End, SigEvent, Signature, component_signature, sig_event}
 use Rattle.fil_ast.specs.Timeline.{HoldsSome, IsUse, Use, hold_of, until}
 use Rattle.fil_ast.specs.Tree.{Component, Design, Event, Statement, New, Call, Both, Connect, TimeAt}
 use Rattle.fil_ast.specs.Typing.{HasShape}
 use Rattle.fil_ast.specs.Wires.{whole_scope}
-use Rattle.fil_share.proofs.HoldLemmas.{in_flat}
+use Rattle.fil_ast.proofs.HoldLemmas.{in_flat}
 use Rattle.fil_share.specs.Instances.{signature_of}
 use Rattle.fil_share.proofs.CalleeLemmas.{named_among}
 use Rattle.fil_share.proofs.ListLemmas.{All-flat_map, Contains-at}
-use Rattle.fil_share.proofs.OwnLemmas.{FoundIn, IsFound, KeepsNames, KeepsShared, cut_before, cut_with, find_last, found_all, found_more, found_own, made_in, own_apart, same_meaning, some_there}
+use Rattle.fil_share.proofs.OwnLemmas.{FoundIn, KeepsNames, KeepsShared, cut_before, cut_with, ends_in_time, find_last, found_all, found_more, found_own, made_in, own_apart, same_meaning, some_there, to_whole}
 use Rattle.fil_check.specs.inside.Callees.{HasGoodDelay, IsGoodDelay}
 use Rattle.fil_check.specs.Needed.{Collide, HoldsTwice, NothingIsHeldTwice, SharingRulesAreExact, first_ten, gap_starts, later_of, meeting_starts, sharing_rules}
 use Rattle.fil_check.specs.Held.{AreHeld}
@@ -213,20 +214,16 @@ module _ (earlier : Design) (c : Component) (others : KeepsRules first_ten earli
         (subst (C v) cut (Contains-append_left before after v has), subst (C w) cut (Contains-append_right before after w is_after))
 
     -- what is used here is used in the whole component
-    to_whole : (v : Invocation) (u : Use) → IsFound earlier c names (made_in earlier c names k ++ instances_at s) v.inst → IsUseOf with v u → IsUseOf full v u
-    to_whole v u found (sig, is, used) =
-        (sig, sym (same_meaning earlier c names (made_in earlier c names k ++ instances_at s) (flat_map instances_at (drop (k + 1) c.body)) v.inst (cut_with earlier c names k s at) found) ∙ is, used)
-
     pub own_whole : (u : Use) → IsUseOf with w u → IsUseOf full w u
     own_whole u used =
         let F : Invocation → Type 0 = FoundIn earlier c names (made_in earlier c names k ++ instances_at s) in
-        to_whole w u (All-contains F (invocations_at s) w (found_own earlier c names k s at) there) used
+        to_whole earlier c names k s at w u (All-contains F (invocations_at s) w (found_own earlier c names k s at) there) used
 
     pub earlier_whole : (v : Invocation) (u : Use) → Contains before v → IsUseOf with v u → IsUseOf full v u
     earlier_whole v u has used =
         let F : Invocation → Type 0 = FoundIn earlier c names (made_in earlier c names k) in
         let within = slice_get_within c.body k s at in
-        to_whole v u (found_more earlier c names (made_in earlier c names k) (instances_at s) v.inst (All-contains F before v (found_all earlier c names k (omega arith)) has)) used
+        to_whole earlier c names k s at v u (found_more earlier c names (made_in earlier c names k) (instances_at s) v.inst (All-contains F before v (found_all earlier c names k (omega arith)) has)) used
 
   module _ (apart : NothingIsHeldTwice earlier c) where
     no_collision : (starts : List Start) (inst : Text) (event row : ℕ) → Collide full starts inst event row → ⊥
@@ -257,8 +254,8 @@ module _ (earlier : Design) (c : Component) (others : KeepsRules first_ten earli
             absurd (no_collision (meeting_starts other.at u.at) other.inst other.event (later_of other.at u.at) found)
       ]
 
-      ends_in_time : EndsInTime (with k s at w there) w
-      ends_in_time u other used known e has_e named =
+      ends_in_pairs : KeepsPairsInTime (with k s at w there) w
+      ends_in_pairs u other used known e has_e named =
           let v = known.invocation in
           let used_v = earlier_whole k s at w there v other known.is_earlier known.uses in
           let used_w = own_whole k s at w there u used in
@@ -281,7 +278,8 @@ module _ (earlier : Design) (c : Component) (others : KeepsRules first_ten earli
   sharing_is_kept apart (suc k) item (inl (s, at, is)) =
       subst (λ (i : Item). All (Keeps earlier c i) sharing_rules) (sym is)
       (two_rules (TheStatement (take k c.body) s) (λ j d within. keeps_apart apart k s at (get_or (invocations_at s) j d) (call_there s j d within))
-      (λ j d within. ends_in_time apart k s at (get_or (invocations_at s) j d) (call_there s j d within)))
+      (ends_in_time earlier c names (λ k s at j d within. keeps_apart apart k s at (get_or (invocations_at s) j d) (call_there s j d within))
+      (λ k s at j d within. ends_in_pairs apart k s at (get_or (invocations_at s) j d) (call_there s j d within)) k s at))
 
   -- F10 to F12 at each statement
   pub nothing_twice : KeepsComponent sharing_rules earlier c → NothingIsHeldTwice earlier c

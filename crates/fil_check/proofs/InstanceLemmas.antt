@@ -1,7 +1,7 @@
 -- On which inputs the outputs of an instance depend within a row: a primitive's, and an earlier component's.
 use Rattle.std.proofs.Common.{◌≡◌, ◌↔◌, ◌⊎◌, inl, inr, ℕ, zero, suc, ◌<◌, ◌≤◌, Bool, true, false, List, [], ◌∷◌, ◌++◌, Option, Some, None, Contains, length, map, filter, slice_get, take, option_map, is_some, refl, sym, ap, subst, subst₂, ◌∙◌, arith, length-append}
 use Rattle.std.specs.Option.{option_and_then}
-use Rattle.std.specs.Prelude.{if◌then◌else◌, bytes_eq, codes, ◌||◌, reverse}
+use Rattle.std.specs.Prelude.{if◌then◌else◌, ◌||◌, reverse}
 use Rattle.std.proofs.lemmas.Bool.{cases_lt}
 use Rattle.std.proofs.lemmas.List.{reverse-append, reverse-reverse, take_at, take-append-le}
 use Rattle.std.proofs.lemmas.Option.{same_Some, slice_get_within, slice_get-map}

@@ -42,3 +42,6 @@ pub mod ListedLemmas
 pub mod SpanStartLemmas
 pub mod AddedLemmas
 pub mod PortsLemmas
+pub mod PortNumberLemmas
+pub mod TextLemmas
+pub mod InstanceNumberLemmas

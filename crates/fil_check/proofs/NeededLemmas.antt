@@ -20,7 +20,7 @@ use Rattle.fil_ast.specs.Signature.{SigEvent, Signature}
 use Rattle.fil_ast.specs.Timeline.{Use, IsUse, hold_of, use_of}
 use Rattle.fil_ast.specs.Tree.{TimeAt, Event, Component}
 use Rattle.fil_ast.specs.Typing.{HasShape}
-use Rattle.fil_share.proofs.HoldLemmas.{hold_there, in_flat}
+use Rattle.fil_ast.proofs.HoldLemmas.{hold_there, in_flat}
 use Rattle.fil_check.specs.Needed.{HoldsTwice, Collide, MeetingIsReal, GapIsReal, gap_starts, later_of, meeting_starts, start_at, with_invocation}
 
 -- two elements stand at different places

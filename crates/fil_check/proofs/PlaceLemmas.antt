@@ -8,6 +8,7 @@ use Rattle.std.proofs.lemmas.List.Elements.{All-cons, All-head, All-nil, Contain
 use Rattle.std.proofs.lemmas.Option.{none-some, same_Some, get_or_from_slice_get, slice_get-get_or, slice_get_within}
 use Rattle.std.proofs.lemmas.Slice.Eq.{bytes_eq-Decides}
 use Rattle.hw_names.specs.Name.{Text, AreDistinct}
+use Rattle.fil_ast.proofs.SharingLemmas.{pairs_by_ends}
 use Rattle.fil_ast.proofs.UseLemmas.{parts_of}
 use Rattle.fil_ast.specs.Connections.{connected_at}
 use Rattle.fil_ast.specs.Naming.{MakesNewNames, instance_names}
@@ -110,7 +111,7 @@ signed_with scope (Both name made params gives) new v there =
 pub unsigned_kept : (with : Scope) (v : Invocation) → instance_signature with v.inst ≡ None → KeepsSharing with v
 unsigned_kept with v none = record {
   apart = λ u earlier (sig, signed, used) by. absurd (none-some sig (sym none ∙ signed));
-  in_time = λ u earlier (sig, signed, used) by e there named. absurd (none-some sig (sym none ∙ signed));
+  in_time = λ u earlier first last (sig, signed, used) by is_first is_last e there named. absurd (none-some sig (sym none ∙ signed));
   triggers = record {
     triggers = λ u (sig, signed, used) some. absurd (none-some sig (sym none ∙ signed));
     once = λ earlier u w there same (sig, signed, used) by on. absurd (none-some sig (sym none ∙ signed));
@@ -242,7 +243,8 @@ module _ (scope : Scope) (before : List Statement) (s : Statement) (signed : (v 
           let last = j - length scope.invocations in
           let w_in : Contains (invocations_at s) w = (last, slice_get_within (invocations_at s) last w at_w, get_or_from_slice_get (invocations_at s) last w w at_w) in
           let apart : KeepsUsesApart (with_instance scope s) w = among (KeepsUsesApart (with_instance scope s)) (invocations_at s) w (kept 10 F11 (omega arith) (omega arith) refl) w_in in
-          let in_time : EndsInTime (with_instance scope s) w = among (EndsInTime (with_instance scope s)) (invocations_at s) w (kept 11 F12 (omega arith) (omega arith) refl) w_in in
+          let ends : EndsInTime (with_instance scope s) w = among (EndsInTime (with_instance scope s)) (invocations_at s) w (kept 11 F12 (omega arith) (omega arith) refl) w_in in
+          let in_time = pairs_by_ends (with_instance scope s) w apart (λ i j v w u x less at_i at_j use_v use_w inst event. (shared i j v w u x less at_i at_j use_v use_w inst event).disjoint) ends in
           let by_earlier : IsEarlierUse (with_instance scope s) x u =
           record {
             invocation = v;

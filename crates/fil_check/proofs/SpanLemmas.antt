@@ -4,6 +4,7 @@ use Rattle.std.specs.Prelude.{max, IfNone, IfSome, MatchOption}
 use Rattle.std.proofs.lemmas.Bool.{cases_lt}
 use Rattle.std.proofs.lemmas.Option.{same_Some, slice_get-get_or, slice_get_within, get_or_from_slice_get}
 use Rattle.hw_names.specs.Name.{Text}
+use Rattle.fil_ast.proofs.SharingLemmas.{ends_by_pairs, pairs_by_ends}
 use Rattle.fil_ast.proofs.UseLemmas.{parts_of}
 use Rattle.fil_ast.specs.Evidence.{AreKeptApart, Fits, IsGap, IsSpan, UsesEvent, Own, Another}
 use Rattle.fil_ast.specs.Naming.{event_names}
@@ -245,10 +246,13 @@ module _ (names : List Text) (comp : FilComp) (tables : Tables) (calls : List �
 
     -- F12 at each event
     pub ends_all : (n : ℕ) → length sig.events ≤ n → ((k : ℕ) → k < n → EndsAt with v k) → EndsInTime with v
-    ends_all n all below u earlier is_u known e there named =
+    ends_all n all below =
+        ends_by_pairs with v kept
+        (λ i j v w u x less at_i at_j use_v use_w inst event. (is.shared i j v w u x less at_i at_j use_v use_w inst event).in_time)
+        (λ u earlier is_u known e there named.
         let x = own u is_u in
         let within = slice_get_within sig.events u.event x.event x.of in
-        below u.event (omega arith) u earlier is_u known refl e there named
+        below u.event (omega arith) u earlier is_u known refl e there named)
 
     pub first_broken : (n : ℕ) (meet : Meet) → ((k : ℕ) → k < n → EndsAt with v k) → GapAt with v n meet → IsGap with v meet.gap meet.cycle
     first_broken n meet below here = record {
@@ -265,7 +269,10 @@ module _ (names : List Text) (comp : FilComp) (tables : Tables) (calls : List �
 
     pub gap_breaks : (gap cycle : ℕ) → IsGap with v gap cycle → EndsInTime with v → ⊥
     gap_breaks gap cycle told ends =
-        told.broken (ends_fit told.event (λ u earlier is_u known here e there named. ends u earlier is_u known e there named) told.first told.last told.delay told.span)
+        let pairs =
+        pairs_by_ends with v kept (λ i j v w u x less at_i at_j use_v use_w inst event. (is.shared i j v w u x less at_i at_j use_v use_w inst event).disjoint)
+        ends in
+        told.broken (ends_fit told.event (λ u earlier is_u known here e there named. pairs u earlier is_u known e there named) told.first told.last told.delay told.span)
 
 -- the span's order and its last hold, with one more use
 pub order_more : (span new : Span) (other : Option numbers.Use) → IfNone other (new ≡ span) → IfSome other (λ u. IsFirstOf span.first u new.first) → IfSome other (λ u. IsLastOf span.last u new.last) → span.first.at.plus ≤ span.last.at.plus → new.first.at.plus ≤ new.last.at.plus

@@ -3,7 +3,7 @@ use Rattle.std.proofs.Common.{◌≡◌, ◌⊎◌, ℕ, suc, zero, ◌+◌, ◌
 use Rattle.std.specs.Prelude.{AllPairs, ◌&&◌}
 use Rattle.std.specs.Str.{bytes_eq}
 use Rattle.std.proofs.lemmas.Bool.{and_parts, eqb-true, eq-eqb}
-use Rattle.std.proofs.lemmas.List.{append-nil, get_or_default, get_or-map, length-map}
+use Rattle.std.proofs.lemmas.List.{append-nil, get_or-map, length-map}
 use Rattle.std.proofs.lemmas.List.Concat.{flat_map-append}
 use Rattle.std.proofs.lemmas.List.Elements.{All-cons, All-nil, filter-append}
 use Rattle.std.proofs.lemmas.List.Kept.{AllPairs-filter}
@@ -11,20 +11,21 @@ use Rattle.std.proofs.lemmas.Option.{slice_get_within, get_or_from_slice_get}
 use Rattle.std.proofs.lemmas.Slice.Eq.{bytes_eq-Decides}
 use Rattle.std.proofs.Math.Seq.{take-length}
 use Rattle.hw_names.specs.Name.{Text}
+use Rattle.fil_ast.proofs.HoldLemmas.{All-passed, IsHoldBy, from_filter, hold_there, in_filter, in_flat}
+use Rattle.fil_ast.proofs.SharingLemmas.{OfEarlier, disjoint_back, each_within, earlier_listed, has_first, has_last, listed, listed_earlier, one_or_two, span_within}
 use Rattle.fil_ast.specs.Holds.{Hold, Start, hold_from, holds_by, uses_of}
 use Rattle.fil_ast.specs.Items.{IsItem, Item, TheSignature, TheStatement, TheEnd, scope_with}
 use Rattle.fil_ast.specs.Rules.{F11, F12, Keeps, KeepsComponent, KeepsRules}
-use Rattle.fil_ast.specs.Scope.{Scope, Invocation, instances_at, invocations_at}
-use Rattle.fil_ast.specs.Sharing.{AreDisjoint, EndsInTime, IsEarlierUse, IsUseOf, IsWithin, KeepsUsesApart}
+use Rattle.fil_ast.specs.Scope.{Scope, Invocation, invocations_at}
+use Rattle.fil_ast.specs.Sharing.{AreDisjoint, EndsInTime, IsEarlierUse, IsUseOf, IsUseSoFar, IsWithin, KeepsUsesApart, StartsFirst, StartsLast}
 use Rattle.fil_ast.specs.Timeline.{Use}
 use Rattle.fil_ast.specs.Tree.{Component, Design, Event, Statement}
 use Rattle.fil_share.specs.Sharing as sharing
 use Rattle.fil_share.specs.Uses.{shown_hold}
 use Rattle.fil_share.specs.declared.hold.Hold as shown
-use Rattle.fil_share.proofs.HoldLemmas.{All-passed, IsHoldBy, hold_there, in_filter, in_flat}
-use Rattle.fil_share.proofs.OwnLemmas.{AllPairs-flat, AllPairs-mapped, KeepsNames, called_in, found_all, found_more, found_own, holds_of_call, made_in, pairs_to, to_with, uses_of_call}
+use Rattle.fil_share.proofs.OwnLemmas.{AllPairs-flat, AllPairs-mapped, KeepsNames, all_earlier, called_in, holds_of_call, of_earlier, uses_of_call, uses_so_far}
 use Rattle.fil_check.specs.Needed.{first_ten, sharing_rules, start_at}
-use Rattle.fil_check.specs.Units.{IsUseOn, NameOneEvent, Shares, SharesBefore, SharingGoesByEvents, SharingHasOneMeaning, UnitEvent, UseTwice, holds_on, is_hold_on}
+use Rattle.fil_check.specs.Units.{IsUseOn, IsUseSoFarOn, NameOneEvent, NamesOneEvent, Shares, SharesAt, SharesBefore, SharingGoesByEvents, SharingHasOneMeaning, UnitEvent, UseTwice, holds_on, is_hold_on}
 use Rattle.fil_check.proofs.ExactLemmas.{after, before, call_there, cut, distinct, earlier_whole, full, is_after, names, own_whole, with}
 use Rattle.fil_check.proofs.NeededLemmas.{StandApart, across, one_event}
 
@@ -130,6 +131,13 @@ module _ (earlier : Design) (c : Component) (others : KeepsRules first_ten earli
   abbrev UsesShared : ℕ → Use → Use → Type 0
   UsesShared delay u x = AreDisjoint u x × IsWithin delay x u × IsWithin delay u x
 
+  -- where they are of the event
+  abbrev OnUnit : (Use → Use → Type 0) → Use → Use → Type 0
+  OnUnit R u x = IsUseOn unit u → IsUseOn unit x → R u x
+
+  OnUnit_back : (R : Use → Use → Type 0) → ((a b : Use) → R a b → R b a) → (a b : Use) → OnUnit R a b → OnUnit R b a
+  OnUnit_back R back a b pair on_b on_a = back a b (pair on_a on_b)
+
   abbrev pub SharesWith : ℕ → Invocation → Invocation → Type 0
   SharesWith delay v w = (u x : Use) → IsUseOf whole v u → IsUseOf whole w x → IsUseOn unit u → IsUseOn unit x → UsesShared delay u x
 
@@ -165,51 +173,108 @@ module _ (earlier : Design) (c : Component) (others : KeepsRules first_ten earli
       let S : Hold → Hold → Type 0 = AreShared delay in
       subst (S (get_or (holds_in v) k g)) (sym other.is) (subst (λ (h : Hold). S h (hold_from 0 0 w.name other.use_now)) (sym one.is) good))
 
+  -- a use by a statement, and an earlier one
+  module _ (k : ℕ) (s : Statement) (w : Invocation) (x u : Use) (used : IsUseOf (scope_with earlier c (take k c.body) s) w x) (known : IsEarlierUse (scope_with earlier c (take k c.body) s) x u) (on_x : IsUseOn unit x) (on_u : IsUseOn unit u) where
+    abbrev as_seen : Scope
+    as_seen = scope_with earlier c (take k c.body) s
+
+    twice : UseTwice as_seen unit w x u
+    twice = record { uses = used; known = known; on = on_x; earlier_on = on_u }
+
+    -- the uses so far of the event are listed
+    is_on : Use → Bool
+    is_on y = bytes_eq y.at.event unit.on
+
+    earlier_on : List Use
+    earlier_on = filter is_on (listed as_seen x)
+
+    are_on : (y : Use) → Contains (x ∷ earlier_on) y → IsUseSoFarOn as_seen unit x y
+    unfolding earlier_on is_on
+    are_on y (zero, within, same) = subst (λ (z : Use). IsUseSoFarOn as_seen unit x z) same (inl refl, on_x)
+    are_on y (suc i, within, same) =
+        let passed = from_filter is_on (listed as_seen x) y (i, omega arith, same) in
+        let before = listed_earlier as_seen x y passed.0 in
+        (inr before, record { of = before.same_instance ∙ on_x.of; event = before.same_event ∙ on_x.event; on = (bytes_eq-Decides y.at.event unit.on).0 passed.1 })
+
+    all_on : (y : Use) → IsUseSoFarOn as_seen unit x y → Contains (x ∷ earlier_on) y
+    unfolding earlier_on is_on
+    all_on y (inl is, on_y) = (zero, omega arith, sym is)
+    all_on y (inr before, on_y) =
+        let there = in_filter is_on (listed as_seen x) y (earlier_listed as_seen x y before) ((bytes_eq-Decides y.at.event unit.on).1 on_y.on) in
+        (suc there.0, omega (arith, there.1), there.2)
+
+    -- where the earlier ones are apart, each of the two ends within the delay after the other's start
+    ends_in_pair : SharesAt as_seen unit w → OfEarlier (OnUnit AreDisjoint) as_seen → (e : Event) → Contains c.events e → e.name ≡ unit.on → IsWithin e.delay x u × IsWithin e.delay u x
+    ends_in_pair keeps before e has is =
+        let Among : Use → Type 0 = IsUseSoFarOn as_seen unit x in
+        let f = has_first Among x earlier_on are_on all_on in
+        let l = has_last Among x earlier_on are_on all_on in
+        let two : (a b : Use) → IsUseSoFar as_seen x a → IsUseSoFar as_seen x b → (a ≡ b) ⊎ OnUnit AreDisjoint a b =
+        one_or_two as_seen x (OnUnit AreDisjoint) (OnUnit_back AreDisjoint disjoint_back) before
+        (λ y known_y on_y on_x. keeps.apart x y (record { uses = used; known = known_y; on = on_x; earlier_on = on_y })) in
+        let apart : (a b : Use) → Among a → Among b → (a ≡ b) ⊎ AreDisjoint a b = λ a b is_a is_b.
+        elim (two a b is_a.0 is_b.0) [ inl same ↦ inl same | inr disjoint ↦ inr (disjoint is_a.1 is_b.1) ] in
+        let within = each_within Among apart e.delay f.0 l.0 f.1 l.1 (λ other is_last. keeps.in_time x u f.0 other twice f.1 is_last e has is) in
+        (within x u (inl refl, on_x) (inr known, on_u), within u x (inr known, on_u) (inl refl, on_x))
+
   -- the invocations of the statements that keep the rules keep them with each other
   pub calls_shared : (e : Event) → Contains c.events e → e.name ≡ unit.on → (n : ℕ) → n ≤ length c.body → SharesBefore earlier c unit n → AllPairs (SharesWith e.delay) (called_in earlier c named n)
-  calls_shared e has is n within shares =
-      pairs_to earlier c named (SharesWith e.delay) n within next n (omega arith)
+  calls_shared e has is n within shares i j d less below u x used_u used_x on_u on_x =
+      let all : n ≤ n = omega arith in
+      uses_so_far earlier c named (OnUnit (UsesShared e.delay)) n within shared n all i j d less below u x used_u used_x (on_u.of ∙ sym on_x.of) (on_u.event ∙ sym on_x.event) on_u on_x
     where
-      next : (k : ℕ) (s : Statement) → slice_get c.body k ≡ Some s → k < n → All (λ v. All (SharesWith e.delay v) (invocations_at s)) (called_in earlier c named k)
-      next k s at less i d below j f below' u x used_u used_x on_u on_x =
-          let calls = called_in earlier c named k in
-          let v = get_or calls i d in
+      apart : (k : ℕ) (s : Statement) → slice_get c.body k ≡ Some s → k < n → All (λ w. (x u : Use) → IsUseOf (scope_with earlier c (take k c.body) s) w x → IsEarlierUse (scope_with earlier c (take k c.body) s) x u → OnUnit AreDisjoint u x) (invocations_at s)
+      apart k s at less j f below x u used known on_u on_x =
+          (shares k s less at j f below).apart x u (twice k s (get_or (invocations_at s) j f) x u used known on_x on_u)
+
+      shared : (k : ℕ) (s : Statement) → slice_get c.body k ≡ Some s → k < n → All (λ w. (x u : Use) → IsUseOf (scope_with earlier c (take k c.body) s) w x → IsEarlierUse (scope_with earlier c (take k c.body) s) x u → OnUnit (UsesShared e.delay) u x) (invocations_at s)
+      shared k s at less j f below x u used known on_u on_x =
           let w = get_or (invocations_at s) j f in
-          let here = to_with earlier c named k s at w x (found_own earlier c named k s at j f below') used_x in
-          let there = to_with earlier c named k s at v u (found_more earlier c named (made_in earlier c named k) (instances_at s) v.inst (found_all earlier c named k (omega (arith, less, within)) i d below)) used_u in
-          let known : IsEarlierUse (scope_with earlier c (take k c.body) s) x u =
-          record { invocation = v; is_earlier = (i, below, get_or_default calls i v d below); uses = there; same_instance = on_u.of ∙ sym on_x.of; same_event = on_u.event ∙ sym on_x.event } in
-          let keeps = shares k s less at j f below' in
-          let two : UseTwice (scope_with earlier c (take k c.body) s) unit w x u = record { uses = here; known = known; on = on_x; earlier_on = on_u } in
-          let in_time = keeps.in_time x u two e has is in
-          (keeps.apart x u two, in_time.0, in_time.1)
+          let before = of_earlier earlier c named (OnUnit AreDisjoint) n within apart k s at (omega arith) in
+          let ends = ends_in_pair k s w x u used known on_x on_u (shares k s less at j f below) before e has is in
+          (apart k s at less j f below x u used known on_u on_x, ends.0, ends.1)
 
   -- holds that keep the rules are of statements that do
   pub statements_share : (delay : ℕ) → AllPairs (AreShared delay) (flat_map holds_in whole.invocations) → ((e : Event) → Contains c.events e → e.name ≡ unit.on → e.delay ≡ delay) → Shares earlier c unit
   statements_share delay pairs one_delay k s at j d within =
-      let w = get_or (invocations_at s) j d in
-      let there = call_there s j d within in
-      let shared : (u other : Use) → IsUseOf (with earlier c others kept k s at w there) w u → IsEarlierUse (with earlier c others kept k s at w there) u other → IsUseOn unit u → IsUseOn unit other → UsesShared delay other u = λ u other used known on on_other.
-      (let v = known.invocation in
-      let first = before earlier c others kept k s at w there in
-      let rest = after earlier c others kept k s at w there in
-      let used_v = earlier_whole earlier c others kept k s at w there v other known.is_earlier known.uses in
-      let used_w = own_whole earlier c others kept k s at w there u used in
-      let has_v = in_flat holds_in first v (hold_from 0 0 v.name other) known.is_earlier (hold_of_use v other used_v on_other) in
-      let has_w = in_flat holds_in rest w (hold_from 0 0 w.name u) (is_after earlier c others kept k s at w there) (hold_of_use w u used_w on) in
-      let parts : flat_map holds_in first ++ flat_map holds_in rest ≡ flat_map holds_in whole.invocations = sym (flat_map-append holds_in first rest) ∙ ap (flat_map holds_in) (cut earlier c others kept k s at w there) in
-      let P : List Hold → Type 0 = AllPairs (AreShared delay) in
-      shared_uses delay v w other u (pair_of (AreShared delay) (flat_map holds_in first ++ flat_map holds_in rest) (hold_from 0 0 v.name other) (hold_from 0 0 w.name u) (subst P (sym parts) pairs)
-      (across (flat_map holds_in first) (flat_map holds_in rest) (hold_from 0 0 v.name other) (hold_from 0 0 w.name u) has_v has_w))) in
       record {
-        apart = λ u other two. (shared u other two.uses two.known two.on two.earlier_on).0;
-        in_time = λ u other twice e has is.
-            (let two = shared u other twice.uses twice.known twice.on twice.earlier_on in
-            let same = one_delay e has is in
-            let late : u.at.plus + u.hold ≤ other.at.plus + delay = two.2 in
-            let early : other.at.plus + other.hold ≤ u.at.plus + delay = two.1 in
-            (omega (arith, same, early), omega (arith, same, late)));
+        apart = λ u other two. (shared k s at j d within u other two.uses two.known two.earlier_on two.on).0;
+        in_time = λ u other first last two is_first is_last e has is.
+            (let same = one_delay e has is in
+            let two_within = shared k s at j d within u other two.uses two.known two.earlier_on two.on in
+            let fits : IsWithin delay first last =
+            span_within (IsUseSoFarOn as_seen_here unit u) delay (one_or_within u two.uses) u other first last (inl refl, two.on) (inr two.known, two.earlier_on) two_within.2 is_first.among is_last in
+            subst (λ (m : ℕ). IsWithin m first last) (sym same) fits);
       }
+    where
+      shared : (k : ℕ) (s : Statement) → slice_get c.body k ≡ Some s → All (λ w. (x u : Use) → IsUseOf (scope_with earlier c (take k c.body) s) w x → IsEarlierUse (scope_with earlier c (take k c.body) s) x u → OnUnit (UsesShared delay) u x) (invocations_at s)
+      shared k s at j d within u other used known on_other on =
+          let w = get_or (invocations_at s) j d in
+          let there = call_there s j d within in
+          let v = known.invocation in
+          let first = before earlier c others kept k s at w there in
+          let rest = after earlier c others kept k s at w there in
+          let used_v = earlier_whole earlier c others kept k s at w there v other known.is_earlier known.uses in
+          let used_w = own_whole earlier c others kept k s at w there u used in
+          let has_v = in_flat holds_in first v (hold_from 0 0 v.name other) known.is_earlier (hold_of_use v other used_v on_other) in
+          let has_w = in_flat holds_in rest w (hold_from 0 0 w.name u) (is_after earlier c others kept k s at w there) (hold_of_use w u used_w on) in
+          let parts : flat_map holds_in first ++ flat_map holds_in rest ≡ flat_map holds_in whole.invocations = sym (flat_map-append holds_in first rest) ∙ ap (flat_map holds_in) (cut earlier c others kept k s at w there) in
+          let P : List Hold → Type 0 = AllPairs (AreShared delay) in
+          shared_uses delay v w other u (pair_of (AreShared delay) (flat_map holds_in first ++ flat_map holds_in rest) (hold_from 0 0 v.name other) (hold_from 0 0 w.name u) (subst P (sym parts) pairs)
+          (across (flat_map holds_in first) (flat_map holds_in rest) (hold_from 0 0 v.name other) (hold_from 0 0 w.name u) has_v has_w))
+
+      shared_back : (a b : Use) → UsesShared delay a b → UsesShared delay b a
+      shared_back a b (disjoint, one, other) = (disjoint_back a b disjoint, other, one)
+
+      as_seen_here : Scope
+      as_seen_here = scope_with earlier c (take k c.body) s
+
+      one_or_within : (u : Use) → IsUseOf as_seen_here (get_or (invocations_at s) j d) u → (a b : Use) → IsUseSoFarOn as_seen_here unit u a → IsUseSoFarOn as_seen_here unit u b → (a ≡ b) ⊎ IsWithin delay a b
+      one_or_within u used a b is_a is_b =
+          let two : (a ≡ b) ⊎ OnUnit (UsesShared delay) a b =
+          one_or_two as_seen_here u (OnUnit (UsesShared delay)) (OnUnit_back (UsesShared delay) shared_back)
+          (all_earlier earlier c named (OnUnit (UsesShared delay)) shared k s at) (λ x known. shared k s at j d within u x used known) a b is_a.0 is_b.0 in
+          elim two [ inl same ↦ inl same | inr both ↦ inr (both is_a.1 is_b.1).2 ]
 
 pub sharing_has_one_meaning : SharingHasOneMeaning
 sharing_has_one_meaning earlier c others kept unit delay uses on =
@@ -229,6 +294,25 @@ sharing_has_one_meaning earlier c others kept unit delay uses on =
     )
 
 -- ---- events by events
+
+-- where all uses of an event of an instance are on one event of the component, those so far are those on it
+module _ (scope : Scope) (unit : UnitEvent) (v : Invocation) (u : Use) (used : IsUseOf scope v u) (on : IsUseOn unit u) (one : NamesOneEvent scope v) where
+  so_far_on : (x : Use) → IsUseSoFar scope u x → IsUseSoFarOn scope unit u x
+  so_far_on x (inl is) = (inl is, subst (IsUseOn unit) (sym is) on)
+  so_far_on x (inr known) =
+      (inr known, record { of = known.same_instance ∙ on.of; event = known.same_event ∙ on.event; on = one u x used known ∙ on.on })
+
+  first_on : (first : Use) → StartsFirst (IsUseSoFar scope u) first → StartsFirst (IsUseSoFarOn scope unit u) first
+  first_on first is = record { among = so_far_on first is.among; least = λ other among. is.least other among.0 }
+
+  last_on : (last : Use) → StartsLast (IsUseSoFar scope u) last → StartsLast (IsUseSoFarOn scope unit u) last
+  last_on last is = record { among = so_far_on last is.among; greatest = λ other among. is.greatest other among.0 }
+
+  first_of : (first : Use) → StartsFirst (IsUseSoFarOn scope unit u) first → StartsFirst (IsUseSoFar scope u) first
+  first_of first is = record { among = is.among.0; least = λ other among. is.least other (so_far_on other among) }
+
+  last_of : (last : Use) → StartsLast (IsUseSoFarOn scope unit u) last → StartsLast (IsUseSoFar scope u) last
+  last_of last is = record { among = is.among.0; greatest = λ other among. is.greatest other (so_far_on other among) }
 
 sharing_goes : (earlier : Design) (c : Component) → NameOneEvent earlier c × ((unit : UnitEvent) → Shares earlier c unit) → KeepsComponent sharing_rules earlier c
 sharing_goes earlier c (one, shares) k item is = by k item is
@@ -252,9 +336,12 @@ sharing_goes earlier c (one, shares) k item is = by k item is
         (λ j d within u other used known.
         let same = one k s at j d within u other used known in
         (same, (shares (unit_of u) k s at j d within).apart u other (twice (get_or (invocations_at s) j d) u other used known same)))
-        (λ j d within u other used known e has named.
+        (λ j d within u other first last used known is_first is_last e has named.
+        let v = get_or (invocations_at s) j d in
         let same = one k s at j d within u other used known in
-        (shares (unit_of u) k s at j d within).in_time u other (twice (get_or (invocations_at s) j d) u other used known same) e has named))
+        let on_u : IsUseOn (unit_of u) u = record { of = refl; event = refl; on = refl } in
+        (shares (unit_of u) k s at j d within).in_time u other first last (twice v u other used known same)
+        (first_on with (unit_of u) v u used on_u (one k s at j d within) first is_first) (last_on with (unit_of u) v u used on_u (one k s at j d within) last is_last) e has named))
 
 pub sharing_goes_by_events : SharingGoesByEvents
 sharing_goes_by_events earlier c = (
@@ -265,7 +352,11 @@ sharing_goes_by_events earlier c = (
         λ k s at j d within u other used known. (apart k s at j d within u other used known).0,
         λ unit k s at j d within. record {
           apart = λ u other two. (apart k s at j d within u other two.uses two.known).1;
-          in_time = λ u other two e has named. in_time k s at j d within u other two.uses two.known e has (named ∙ sym two.on.on);
+          in_time = λ u other first last two is_first is_last e has named.
+              (let v = get_or (invocations_at s) j d in
+              let with = scope_with earlier c (take k c.body) s in
+              let one : NamesOneEvent with v = λ x y used known. (apart k s at j d within x y used known).0 in
+              in_time k s at j d within u other first last two.uses two.known (first_of with unit v u two.uses two.on one first is_first) (last_of with unit v u two.uses two.on one last is_last) e has (named ∙ sym two.on.on));
         },
       )),
   sharing_goes earlier c,

@@ -17,7 +17,7 @@ use Rattle.fil_ast.specs.Sharing.{AreDisjoint, IsEarlierUse, IsUseOf, KeepsUsesA
 use Rattle.fil_ast.specs.Timeline.{Use}
 use Rattle.fil_ast.specs.Tree.{Component, Design, Event, Statement, TimeAt}
 use Rattle.fil_sig.proofs.ListLemmas.{All-unmap}
-use Rattle.fil_share.proofs.HoldLemmas.{in_flat}
+use Rattle.fil_ast.proofs.HoldLemmas.{in_flat}
 use Rattle.fil_share.specs.Sharing as sharing
 use Rattle.fil_share.specs.Sharing.{BreaksInTime, IsFirstMeet, IsFirstOverlap}
 use Rattle.fil_share.specs.Uses.{shown_hold}

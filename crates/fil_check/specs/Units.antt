@@ -6,7 +6,7 @@ use Rattle.fil_ast.specs.Holds.{Hold, holds_of}
 use Rattle.fil_ast.specs.Items.{scope_with}
 use Rattle.fil_ast.specs.Rules.{KeepsComponent, KeepsRules}
 use Rattle.fil_ast.specs.Scope.{Scope, Invocation, invocations_at}
-use Rattle.fil_ast.specs.Sharing.{IsUseOf, IsEarlierUse, AreDisjoint, IsWithin, KeepsUsesApart}
+use Rattle.fil_ast.specs.Sharing.{IsUseOf, IsEarlierUse, IsUseSoFar, AreDisjoint, IsWithin, StartsFirst, StartsLast, KeepsUsesApart}
 use Rattle.fil_ast.specs.Timeline.{Use}
 use Rattle.fil_ast.specs.Tree.{Event, Component, Design, Statement}
 use Rattle.fil_ast.specs.Wires.{whole_scope}
@@ -34,14 +34,16 @@ pub record UseTwice (scope : Scope) (unit : UnitEvent) (v : Invocation) (u earli
   pub on : IsUseOn unit u
   pub earlier_on : IsUseOn unit earlier
 
--- each of the two ends within the delay of the component's event after the other's start
-abbrev pub EndInTime : Component → UnitEvent → Use → Use → Type 0
-EndInTime c unit u earlier = (e : Event) → Contains c.events e → e.name ≡ unit.on → IsWithin e.delay u earlier × IsWithin e.delay earlier u
+-- a use so far of this event: this use itself, or an earlier one
+abbrev pub IsUseSoFarOn : Scope → UnitEvent → Use → Use → Type 0
+IsUseSoFarOn scope unit u other = IsUseSoFar scope u other × IsUseOn unit other
 
 -- F11 and F12 of an invocation, as far as they speak of this event
 pub record SharesAt (scope : Scope) (unit : UnitEvent) (v : Invocation) : Type 0 where
   pub apart : (u earlier : Use) → UseTwice scope unit v u earlier → AreDisjoint earlier u
-  pub in_time : (u earlier : Use) → UseTwice scope unit v u earlier → EndInTime scope.comp unit u earlier
+  pub in_time : (u earlier first last : Use) → UseTwice scope unit v u earlier →
+      StartsFirst (IsUseSoFarOn scope unit u) first → StartsLast (IsUseSoFarOn scope unit u) last →
+      (e : Event) → Contains scope.comp.events e → e.name ≡ unit.on → IsWithin e.delay first last
 
 -- the component's statements before this one keep them
 abbrev pub SharesBefore : Design → Component → UnitEvent → ℕ → Type 0

@@ -10,6 +10,7 @@ pub mod Names
 pub mod Outputs
 pub mod Place
 pub mod PortGraph
+pub mod Ports
 pub mod Reached
 pub mod Readings
 pub mod Shared

@@ -1,27 +1,31 @@
 //! The rule F14: which ports of a component read which within a row, and its least loop, component after component.
-ghost use Rattle.std.specs.Prelude.{[], ◌∷◌, ◌++◌, ◌≡◌, ◌<◌, ◌^◌, IfOk, All, length, map, slice_index_or, IfErr, OnOk};
+ghost use Rattle.std.specs.Prelude.{[], ◌∷◌, ◌++◌, ◌≡◌, ◌<◌, ◌^◌, IfOk, IsTrue, All, length, map, slice_index_or, IfErr, OnOk};
+ghost use Rattle.hw_graph.specs.Graph.{AreInRange};
+ghost use Rattle.hw_graph.specs.Groups.{IsGathered};
 ghost use Rattle.hw_names.specs.Name.{AreDistinct, KeepsTexts};
 ghost use Rattle.fil_ast.specs.Numbers.{ComponentHasNumbers, PortHasNumbers};
 ghost use Rattle.fil_ast.specs.Rules.{KeepsComponent, KeepsRules, all_rules};
-ghost use Rattle.fil_ast.specs.Tree.{Design, component_tree};
+ghost use Rattle.fil_ast.specs.Tree.{Component, Design, component_tree};
 ghost use Rattle.fil_ast.specs.Wires.{whole_scope, HasNoLoop};
 ghost use Rattle.fil_check.specs.inside.Place.{IsPlaceIn};
-ghost use Rattle.fil_check.specs.inside.Reached.{IsGraphOf, input_names};
+ghost use Rattle.fil_check.specs.inside.PortGraph.{Adds, NoPair};
+ghost use Rattle.fil_check.specs.inside.Reached.{AreNumbered, HasOrder, IsGraphOf, input_names, output_names, port_names};
 ghost use Rattle.fil_check.specs.inside.Wired.{IsWired};
-ghost use Rattle.fil_check.specs.inside.Wiring.{DependsOn, ShowsWires, TellsLoop};
+ghost use Rattle.fil_check.specs.inside.Wiring.{DependsOn, ShowsWires, TellsLoop, TellsLeastLoop};
 
 pub mod depends;
 pub mod edges;
 pub mod graph;
+pub mod ports;
+mod texts;
 
 use crate::loops::depends::inputs_reached;
 use crate::loops::edges::add_body;
 use crate::loops::graph::PortGraph;
 use crate::place::Place;
-use fil_ast::FilComp;
-use fil_sig::add_name;
+use fil_ast::FilPort;
 use hw_bits::Memory;
-use hw_graph::{OrderEnd, gather, order_or_least_loop};
+use hw_graph::{Groups, OrderEnd, gather, order_or_least_loop, read_order};
 use hw_names::{NameId, Names, Word};
 use std::alloc::Global;
 
@@ -99,49 +103,110 @@ pub fn judge_wires(alloc: Global, place: &Place, wires: &[Wires]) -> Result<Wire
         → ShowsWires comps wires.now → KeepsRules all_rules comps → KeepsComponent all_rules comps (component_tree place.now.names.now place.now.comp.now)
         → IfErr result (TellsLoop comps (component_tree place.now.names.now place.now.comp.now)) }
 {
-    let graph = port_graph(alloc, place, wires)?;
-    let reads = gather(alloc, graph.entries.as_slice(), graph.names.len())?;
-    match order_or_least_loop(alloc, &reads, &graph.names) {
-        Ok(_order) => {
-            let inputs = inputs_reached(alloc, place.names, place.comp, &graph.names, &reads)?;
+    let made = component_graph(alloc, place, wires)?;
+    let reads = gather(alloc, made.graph.entries.as_slice(), made.graph.ports.len())?;
+    match least_loop(alloc, &made.graph, &reads)? {
+        None => {
+            let inputs = inputs_reached(alloc, &reads, &made.outputs, place.comp.ins.len())?;
             Ok(Wires { inputs })
         }
-        Err(OrderEnd::Loop { ports }) => {
-            Err(WireEnd::Loop(full_names(alloc, &graph.names, ports.as_slice())?))
-        }
-        Err(OrderEnd::Memory) => Err(WireEnd::Memory),
+        Some(ports) => Err(WireEnd::Loop(ports)),
     }
 }
 
-/// Which ports of the component read which. Its inputs are the first ports, by their numbers.
-fn port_graph(alloc: Global, place: &Place, wires: &[Wires]) -> Result<PortGraph, Memory>
+/// Which ports of a component read which. Its inputs are the first ports, by their numbers.
+#[derive(Drop)]
+struct ComponentGraph<'a> {
+    graph: PortGraph<'a>,
+    /// The numbers of its outputs.
+    outputs: Vec<usize>,
+}
+
+/// Which ports of the component read which.
+fn component_graph<'a>(
+    alloc: Global,
+    place: &Place<'a>,
+    wires: &[Wires],
+) -> Result<ComponentGraph<'a>, Memory>
     requires numbers { ComponentHasNumbers place.now.names.now place.now.comp.now }
     ensures reads { (comps : Design) → IsPlaceIn place.now (whole_scope comps (component_tree place.now.names.now place.now.comp.now))
         → ShowsWires comps wires.now → KeepsRules all_rules comps
-        → IfOk result (IsGraphOf comps (component_tree place.now.names.now place.now.comp.now)) }
+        → IfOk result (λ made. IsGraphOf comps (component_tree place.now.names.now place.now.comp.now) made.graph) }
     ensures inputs { (comps : Design) → IsPlaceIn place.now (whole_scope comps (component_tree place.now.names.now place.now.comp.now))
         → ShowsWires comps wires.now → KeepsRules all_rules comps → AreDistinct (input_names (component_tree place.now.names.now place.now.comp.now))
-        → IfOk result (λ graph. KeepsTexts (input_names (component_tree place.now.names.now place.now.comp.now)) graph.names) }
+        → IfOk result (λ made. KeepsTexts (input_names (component_tree place.now.names.now place.now.comp.now)) made.graph.ports.names) }
+    ensures outputs { (comps : Design) → IsPlaceIn place.now (whole_scope comps (component_tree place.now.names.now place.now.comp.now))
+        → ShowsWires comps wires.now → KeepsRules all_rules comps
+        → IfOk result (λ made. AreNumbered made.graph.ports.names made.outputs.items (output_names (component_tree place.now.names.now place.now.comp.now))) }
+    ensures within { IfOk result (λ made. All (λ output. output < length made.graph.ports.names) made.outputs.items) }
 {
-    let mut graph = PortGraph {
-        names: input_names(alloc, place.names, place.comp)?,
-        entries: Vec::new(alloc),
-    };
+    let mut graph = PortGraph::new(alloc, &place.tables.instances);
+    let _inputs = own_ports(alloc, &mut graph, place.names, &place.comp.ins)?;
     add_body(alloc, &mut graph, place, wires)?;
-    Ok(graph)
+    let outputs = own_ports(alloc, &mut graph, place.names, &place.comp.outs)?;
+    Ok(ComponentGraph { graph, outputs })
 }
 
-/// The names of the component's inputs, numbered in their order.
-fn input_names(alloc: Global, names: &Names, comp: &FilComp) -> Result<Names, Memory>
-    requires numbers { All (PortHasNumbers names.now) comp.now.ins.items }
-    ensures { AreDistinct (input_names (component_tree names.now comp.now))
-        → IfOk result (λ inputs. inputs ≡ input_names (component_tree names.now comp.now)) }
+/// The numbers of ports of the component. In a graph of no ports they are the first, if they are distinct.
+fn own_ports(
+    alloc: Global,
+    graph: &mut PortGraph,
+    names: &Names,
+    ports: &[FilPort],
+) -> Result<Vec<usize>, Memory>
+    requires numbers { All (PortHasNumbers names.now) ports.now }
+    ensures numbered { IfOk result (λ numbers. AreNumbered graph.new.ports.names numbers.items (port_names names.now ports.now)) }
+    ensures within { IfOk result (λ numbers. All (λ number. number < length graph.new.ports.names) numbers.items) }
+    ensures first { graph.old.ports.names ≡ [] → AreDistinct (port_names names.now ports.now)
+        → OnOk result (graph.new.ports.names ≡ port_names names.now ports.now) }
+    ensures same { OnOk result (Adds NoPair graph.old graph.new) }
 {
-    let mut inputs = Names::new(alloc);
-    for port in &comp.ins {
-        let _new = add_name(&mut inputs, names.text(port.name))?;
+    let mut numbers = Vec::new(alloc);
+    for port in ports {
+        let number = graph.named(names.text(port.name))?;
+        numbers.push(number)?;
     }
-    Ok(inputs)
+    Ok(numbers)
+}
+
+/// Whether there is an order in which each port comes after all that it reads.
+fn has_order(alloc: Global, reads: &Groups) -> Result<bool, Memory>
+    requires { AreInRange reads.now }
+    ensures { IfOk result (λ has. IsTrue has → HasOrder reads.now) }
+{
+    match read_order(alloc, reads) {
+        Ok(_order) => Ok(true),
+        Err(OrderEnd::Loop { ports: _some }) => Ok(false),
+        Err(OrderEnd::Memory) => Err(Memory),
+    }
+}
+
+/// The least loop, if there is a loop.
+fn least_loop(alloc: Global, graph: &PortGraph, reads: &Groups) -> Result<Option<Vec<Word>>, Memory>
+    requires distinct { AreDistinct graph.now.ports.names }
+    requires room { length graph.now.ports.names < 2 ^ 32 }
+    requires reads { IsGathered graph.now.entries.items (length graph.now.ports.names) reads.now }
+    ensures { (comps : Design) (c : Component) → IsGraphOf comps c graph.now → IfOk result (TellsLeastLoop comps c) }
+{
+    if has_order(alloc, reads)? {
+        return Ok(None);
+    }
+    told_loop(alloc, graph, reads)
+}
+
+/// The least loop, where there is one. The full names of all ports are made only here.
+fn told_loop(alloc: Global, graph: &PortGraph, reads: &Groups) -> Result<Option<Vec<Word>>, Memory>
+    requires distinct { AreDistinct graph.now.ports.names }
+    requires room { length graph.now.ports.names < 2 ^ 32 }
+    requires reads { IsGathered graph.now.entries.items (length graph.now.ports.names) reads.now }
+    ensures { (comps : Design) (c : Component) → IsGraphOf comps c graph.now → IfOk result (TellsLeastLoop comps c) }
+{
+    let names = graph.ports.full_names()?;
+    match order_or_least_loop(alloc, reads, &names) {
+        Ok(_order) => Ok(None),
+        Err(OrderEnd::Loop { ports }) => Ok(Some(full_names(alloc, &names, &ports)?)),
+        Err(OrderEnd::Memory) => Err(Memory),
+    }
 }
 
 /// The full names of ports.

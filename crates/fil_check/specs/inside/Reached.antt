@@ -1,12 +1,10 @@
 -- The graph of a component's ports, and which inputs its outputs reach in it by their numbers. This project's.
-use Rattle.std.specs.Prelude.{◌≡◌, ◌↔◌, ℕ, ◌<◌, List, length, map, slice_get, Option, Some, None, Vec, Contains}
+use Rattle.std.specs.Prelude.{◌≡◌, ◌↔◌, ℕ, ◌<◌, List, map, slice_get, Some, Vec, Contains}
 use Rattle.std.specs.declared.alloc.Global.{Global}
 use Rattle.hw_graph.specs.Graph as graph
 use Rattle.hw_names.specs.Name.{Text, text_of}
-use Rattle.hw_names.specs.declared.names.NameId.{NameId}
 use Rattle.fil_ast.specs.Tree.{Component, DataPort, Design}
 use Rattle.fil_ast.specs.Wires.{ReadsPort, through_before, whole_scope}
-use Rattle.fil_ast.specs.declared.tree.FilComp.{FilComp}
 use Rattle.fil_ast.specs.declared.tree.FilPort.{FilPort}
 use Rattle.fil_check.specs.inside.PortGraph.{HasReading}
 use Rattle.fil_check.specs.declared.loops.graph.PortGraph.{PortGraph}
@@ -14,23 +12,27 @@ use Rattle.fil_check.specs.declared.loops.graph.PortGraph.{PortGraph}
 abbrev pub input_names : Component → List Text
 input_names c = map (λ (p : DataPort). p.name) c.ins
 
+abbrev pub output_names : Component → List Text
+output_names c = map (λ (p : DataPort). p.name) c.outs
+
+-- the names of ports of code
+abbrev pub port_names : List Text → List FilPort → List Text
+port_names names ports = map (λ (p : FilPort). text_of names p.name) ports
+
 -- the graph has the readings of the component and no others
 abbrev pub IsGraphOf : Design → Component → PortGraph → Type 0
 IsGraphOf comps c g = (port other : Text) → HasReading g port other ↔ ReadsPort (through_before comps) (whole_scope comps c) port other
 
--- the port of this number reaches the other; no port reaches none
-abbrev pub IsReachedFrom : List (List ℕ) → Option NameId → ℕ → Type 0
-IsReachedFrom reads None other = ⊥
-IsReachedFrom reads (Some start) other = graph.Reaches reads start.0 other
+-- the ports have an order in which each comes after all that it reads
+abbrev pub HasOrder : List (List ℕ) → Type 0
+HasOrder reads = (order : List ℕ) × graph.IsReadOrder reads order
 
--- by its name among the ports the output reaches those of the first ports, the inputs, that have these numbers
-abbrev pub ReachesInputs : List Text → List Text → List (List ℕ) → FilComp → FilPort → Vec ℕ Global → Type 0
-ReachesInputs names ports reads comp output numbers =
-    (i : ℕ) → Contains numbers.items i ↔ ((i < length comp.ins.items) ×
-    ((start : ℕ) × (slice_get ports start ≡ Some (text_of names output.name)) × graph.Reaches reads start i))
+-- these are the numbers of texts among the names of ports
+abbrev pub AreNumbered : List Text → List ℕ → List Text → Type 0
+AreNumbered names numbers texts = map (slice_get names) numbers ≡ map Some texts
 
--- so of each output
-abbrev pub AreReached : List Text → List Text → List (List ℕ) → FilComp → Vec (Vec ℕ Global) Global → Type 0
-AreReached names ports reads comp inputs =
-    (o : ℕ) (output : FilPort) (numbers : Vec ℕ Global) → slice_get comp.outs.items o ≡ Some output → slice_get inputs.items o ≡ Some numbers →
-    ReachesInputs names ports reads comp output numbers
+-- each of the outputs, by their numbers, reaches those of the first ports, the inputs, that have these numbers
+abbrev pub AreReached : List (List ℕ) → List ℕ → ℕ → Vec (Vec ℕ Global) Global → Type 0
+AreReached reads outputs count inputs =
+    (o start : ℕ) (numbers : Vec ℕ Global) → slice_get outputs o ≡ Some start → slice_get inputs.items o ≡ Some numbers →
+    (i : ℕ) → Contains numbers.items i ↔ ((i < count) × graph.Reaches reads start i)

@@ -1,9 +1,9 @@
 -- On which inputs the outputs of components depend within a row, as the tables have it. This project's.
-use Rattle.std.specs.Prelude.{◌≡◌, ◌↔◌, ℕ, ◌∷◌, List, length, take, slice_get, Some, Vec, Contains}
+use Rattle.std.specs.Prelude.{◌≡◌, ◌↔◌, ℕ, ◌∷◌, List, length, take, slice_get, Option, Some, None, Vec, Contains}
 use Rattle.std.specs.declared.alloc.Global.{Global}
 use Rattle.hw_names.specs.Name.{Text}
 use Rattle.fil_ast.specs.Tree.{DataPort, Component, Design}
-use Rattle.fil_ast.specs.Wires.{Reaches, IsLeastLoop, through_before, whole_scope}
+use Rattle.fil_ast.specs.Wires.{HasNoLoop, IsLeastLoop, Reaches, through_before, whole_scope}
 use Rattle.fil_check.specs.declared.loops.Wires.{Wires}
 use Rattle.fil_check.specs.declared.loops.WireEnd.{WireEnd}
 use Rattle.fil_check.specs.declared.loops.WireEnd.TheVariants.{Loop, Memory}
@@ -24,3 +24,8 @@ pub record ShowsWires (comps : Design) (wires : List Wires) : Type 0 where
 abbrev pub TellsLoop : Design → Component → WireEnd → Type 0
 TellsLoop earlier c (Loop ports) = (first : Text) × (others : List Text) × (ports.items ≡ first ∷ others) × IsLeastLoop earlier c first others
 TellsLoop earlier c Memory = Unit {0}
+
+-- none where the component has no loop, else its least loop
+abbrev pub TellsLeastLoop : Design → Component → Option (Vec Text Global) → Type 0
+TellsLeastLoop earlier c None = HasNoLoop earlier c
+TellsLeastLoop earlier c (Some ports) = (first : Text) × (others : List Text) × (ports.items ≡ first ∷ others) × IsLeastLoop earlier c first others

@@ -1,5 +1,5 @@
 //! Which ports of a component read which within a row.
-ghost use Rattle.std.specs.Prelude.{◌≡◌, ◌<◌, ℕ, List, [], Some, Vec, All, Contains, IsTrue, length, map, option_map, slice_get, IfOk, OnOk};
+ghost use Rattle.std.specs.Prelude.{◌≡◌, ◌<◌, ℕ, List, [], Some, Vec, All, Contains, IsTrue, length, map, option_and_then, option_map, slice_get, IfOk, IfSome, OnOk};
 ghost use Rattle.std.specs.declared.alloc.Global.{Global};
 ghost use Rattle.hw_names.specs.Name.{Text, dotted};
 ghost use Rattle.fil_ast.specs.Signature as tree;
@@ -14,22 +14,17 @@ ghost use Rattle.hw_prims.specs.Meaning.{is_through};
 ghost use Rattle.hw_prims.specs.Table.{inputs_of, name_at, outputs_of};
 ghost use Rattle.hw_prims.specs.declared.prim.Primitive.{Primitive};
 ghost use Rattle.fil_check.specs.inside.Place.{IsPlaceIn};
-ghost use Rattle.fil_check.specs.inside.PortGraph.{Adds, Below, NoPair};
+ghost use Rattle.fil_check.specs.inside.PortGraph.{Adds, Below, HasInstances, NoPair};
 ghost use Rattle.fil_check.specs.inside.Readings.{ArePorts, port_of_value, ReadsAll, ReadsArgument, ReadsAt, ReadsBy, ReadsEach, ReadsGiven, ReadsMade, ReadsNumbered, ReadsValue, ReadsWired};
-ghost use Rattle.fil_check.specs.inside.Tables.{IsPlace};
 ghost use Rattle.fil_check.specs.inside.Wiring.{ShowsWires};
-ghost use Rattle.fil_ast.specs.declared.tree.FilComp.{FilComp};
-ghost use Rattle.fil_check.specs.declared.tables.Earlier.{Earlier};
 
 use crate::loops::Wires;
-use crate::loops::graph::{PortGraph, full_name};
-use crate::meaning::{callee_named, invoked_by};
+use crate::loops::graph::PortGraph;
+use crate::meaning::{callee_at, invoked_by};
 use crate::place::Place;
-use crate::tables::Tables;
-use fil_ast::{FilComp, Stmt, Value};
+use fil_ast::{Stmt, Value};
 use fil_sig::{SigPort, TimeSig, table_name};
 use hw_bits::Memory;
-use hw_names::NameId;
 use hw_prims::Prim;
 use std::alloc::Global;
 
@@ -42,6 +37,7 @@ pub fn add_body(
 ) -> Result<(), Memory>
     requires numbers { ComponentHasNumbers place.now.names.now place.now.comp.now }
     ensures { (comps : Design) → IsPlaceIn place.now (whole_scope comps (component_tree place.now.names.now place.now.comp.now))
+        → HasInstances (whole_scope comps (component_tree place.now.names.now place.now.comp.now)) graph.old
         → ShowsWires comps wires.now → KeepsRules all_rules comps
         → OnOk result (Adds (Below (ReadsAt (through_before comps) (whole_scope comps (component_tree place.now.names.now place.now.comp.now)) (component_tree place.now.names.now place.now.comp.now).body) (length place.now.comp.now.body.items)) graph.old graph.new) }
 {
@@ -60,7 +56,7 @@ fn add_statement(
     stmt: &Stmt,
 ) -> Result<(), Memory>
     requires numbers { StatementHasNumbers place.now.names.now stmt.now }
-    ensures { (scope : Scope) → IsPlaceIn place.now scope
+    ensures { (scope : Scope) → IsPlaceIn place.now scope → HasInstances scope graph.old
         → ShowsWires scope.comps wires.now → KeepsRules all_rules scope.comps
         → All (Contains scope.instances) (instances_at (statement_tree place.now.names.now stmt.now))
         → OnOk result (Adds (ReadsBy (through_before scope.comps) scope (statement_tree place.now.names.now stmt.now)) graph.old graph.new) }
@@ -77,7 +73,7 @@ fn add_statement(
             )
         }
         Stmt::Call { inst, args, .. } => {
-            add_arguments(alloc, graph, place, place.names.text(*inst), args)
+            add_arguments(graph, place, place.names.text(*inst), args)
         }
         Stmt::Both {
             name,
@@ -94,10 +90,11 @@ fn add_statement(
                 wires,
                 NewInstance { name, made, params },
             )?;
-            add_arguments(alloc, graph, place, name, args)
+            add_arguments(graph, place, name, args)
         }
         Stmt::Set { dst, value } => {
-            add_value(alloc, graph, place, place.names.text(*dst), *value)
+            let port = graph.named(place.names.text(*dst))?;
+            add_value(graph, place, port, *value)
         }
     }
 }
@@ -110,81 +107,83 @@ struct NewInstance<'a> {
     params: &'a [u128],
 }
 
-/// The arguments that an instance of this name is given.
+/// The arguments that the instance of this number is given.
 #[derive(Clone, Copy)]
 struct Given<'a> {
-    inst: &'a [u8],
+    instance: usize,
     args: &'a [Value],
 }
 
 /// Adds that the ports of an instance's arguments read what is given to them.
 fn add_arguments(
-    alloc: Global,
     graph: &mut PortGraph,
     place: &Place,
     inst: &[u8],
     args: &[Value],
 ) -> Result<(), Memory>
     requires values { All (ValueHasNumbers place.now.names.now) args.now }
-    ensures { (scope : Scope) → IsPlaceIn place.now scope
+    ensures { (scope : Scope) → IsPlaceIn place.now scope → HasInstances scope graph.old
         → OnOk result (Adds (ReadsGiven scope inst.now (map (value_tree place.now.names.now) args.now)) graph.old graph.new) }
 {
-    match callee_named(place.earlier, place.tables, inst) {
-        Some(callee) => add_given(alloc, graph, place, callee.sig(), Given { inst, args }),
+    let Some(instance) = graph.ports.instance(inst) else {
+        return Ok(());
+    };
+    match callee_at(place.earlier, place.tables, instance) {
+        Some(callee) => add_given(graph, place, callee.sig(), Given { instance, args }),
         None => Ok(()),
     }
 }
 
 /// The same for an instance of this signature.
 fn add_given(
-    alloc: Global,
     graph: &mut PortGraph,
     place: &Place,
     sig: &TimeSig,
     given: Given,
 ) -> Result<(), Memory>
+    requires instance { given.instance < length graph.old.ports.instances }
     requires values { All (ValueHasNumbers place.now.names.now) given.args.now }
-    ensures { (scope : Scope) → IsPlaceIn place.now scope
-        → OnOk result (Adds (Below (ReadsArgument scope given.entry.inst.now (seen sig.now) (map (value_tree place.now.names.now) given.entry.args.now)) (length given.entry.args.now)) graph.old graph.new) }
+    ensures { (scope : Scope) (inst : Text) → IsPlaceIn place.now scope → HasInstances scope graph.old
+        → slice_get graph.old.ports.instances given.entry.instance ≡ Some inst
+        → OnOk result (Adds (Below (ReadsArgument scope inst (seen sig.now) (map (value_tree place.now.names.now) given.entry.args.now)) (length given.entry.args.now)) graph.old graph.new) }
 {
     for (number, value) in given.args.iter().enumerate() {
         if let Some(input) = sig.ins.get(number) {
-            let port = full_name(alloc, given.inst, input.name.bytes())?;
-            add_value(alloc, graph, place, port.as_slice(), *value)?;
+            let port = graph.port(given.instance, input.name.bytes())?;
+            add_value(graph, place, port, *value)?;
         }
     }
     Ok(())
 }
 
-/// Adds that the port reads the value.
-fn add_value(
-    alloc: Global,
-    graph: &mut PortGraph,
-    place: &Place,
-    port: &[u8],
-    value: Value,
-) -> Result<(), Memory>
+/// Adds that the port of this number reads the value.
+fn add_value(graph: &mut PortGraph, place: &Place, port: usize, value: Value) -> Result<(), Memory>
+    requires port { port < length graph.old.ports.names }
     requires value { ValueHasNumbers place.now.names.now value }
-    ensures { (scope : Scope) → IsPlaceIn place.now scope
-        → OnOk result (Adds (ReadsValue scope port.now (value_tree place.now.names.now value)) graph.old graph.new) }
+    ensures adds { (scope : Scope) (name : Text) → IsPlaceIn place.now scope → HasInstances scope graph.old
+        → slice_get graph.old.ports.names port ≡ Some name
+        → OnOk result (Adds (ReadsValue scope name (value_tree place.now.names.now value)) graph.old graph.new) }
+    ensures instances { graph.new.ports.instances ≡ graph.old.ports.instances }
 {
-    match value_port(alloc, place, value)? {
-        Some(other) => graph.add(port, other.as_slice()),
+    match value_port(graph, place, value)? {
+        Some(other) => graph.add(port, other),
         None => Ok(()),
     }
 }
 
-/// The full name of the port that a value is read from; `None` for a literal.
-fn value_port(alloc: Global, place: &Place, value: Value) -> Result<Option<Vec<u8>>, Memory>
+/// The number of the port that a value is read from; `None` for a literal.
+fn value_port(graph: &mut PortGraph, place: &Place, value: Value) -> Result<Option<usize>, Memory>
     requires value { ValueHasNumbers place.now.names.now value }
-    ensures { (scope : Scope) → IsPlaceIn place.now scope
-        → IfOk result (λ found. option_map (λ full. full.items) found ≡ port_of_value scope (value_tree place.now.names.now value)) }
+    ensures port { (scope : Scope) → IsPlaceIn place.now scope → HasInstances scope graph.old
+        → IfOk result (λ found. option_and_then (slice_get graph.new.ports.names) found ≡ port_of_value scope (value_tree place.now.names.now value)) }
+    ensures within { IfOk result (λ found. IfSome found (λ n. n < length graph.new.ports.names)) }
+    ensures same { Adds NoPair graph.old graph.new }
 {
     match value {
-        Value::Port(name) => Ok(Some(Vec::from_slice(alloc, place.names.text(name))?)),
+        Value::Port(name) => Ok(Some(graph.named(place.names.text(name))?)),
         Value::Out(invocation, port) => {
-            match instance_invoked(place.comp, place.tables, place.names.text(invocation)) {
-                Some(inst) => Ok(Some(full_name(alloc, inst, place.names.text(port))?)),
+            match instance_invoked(graph, place, place.names.text(invocation)) {
+                Some(instance) => Ok(Some(graph.port(instance, place.names.text(port))?)),
                 None => Ok(None),
             }
         }
@@ -192,16 +191,17 @@ fn value_port(alloc: Global, place: &Place, value: Value) -> Result<Option<Vec<u
     }
 }
 
-/// The name of the instance that the invocation of this name invokes.
-fn instance_invoked<'a>(comp: &FilComp, tables: &'a Tables, name: &[u8]) -> Option<&'a [u8]>
-    ensures { (names : List Text) (earlier : Earlier) (scope : Scope) → IsPlace names earlier comp.now tables.now scope
-        → option_map (λ inst. inst.now) result ≡ option_map (λ (v : Invocation). v.inst) (invocation_named scope.invocations name.now) }
+/// The number of the instance that the invocation of this name invokes.
+fn instance_invoked(graph: &PortGraph, place: &Place, name: &[u8]) -> Option<usize>
+    ensures meaning { (scope : Scope) → IsPlaceIn place.now scope → HasInstances scope graph.now
+        → option_and_then (slice_get graph.now.ports.instances) result ≡ option_map (λ (v : Invocation). v.inst) (invocation_named scope.invocations name.now) }
+    ensures within { IfSome result (λ n. n < length graph.now.ports.instances) }
 {
-    let instance = invoked_by(comp, tables, name)?;
-    if instance >= tables.instances.len() {
+    let instance = invoked_by(place.comp, place.tables, name)?;
+    if instance >= graph.ports.instances() {
         return None;
     }
-    Some(tables.instances.text(NameId(instance as u32)))
+    Some(instance)
 }
 
 /// Adds that the outputs of an instance read the inputs on which they depend within a row.
@@ -210,27 +210,30 @@ fn add_instance(
     graph: &mut PortGraph,
     place: &Place,
     wires: &[Wires],
-    instance: NewInstance,
+    made: NewInstance,
 ) -> Result<(), Memory>
-    ensures { (scope : Scope) → IsPlaceIn place.now scope
+    ensures { (scope : Scope) → IsPlaceIn place.now scope → HasInstances scope graph.old
         → ShowsWires scope.comps wires.now → KeepsRules all_rules scope.comps
-        → Contains scope.instances (record { name = instance.entry.name.now; made = instance.entry.made.now; params = instance.entry.params.now })
-        → OnOk result (Adds (ReadsMade (through_before scope.comps) scope (record { name = instance.entry.name.now; made = instance.entry.made.now; params = instance.entry.params.now })) graph.old graph.new) }
+        → Contains scope.instances (record { name = made.entry.name.now; made = made.entry.made.now; params = made.entry.params.now })
+        → OnOk result (Adds (ReadsMade (through_before scope.comps) scope (record { name = made.entry.name.now; made = made.entry.made.now; params = made.entry.params.now })) graph.old graph.new) }
 {
-    let Some(callee) = callee_named(place.earlier, place.tables, instance.name) else {
+    let Some(instance) = graph.ports.instance(made.name) else {
         return Ok(());
     };
-    if let Some(table) = table_name(instance.made) {
-        if is_through(table, instance.params) {
-            return add_all(alloc, graph, instance.name, callee.sig());
+    let Some(callee) = callee_at(place.earlier, place.tables, instance) else {
+        return Ok(());
+    };
+    if let Some(table) = table_name(made.made) {
+        if is_through(table, made.params) {
+            return add_all(graph, instance, callee.sig());
         }
         return Ok(());
     }
-    let Some(number) = place.earlier.names.find(instance.made) else {
+    let Some(number) = place.earlier.names.find(made.made) else {
         return Ok(());
     };
     match wires.get(number.0 as usize) {
-        Some(own) => add_wired(alloc, graph, instance.name, callee.sig(), own),
+        Some(own) => add_wired(alloc, graph, instance, callee.sig(), own),
         None => Ok(()),
     }
 }
@@ -260,30 +263,33 @@ fn is_first_through(prim: Prim) -> bool
     prim.through(0, 0)
 }
 
-/// Adds that each output of an instance reads each input.
-fn add_all(alloc: Global, graph: &mut PortGraph, inst: &[u8], sig: &TimeSig) -> Result<(), Memory>
-    ensures { OnOk result (Adds (Below (ReadsAll inst.now (seen sig.now)) (length sig.now.outs.items)) graph.old graph.new) }
+/// Adds that each output of the instance of this number reads each input.
+fn add_all(graph: &mut PortGraph, instance: usize, sig: &TimeSig) -> Result<(), Memory>
+    requires { instance < length graph.old.ports.instances }
+    ensures { (inst : Text) → slice_get graph.old.ports.instances instance ≡ Some inst
+        → OnOk result (Adds (Below (ReadsAll inst (seen sig.now)) (length sig.now.outs.items)) graph.old graph.new) }
 {
     for output in &sig.outs {
-        add_each(alloc, graph, inst, output.name.bytes(), &sig.ins)?;
+        add_each(graph, instance, output.name.bytes(), &sig.ins)?;
     }
     Ok(())
 }
 
 /// Adds that an output of an instance reads each of the inputs.
 fn add_each(
-    alloc: Global,
     graph: &mut PortGraph,
-    inst: &[u8],
+    instance: usize,
     output: &[u8],
     ins: &[SigPort],
 ) -> Result<(), Memory>
-    ensures { OnOk result (Adds (Below (ReadsEach inst.now output.now (map seen_port ins.now)) (length ins.now)) graph.old graph.new) }
+    requires { instance < length graph.old.ports.instances }
+    ensures { (inst : Text) → slice_get graph.old.ports.instances instance ≡ Some inst
+        → OnOk result (Adds (Below (ReadsEach inst output.now (map seen_port ins.now)) (length ins.now)) graph.old graph.new) }
 {
-    let port = full_name(alloc, inst, output)?;
+    let port = graph.port(instance, output)?;
     for input in ins {
-        let other = full_name(alloc, inst, input.name.bytes())?;
-        graph.add(port.as_slice(), other.as_slice())?;
+        let other = graph.port(instance, input.name.bytes())?;
+        graph.add(port, other)?;
     }
     Ok(())
 }
@@ -304,59 +310,64 @@ fn reads_nothing(wires: &Wires) -> bool
 fn input_ports(
     alloc: Global,
     graph: &mut PortGraph,
-    inst: &[u8],
+    instance: usize,
     ins: &[SigPort],
 ) -> Result<Vec<usize>, Memory>
-    ensures ports { IfOk result (λ ports. ArePorts inst.now graph.new.names ports.items (map seen_port ins.now)) }
+    requires { instance < length graph.old.ports.instances }
+    ensures ports { (inst : Text) → slice_get graph.old.ports.instances instance ≡ Some inst
+        → IfOk result (λ ports. ArePorts inst graph.new.ports.names ports.items (map seen_port ins.now)) }
+    ensures within { IfOk result (λ ports. All (λ port. port < length graph.new.ports.names) ports.items) }
     ensures same { OnOk result (Adds NoPair graph.old graph.new) }
 {
     let mut ports = Vec::new(alloc);
     for input in ins {
-        let full = full_name(alloc, inst, input.name.bytes())?;
-        let port = graph.port(full.as_slice())?;
+        let port = graph.port(instance, input.name.bytes())?;
         ports.push(port)?;
     }
     Ok(ports)
 }
 
-/// Adds that each output of an instance reads the inputs on which it depends. The name of each port is made once.
+/// Adds that each output of an instance reads the inputs on which it depends. The number of each port is found once.
 fn add_wired(
     alloc: Global,
     graph: &mut PortGraph,
-    inst: &[u8],
+    instance: usize,
     sig: &TimeSig,
     wires: &Wires,
 ) -> Result<(), Memory>
-    ensures { OnOk result (Adds (Below (ReadsWired inst.now (seen sig.now) wires.now.inputs.items) (length sig.now.outs.items)) graph.old graph.new) }
+    requires { instance < length graph.old.ports.instances }
+    ensures { (inst : Text) → slice_get graph.old.ports.instances instance ≡ Some inst
+        → OnOk result (Adds (Below (ReadsWired inst (seen sig.now) wires.now.inputs.items) (length sig.now.outs.items)) graph.old graph.new) }
 {
     if reads_nothing(wires) {
         return Ok(());
     }
-    let ports = input_ports(alloc, graph, inst, &sig.ins)?;
+    let ports = input_ports(alloc, graph, instance, &sig.ins)?;
     for (number, output) in sig.outs.iter().enumerate() {
         if let Some(numbers) = wires.inputs.get(number) {
-            let port = full_name(alloc, inst, output.name.bytes())?;
-            add_inputs(graph, port.as_slice(), &ports, numbers)?;
+            let key = graph.port(instance, output.name.bytes())?;
+            add_inputs(graph, key, &ports, numbers)?;
         }
     }
     Ok(())
 }
 
-/// Adds that the port of this full name reads those at these numbers of some ports.
+/// Adds that the port of this number reads those at these numbers of some ports.
 fn add_inputs(
     graph: &mut PortGraph,
-    full: &[u8],
+    key: usize,
     ports: &[usize],
     numbers: &[usize],
 ) -> Result<(), Memory>
-    requires { All (λ port. port < length graph.old.names) ports.now }
-    ensures { (inst output : Text) (ins : List tree.SigPort) → full.now ≡ dotted inst output → ArePorts inst graph.old.names ports.now ins
+    requires key { key < length graph.old.ports.names }
+    requires ports { All (λ port. port < length graph.old.ports.names) ports.now }
+    ensures { (inst output : Text) (ins : List tree.SigPort) → slice_get graph.old.ports.names key ≡ Some (dotted inst output)
+        → ArePorts inst graph.old.ports.names ports.now ins
         → OnOk result (Adds (Below (ReadsNumbered inst output ins numbers.now) (length numbers.now)) graph.old graph.new) }
 {
-    let key = graph.port(full)?;
     for number in numbers {
         if let Some(port) = ports.get(*number) {
-            graph.add_numbers(key, *port)?;
+            graph.add(key, *port)?;
         }
     }
     Ok(())

@@ -1,29 +1,27 @@
-use Rattle.std.proofs.Common.{◌≡◌, ℕ, List, Vec, Global, length, slice_get, sym, ap, ◌∙◌, arith}
+use Rattle.std.proofs.Common.{ℕ, List, Vec, Global, length, get_or, slice_get, sym, ap, ◌∙◌, arith}
 use Rattle.std.proofs.lemmas.List.{length_push}
 use Rattle.std.proofs.lemmas.Option.{slice_get-get_or, slice_get_within}
-use Rattle.fil_ast.specs.declared.tree.FilPort.{FilPort}
-use Rattle.fil_check.proofs.DependLemmas.{output_next}
+use Rattle.fil_check.proofs.DependLemmas.{below_reached, output_more}
 use Rattle.fil_check.proofs.loops.depends.inputs_reached.Goals as goal
 
-pub loop-port-preserved : goal.loop-port-preserved
-loop-port-preserved c =
-    let names = c.args.names.now in
-    let ports = c.args.ports.now in
+pub loop-output-preserved : goal.loop-output-preserved
+loop-output-preserved c =
+    let outputs = c.args.outputs.now in
     let reads = c.args.reads.now in
-    let comp = c.args.comp.now in
-    let k = c.loop-port.port-index in
-    let old = c.loop-port.inputs.items in
-    let numbers = c.in_ok-reached_below.field-0 in
-    let here = ap (λ (l : List FilPort). slice_get l k) (sym c.deref-port-items.ensures.value) ∙ slice_get-get_or c.deref-port-items.result.now k _ c.loop-port-test.true in
-    let count : c.len.result ≡ length comp.ins.items = omega (arith, c.len.ensures, comp.ins.ok.0) in
-    let each = output_next names ports reads comp old k numbers _ c.text.result.now c.find-start.result c.len.result c.loop-port.invariant.all here c.text.ensures count c.find-start.ensures.distinct c.find-start.ensures.text c.find-start.ensures.present
-    c.in_ok-reached_below.ensures.reached c.loop-port.invariant.each in
+    let count = c.args.count in
+    let k = c.loop-output.output-index in
+    let old = c.loop-output.inputs.items in
+    let numbers = c.in_ok-below.field-0 in
+    let start = get_or outputs k 0 in
+    let here = slice_get-get_or outputs k 0 c.loop-output-test.true in
+    let reached = below_reached reads count start numbers c.in_ok-ports.ports c.as_slice.result.now c.as_slice.ensures.value c.in_ok-below.ensures c.in_ok-ports.ensures.reached in
+    let each = output_more reads outputs count old k start numbers c.loop-output.invariant.all here reached c.loop-output.invariant.each in
     record {
-      size = c.in_ok-reached_below.ensures.size ∙ c.loop-port.invariant.size;
-      all = omega (arith, ap length c.in_ok-push.ensures.items, length_push old numbers, c.loop-port.invariant.all);
-      each = λ o p ns lt at_p at_ns. each o p ns lt at_p (ap (λ (l : List (Vec ℕ Global)). slice_get l o) (sym c.in_ok-push.ensures.items) ∙ at_ns);
+      size = c.from.ensures.size ∙ c.loop-output.invariant.size;
+      all = omega (arith, ap length c.in_ok-push.ensures.items, length_push old numbers, c.loop-output.invariant.all);
+      each = λ o s ns lt at_s at_ns. each o s ns lt at_s (ap (λ (l : List (Vec ℕ Global)). slice_get l o) (sym c.in_ok-push.ensures.items) ∙ at_ns);
     }
 
 pub returns-clause-each : goal.returns-clause-each
-returns-clause-each c o output numbers at at_numbers =
-    c.loop-port.invariant.each o output numbers (omega (arith, slice_get_within c.args.comp.now.outs.items o output at, c.loop-port-test.false, ap length c.deref-port-items.ensures.value)) at at_numbers
+returns-clause-each c o start numbers at at_numbers =
+    c.loop-output.invariant.each o start numbers (omega (arith, slice_get_within c.args.outputs.now o start at, c.loop-output-test.false)) at at_numbers

@@ -1,3 +1,5 @@
+use Rattle.std.proofs.Common.{◌≡◌, Some, slice_get}
+use Rattle.hw_names.specs.Name.{Text}
 use Rattle.fil_sig.specs.Seen.{seen}
 use Rattle.fil_check.specs.inside.PortGraph.{Adds, Below}
 use Rattle.fil_check.specs.inside.Readings.{ReadsAll}
@@ -5,4 +7,4 @@ use Rattle.fil_check.proofs.loops.edges.add_all.Given as goal
 
 -- the graph has the outputs so far
 abbrev pub invariant-loop-output : goal.invariant-loop-output
-invariant-loop-output l = Adds (Below (ReadsAll l.inst (seen l.sig)) l.output-index) l.fn.graph l.graph
+invariant-loop-output l = (inst : Text) → slice_get l.fn.graph.ports.instances l.instance ≡ Some inst → Adds (Below (ReadsAll inst (seen l.sig)) l.output-index) l.fn.graph l.graph

@@ -4,12 +4,12 @@ use Rattle.fil_ast.specs.Tree.{component_tree, statement_tree}
 use Rattle.fil_ast.specs.Wires.{through_before, whole_scope}
 use Rattle.fil_check.specs.inside.Readings.{ReadsAt}
 use Rattle.fil_check.proofs.EachLemmas.{item_at}
-use Rattle.fil_check.proofs.PortGraphLemmas.{below_all}
+use Rattle.fil_check.proofs.PortGraphLemmas.{below_all, instances_kept}
 use Rattle.fil_check.proofs.ReadingLemmas.{instances_there, statement_gained}
 use Rattle.fil_check.proofs.loops.edges.add_body.Goals as goal
 
 pub loop-stmt-preserved : goal.loop-stmt-preserved
-loop-stmt-preserved c comps place shows keeps =
+loop-stmt-preserved c comps place has shows keeps =
     let names = c.args.place.now.names.now in
     let tree = component_tree names c.args.place.now.comp.now in
     let k = c.loop-stmt.stmt-index in
@@ -18,11 +18,11 @@ loop-stmt-preserved c comps place shows keeps =
     let s = statement_tree names c.stmt-item.result in
     let at = slice_get-map (statement_tree names) body k ∙ ap (option_map (statement_tree names)) here in
     statement_gained (through_before comps) (whole_scope comps tree) tree.body k c.args.graph.now c.loop-stmt.graph c.add_statement.new.graph s at
-    (c.loop-stmt.invariant comps place shows keeps)
-    (c.in_ok-add_statement.ensures (whole_scope comps tree) place shows keeps (instances_there tree.body k s at))
+    (c.loop-stmt.invariant comps place has shows keeps)
+    (c.in_ok-add_statement.ensures (whole_scope comps tree) place (instances_kept _ (whole_scope comps tree) c.args.graph.now c.loop-stmt.graph (c.loop-stmt.invariant comps place has shows keeps) has) shows keeps (instances_there tree.body k s at))
 
 pub returns : goal.returns
-returns c comps place shows keeps =
+returns c comps place has shows keeps =
     let tree = component_tree c.args.place.now.names.now c.args.place.now.comp.now in
     below_all (ReadsAt (through_before comps) (whole_scope comps tree) tree.body) c.loop-stmt.stmt-index (length c.args.place.now.comp.now.body.items) c.args.graph.now c.loop-stmt.graph
-    (omega (arith, c.loop-stmt.auto.stmt-index-end, c.loop-stmt-test.false, ap length c.deref-stmt-items.ensures.value)) (c.loop-stmt.invariant comps place shows keeps)
+    (omega (arith, c.loop-stmt.auto.stmt-index-end, c.loop-stmt-test.false, ap length c.deref-stmt-items.ensures.value)) (c.loop-stmt.invariant comps place has shows keeps)

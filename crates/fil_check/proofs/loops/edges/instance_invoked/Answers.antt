@@ -1,20 +1,25 @@
-use Rattle.std.proofs.Common.{Bor, List, ℕ, option_map, sym, ap, ◌∙◌, arith}
+use Rattle.std.proofs.Common.{List, length, option_map, slice_get, sym, ap, ◌∙◌, arith}
+use Rattle.std.specs.Option.{option_and_then}
 use Rattle.std.proofs.lemmas.Option.{slice_get_within}
+use Rattle.hw_names.specs.Name.{Text}
 use Rattle.fil_ast.specs.Scope.{Invocation, invocation_named}
 use Rattle.fil_check.proofs.MeaningLemmas.{no_invoked, invoked_some}
 use Rattle.fil_check.proofs.loops.edges.instance_invoked.Goals as goal
 
-pub returns-in_err-instance : goal.returns-in_err-instance
-returns-in_err-instance c names earlier scope place =
-    let none = no_invoked c.args.tables.now.instances (invocation_named scope.invocations c.args.name.now) (c.in_err-instance.ensures names earlier scope place) in
-    ap (option_map (λ (inst : Bor (List ℕ)). inst.now)) c.from_residual.ensures ∙ sym (ap (option_map (λ (v : Invocation). v.inst)) none)
+pub returns-in_err-instance-clause-meaning : goal.returns-in_err-instance-clause-meaning
+returns-in_err-instance-clause-meaning c scope place has =
+    let none = no_invoked c.args.place.now.tables.now.instances (invocation_named scope.invocations c.args.name.now) (c.in_err-instance.ensures c.args.place.now.names.now c.args.place.now.earlier.now scope place) in
+    ap (option_and_then (slice_get c.args.graph.now.ports.instances)) c.from_residual.ensures ∙ sym (ap (option_map (λ (v : Invocation). v.inst)) none)
 
-pub returns-then-instance-len : goal.returns-then-instance-len
-returns-then-instance-len c names earlier scope place =
-    let there = invoked_some c.args.tables.now.instances c.in_ok-instance.instance (invocation_named scope.invocations c.args.name.now) (c.in_ok-instance.ensures names earlier scope place) in
-    absurd (omega (arith, slice_get_within c.args.tables.now.instances c.in_ok-instance.instance there.0.inst there.2, c.if-instance-len.true, c.len.ensures.len))
+pub returns-then-instance-instances-clause-meaning : goal.returns-then-instance-instances-clause-meaning
+returns-then-instance-instances-clause-meaning c scope place has =
+    let tables = c.args.place.now.tables.now in
+    let there = invoked_some tables.instances c.in_ok-instance.instance (invocation_named scope.invocations c.args.name.now) (c.in_ok-instance.ensures c.args.place.now.names.now c.args.place.now.earlier.now scope place) in
+    let count = ap length (has ∙ sym place.shows.instances) in
+    absurd (omega (arith, slice_get_within tables.instances c.in_ok-instance.instance there.0.inst there.2, c.if-instance-instances.true, c.instances.ensures, count))
 
-pub returns : goal.returns
-returns c names earlier scope place =
-    let there = invoked_some c.args.tables.now.instances c.in_ok-instance.instance (invocation_named scope.invocations c.args.name.now) (c.in_ok-instance.ensures names earlier scope place) in
-    sym c.text.ensures ∙ there.2 ∙ sym (ap (option_map (λ (v : Invocation). v.inst)) there.1)
+pub returns-clause-meaning : goal.returns-clause-meaning
+returns-clause-meaning c scope place has =
+    let tables = c.args.place.now.tables.now in
+    let there = invoked_some tables.instances c.in_ok-instance.instance (invocation_named scope.invocations c.args.name.now) (c.in_ok-instance.ensures c.args.place.now.names.now c.args.place.now.earlier.now scope place) in
+    ap (λ (l : List Text). slice_get l c.in_ok-instance.instance) (has ∙ sym place.shows.instances) ∙ there.2 ∙ sym (ap (option_map (λ (v : Invocation). v.inst)) there.1)

@@ -1,0 +1,33 @@
+-- The ports of a component and of its instances, by the numbers of texts, and their full names. This project's.
+use Rattle.std.specs.Prelude.{◌≢◌, ℕ, ◌<◌, List, [], length, slice_index_or, AllPairs}
+use Rattle.hw_names.specs.Name.{Text, HasNoDot, dotted}
+use Rattle.fil_check.specs.declared.loops.ports.PortKey.{PortKey}
+use Rattle.fil_check.specs.declared.loops.ports.PortKey.TheVariants.{Own, OfInstance}
+
+-- texts by numbers: the names of instances, and all, of which they are the first
+pub record TextList : Type 0 where
+  pub instances : List Text
+  pub all : List Text
+
+-- ports by numbers: the names of the component's instances, and the full name of each port
+pub record PortList : Type 0 where
+  pub instances : List Text
+  pub names : List Text
+
+-- the full name of the port of these numbers
+abbrev pub full_name_in : List Text → PortKey → Text
+full_name_in texts (Own port) = slice_index_or texts port []
+full_name_in texts (OfInstance instance port) = dotted (slice_index_or texts instance []) (slice_index_or texts port [])
+
+-- the number of a text without a dot
+pub record IsDotless (texts : List Text) (number : ℕ) : Type 0 where
+  pub within : number < length texts
+  pub dotless : HasNoDot (slice_index_or texts number [])
+
+-- its numbers are those of texts, of which the last has no dot, so that a full name has one key
+abbrev pub IsFit : List Text → PortKey → Type 0
+IsFit texts (Own port) = IsDotless texts port
+IsFit texts (OfInstance instance port) = (instance < length texts) × IsDotless texts port
+
+abbrev pub AreDifferent : List PortKey → Type 0
+AreDifferent keys = AllPairs (λ a b. a ≢ b) keys
