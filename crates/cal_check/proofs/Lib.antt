@@ -2,6 +2,7 @@ pub mod BelowLemmas
 pub mod BranchLemmas
 pub mod ComponentLemmas
 pub mod DependLemmas
+pub mod DotLemmas
 pub mod DrivenLemmas
 pub mod EachLemmas
 pub mod EntryLemmas
@@ -38,9 +39,11 @@ pub mod PinOfLemmas
 pub mod PlaceLemmas
 pub mod PortLemmas
 pub mod PrimitiveLemmas
+pub mod RankLemmas
 pub mod ReadLemmas
 pub mod RowLemmas
 pub mod SaidLemmas
+pub mod ShortNameLemmas
 pub mod SideLemmas
 pub mod SignatureLemmas
 pub mod SourceLemmas

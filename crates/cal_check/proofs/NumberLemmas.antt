@@ -2,9 +2,6 @@
 use Rattle.std.proofs.Common.{◌≡◌, ◌≢◌, ◌↔◌, ◌⊎◌, inl, inr, ℕ, suc, ◌-◌, ◌<◌, ◌≤◌, List, [], ◌∷◌, ◌++◌, Some, Contains, length, map, filter, get_or, slice_get, take, refl, sym, ap, ap₂, subst, subst₂, ◌∙◌, add-one, arith}
 use Rattle.std.specs.Prelude.{All, AllPairs}
 use Rattle.std.specs.List.{flat_map}
-use Rattle.std.specs.Cmp.Lexicographic.{slice_cmp}
-use Rattle.std.specs.Ordering.{nat_cmp}
-use Rattle.std.specs.declared.cmp.Ordering.TheVariants.{Greater}
 use Rattle.std.proofs.lemmas.Bool.{cases_lt}
 use Rattle.std.proofs.lemmas.Bool.Decides.{Decides-eqb}
 use Rattle.std.proofs.lemmas.List.{get_or-take, get_or_default, get_or_past, length-take, map-append}
@@ -27,11 +24,11 @@ use Rattle.cal_ast.specs.Ports.{inputs_in}
 use Rattle.cal_ast.specs.Tree.{PortName, own, Component, Design}
 use Rattle.cal_ast.specs.Wires.{ReadsPort, Reaches, AtOnce, Over, ReadsAlong, HasNoLoop, IsLeastLoop, shown}
 use Rattle.cal_check.specs.inside.Nodes.{Node, APort, AHole, IsKey, input_key, key_of, node_ports}
+use Rattle.cal_check.specs.inside.ShortNames.{TellNodes}
 use Rattle.cal_check.specs.inside.WireGraphs.{HasNumber, IsGraphOf, LeadsTo, NodeReads}
 use Rattle.cal_check.specs.declared.wire_graph.WireGraph.{WireGraph}
 use Rattle.cal_check.proofs.FoundLemmas.{to_map}
 use Rattle.cal_check.proofs.GainLemmas.{IsWithin, node_at, number_within}
-use Rattle.cal_check.proofs.KeyLemmas.{key_order, port_before_hole}
 use Rattle.cal_check.proofs.NodeLemmas.{NodesAlong, along_reaches, no_holes, port_reads, ports_along, ports_among, reads_through, through_nodes}
 
 -- the node of a number, and some node past the last
@@ -229,15 +226,11 @@ module _ (design : Design) (c : Component) (g : WireGraph) (is : IsGraphOf desig
       by (APort q) is_n reads' = (next, q, is_n, reach_both reads next a next (subst (graph.Reaches reads next) same rest) (Directly a next read))
       by (AHole h) is_n reads' = absurd (no_holes design c k h reads')
 
-  key_at : (n : Node) (i : ℕ) → HasNumber g n i → get_or g.ports.keys i [] ≡ key_of n
-  key_at n i is_n = get_or_from_slice_get g.ports.keys i (key_of n) [] is_n.at
-
   -- the least number that lies on a loop is a port's
-  no_least_hole : (i k : ℕ) → HasNumber g (AHole k) i → graph.Reaches reads i i → ((m : ℕ) → graph.Reaches reads m m → IsAtMost g.ports.keys i m) → ⊥
-  no_least_hole i k is_hole reaches least =
+  no_least_hole : (names : List Text) → TellNodes g.ports.keys names → (i k : ℕ) → HasNumber g (AHole k) i → graph.Reaches reads i i → ((m : ℕ) → graph.Reaches reads m m → IsAtMost names i m) → ⊥
+  no_least_hole names tell i k is_hole reaches least =
       let m = after_hole i i k reaches refl is_hole in
-      let le = subst₂ (λ (x y : Text). slice_cmp nat_cmp x y ≢ Greater) (key_at (AHole k) i is_hole) (key_at (APort m.1) m.0 m.2) (least m.0 m.3) in
-      le (port_before_hole m.1 k)
+      tell.each i m.0 (AHole k) (APort m.1) is_hole.has_key tt is_hole.at (m.2).at (least m.0 m.3)
 
   -- ports of distinct numbers are distinct
   apart : (p : PortName) (k : ℕ) (ks : List ℕ) → HasNumber g (APort p) k → ((a : ℕ) → a < length ks → get_or ks a 0 ≡ k → ⊥) → ((a : ℕ) → a < length ks → get_or ks a 0 < length g.ports.keys) → (q : PortName) → Contains (ports_among (map (node_of g is.nodes) ks)) q → p ≢ q
@@ -269,15 +262,15 @@ module _ (design : Design) (c : Component) (g : WireGraph) (is : IsGraphOf desig
   names_among (k ∷ ks) =
       ap (λ (l : List Text). map shown (node_ports (node_of g is.nodes k)) ++ l) (names_among ks) ∙ sym (map-append shown (node_ports (node_of g is.nodes k)) (ports_among (map (node_of g is.nodes) ks)))
 
-  least_loop : (i : ℕ) (ks : List ℕ) (p : PortName) → IsLeastCycle reads g.ports.keys (i ∷ ks) → node_of g is.nodes i ≡ APort p → IsLeastLoop design c p (ports_among (map (node_of g is.nodes) ks))
-  least_loop i ks p least e = record {
+  least_loop : (names : List Text) → TellNodes g.ports.keys names → (i : ℕ) (ks : List ℕ) (p : PortName) → IsLeastCycle reads names (i ∷ ks) → node_of g is.nodes i ≡ APort p → IsLeastLoop design c p (ports_among (map (node_of g is.nodes) ks))
+  least_loop names tell i ks p least e = record {
     is_loop = record {
       along = ports_along design c p (map (node_of g is.nodes) ks) p (subst (λ (n : Node). NodesAlong design c n (map (node_of g is.nodes) ks) n) e nodes);
       distinct = subst (λ (n : Node). AllPairs (λ p q. p ≢ q) (node_ports n ++ ports_among (map (node_of g is.nodes) ks))) e (ports_distinct (i ∷ ks) cycle.trail.once range);
     };
     least = λ q others other.
         let m = reaches_itself q others other.along in
-        key_order p q (subst₂ (λ (x y : Text). slice_cmp nat_cmp x y ≢ Greater) (key_at (APort p) i is_p) (key_at (APort q) m.0 m.1) (least.least m.0 m.2));
+        tell.each i m.0 (APort p) (APort q) tt tt is_p.at (m.1).at (least.least m.0 m.2);
   }
     where
       cycle : IsCycle reads (i ∷ ks)
@@ -294,22 +287,22 @@ module _ (design : Design) (c : Component) (g : WireGraph) (is : IsGraphOf desig
           nodes_along i ks i (λ k lt. subst (λ (m : ℕ). HasRead reads (get_or (i ∷ ks) k 0) (get_or (i ∷ ks) m 0)) (add-one k) (cycle.trail.along k (omega (arith, lt))))
           (subst (λ (m : ℕ). HasRead reads (get_or (i ∷ ks) m 0) i) (let at_end : length (i ∷ ks) - 1 ≡ length ks = omega arith in at_end) cycle.back)
 
-  pub told_loop : (words : List Text) (ks : List ℕ) → words ≡ flat_map (λ k. map shown (node_ports (node_of g is.nodes k))) ks → IsLeastCycle reads g.ports.keys ks
+  pub told_loop : (names : List Text) → TellNodes g.ports.keys names → (words : List Text) (ks : List ℕ) → words ≡ flat_map (λ k. map shown (node_ports (node_of g is.nodes k))) ks → IsLeastCycle reads names ks
       → (first : PortName) × (others : List PortName) × (words ≡ map shown (first ∷ others)) × IsLeastLoop design c first others
-  told_loop words [] are least = absurd (omega (arith, least.is_cycle.some))
-  told_loop words (i ∷ ks) are least = by (node_of g is.nodes i) refl
+  told_loop names tell words [] are least = absurd (omega (arith, least.is_cycle.some))
+  told_loop names tell words (i ∷ ks) are least = by (node_of g is.nodes i) refl
     where
       lt : i < length g.ports.keys
       lt = omega (arith, least.is_cycle.trail.in_range 0 (omega arith), gathered.all)
 
       by : (n : Node) → node_of g is.nodes i ≡ n → (first : PortName) × (others : List PortName) × (words ≡ map shown (first ∷ others)) × IsLeastLoop design c first others
       by (AHole k) e =
-          absurd (no_least_hole i k (subst (λ (n : Node). HasNumber g n i) e (node_is g is.nodes i lt)) (cycle_reaches reads (i ∷ ks) least.is_cycle) least.least)
+          absurd (no_least_hole names tell i k (subst (λ (n : Node). HasNumber g n i) e (node_is g is.nodes i lt)) (cycle_reaches reads (i ∷ ks) least.is_cycle) least.least)
       by (APort p) e = (
         p,
         ports_among (map (node_of g is.nodes) ks),
         are ∙ ap₂ (λ (n : Node) (l : List Text). map shown (node_ports n) ++ l) e (names_among ks),
-        least_loop i ks p least e,
+        least_loop names tell i ks p least e,
       )
 
   -- ---- the inputs that an output reaches

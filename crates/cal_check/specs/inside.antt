@@ -4,8 +4,10 @@ pub mod FirstLoop
 pub mod Groups
 pub mod Least
 pub mod Nodes
+pub mod Ranks
 pub mod Read
 pub mod Readings
+pub mod ShortNames
 pub mod Totals
 pub mod Walks
 pub mod WireGraphs

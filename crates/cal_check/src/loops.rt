@@ -11,11 +11,11 @@ ghost use Rattle.cal_check.specs.inside.WireGraphs.{HasOrder, IsGraphOf};
 ghost use Rattle.cal_check.specs.inside.Wiring.{TellsLoop};
 
 use crate::keys::name_in;
-use crate::texts::text_at;
+use crate::ports::Ports;
 use crate::wire_graph::WireGraph;
 use hw_bits::Memory;
 use hw_graph::{Groups, OrderEnd, order_or_least_loop, read_order};
-use hw_names::{Names, Word};
+use hw_names::Word;
 use std::alloc::Global;
 
 /// Whether there is an order in which each port comes after all that it reads.
@@ -44,29 +44,30 @@ fn add_full_name(alloc: Global, names: &mut Vec<Word>, key: &[u8]) -> Result<(),
 }
 
 /// The full names of those of the numbers that are ports.
-fn full_names(alloc: Global, keys: &Names, numbers: &[usize]) -> Result<Vec<Word>, Memory>
-    requires { All (λ number. number < length keys.now) numbers.now }
-    ensures { (node : ℕ → Node) → All (λ number. slice_get keys.now number ≡ Some (key_of (node number))) numbers.now
+fn full_names(alloc: Global, ports: &Ports, numbers: &[usize]) -> Result<Vec<Word>, Memory>
+    requires { All (λ number. number < length ports.now.keys) numbers.now }
+    ensures { (node : ℕ → Node) → All (λ number. slice_get ports.now.keys number ≡ Some (key_of (node number))) numbers.now
         → IfOk result (λ names. names.items ≡ flat_map (λ number. map shown (node_ports (node number))) numbers.now) }
 {
     let mut names = Vec::new(alloc);
     for number in numbers {
-        add_full_name(alloc, &mut names, text_at(keys, *number))?;
+        let key = ports.key_at(*number)?;
+        add_full_name(alloc, &mut names, &key)?;
     }
     Ok(names)
 }
 
-/// The least loop, where there is one. Keys, which have the full names of ports, are made only here.
+/// The least loop, where there is one. Full names are made of its ports alone.
 fn told_loop(graph: &WireGraph, reads: &Groups) -> Result<Option<Vec<Word>>, Memory>
     requires distinct { AreDistinct graph.now.ports.keys }
     requires room { length graph.now.ports.keys < 2 ^ 32 }
     requires reads { IsGathered graph.now.entries.items (length graph.now.ports.keys) reads.now }
     ensures { (design : Design) (c : Component) → IsGraphOf design c graph.now → IfOk result (TellsLoop design c) }
 {
-    let keys = graph.ports.keys()?;
-    match order_or_least_loop(graph.alloc, reads, &keys) {
+    let names = graph.ports.names_in_order()?;
+    match order_or_least_loop(graph.alloc, reads, &names) {
         Ok(_order) => Ok(None),
-        Err(OrderEnd::Loop { ports }) => Ok(Some(full_names(graph.alloc, &keys, &ports)?)),
+        Err(OrderEnd::Loop { ports }) => Ok(Some(full_names(graph.alloc, &graph.ports, &ports)?)),
         Err(OrderEnd::Memory) => Err(Memory),
     }
 }

@@ -1,13 +1,15 @@
 //! The ports of a component, and the holes of its groups, by numbers.
 //!
 //! A port is known by the number of its cell's name and that of its own, so the length of a name is paid for once, and not
-//! at each port. Its key, which has its full name, is made only where the ports are put in order.
+//! at each port. Its key, which has its full name, is made only where it is told.
 ghost use Rattle.std.specs.Prelude.{◌≡◌, ◌⊎◌, ◌↔◌, ◌<◌, ◌^◌, ℕ, List, [], ◌∷◌, ◌++◌, Some, AllPairs, Contains, length, option_map, slice_get, slice_index_or, IfOk, IfSome, IsSome, OnOk};
 ghost use Rattle.hw_names.specs.Name.{AreDistinct, Text};
 ghost use Rattle.hw_names.specs.declared.names.NameId.{NameId};
 ghost use Rattle.cal_check.specs.inside.Nodes.{AHole, APort, AreNumbers, AreDifferent, IsFit, PortList, key_of, node_in, port_by};
+ghost use Rattle.cal_check.specs.inside.ShortNames.{TellNodes};
 
 use crate::keys::{PortText, hole_key, port_key};
+use crate::short_names::short_names;
 use crate::texts::{PinName, Texts};
 use hw_bits::Memory;
 use hw_names::{NameId, Names};
@@ -137,7 +139,7 @@ impl<'a> Ports<'a> {
     }
 
     /// The key that has the full name of the port at this place, or is a hole's.
-    fn key_at(&self, place: usize) -> Result<Vec<u8>, Memory>
+    pub fn key_at(&self, place: usize) -> Result<Vec<u8>, Memory>
         requires { place < length self.now.keys }
         ensures { IfOk result (λ key. slice_get self.now.keys place ≡ Some key.items) }
     {
@@ -152,7 +154,7 @@ impl<'a> Ports<'a> {
     }
 
     /// The keys by number.
-    pub fn keys(&self) -> Result<Names, Memory>
+    fn keys(&self) -> Result<Names, Memory>
         ensures { IfOk result (λ keys. keys ≡ self.now.keys) }
     {
         let mut keys = Names::new(self.alloc);
@@ -161,5 +163,16 @@ impl<'a> Ports<'a> {
             let _number = keys.intern(&key)?;
         }
         Ok(keys)
+    }
+
+    /// Names by number, of which the order is that of the full names; holes come last. They are short, unless a name has
+    /// a dot, as none has that was read.
+    pub fn names_in_order(&self) -> Result<Names, Memory>
+        ensures { IfOk result (TellNodes self.now.keys) }
+    {
+        match short_names(self.alloc, &self.texts, self.set.as_slice())? {
+            Some(names) => Ok(names),
+            None => self.keys(),
+        }
     }
 }

@@ -8,8 +8,8 @@ use Rattle.cal_ast.specs.Wires.{shown}
 use Rattle.cal_check.specs.inside.Nodes.{key_of, node_ports}
 use Rattle.cal_check.proofs.loops.full_names.Goals as goal
 
-pub text_at-requires : goal.text_at-requires
-text_at-requires c = c.requires c.loop-number.number-index 0 c.loop-number-test.true
+pub key_at-requires : goal.key_at-requires
+key_at-requires c = c.requires c.loop-number.number-index 0 c.loop-number-test.true
 
 pub loop-number-preserved : goal.loop-number-preserved
 loop-number-preserved c node are =
@@ -17,7 +17,8 @@ loop-number-preserved c node are =
     let k = c.loop-number.number-index in
     let i = get_or numbers k 0 in
     let f : ℕ → List Text = λ number. map shown (node_ports (node number)) in
-    let key = same_Some c.text_at.result.now (key_of (node i)) (sym c.text_at.ensures ∙ are k 0 c.loop-number-test.true) in
+    let made = c.in_ok-key.key.items in
+    let key = c.deref.ensures.value ∙ same_Some made (key_of (node i)) (sym c.in_ok-key.ensures ∙ are k 0 c.loop-number-test.true) in
     c.in_ok-add_full_name.ensures (node i) key
     ∙ ap (λ (l : List Text). l ++ f i) (c.loop-number.invariant node are)
     ∙ ap (λ (l : List Text). flat_map f (take k numbers) ++ l) (sym (append-nil (f i)))

@@ -6,5 +6,5 @@ use Rattle.cal_check.proofs.loops.full_names.Given as goal
 
 -- the full names so far
 abbrev pub invariant-loop-number : goal.invariant-loop-number
-invariant-loop-number l = (node : ℕ → Node) → All (λ (number : ℕ). slice_get l.keys number ≡ Some (key_of (node number))) l.numbers
+invariant-loop-number l = (node : ℕ → Node) → All (λ (number : ℕ). slice_get l.ports.keys number ≡ Some (key_of (node number))) l.numbers
     → l.names.items ≡ flat_map (λ (number : ℕ). map shown (node_ports (node number))) (take l.number-index l.numbers)

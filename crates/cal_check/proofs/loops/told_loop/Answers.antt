@@ -1,4 +1,4 @@
-use Rattle.std.proofs.Common.{◌≡◌, ◌<◌, ℕ, List, Some, Vec, Global, length, get_or, slice_get, sym, ap, subst, subst₂, ◌∙◌, arith}
+use Rattle.std.proofs.Common.{◌≡◌, ◌<◌, ℕ, List, Some, Vec, Global, length, get_or, slice_get, sym, subst, ◌∙◌, arith}
 use Rattle.std.specs.Prelude.{All}
 use Rattle.std.proofs.lemmas.List.{get_or_default}
 use Rattle.hw_graph.proofs.ComponentLemmas.{gathered_in_range}
@@ -14,8 +14,8 @@ use Rattle.cal_check.proofs.loops.told_loop.Goals as goal
 at_loop : (reads : List (List ℕ)) (keys : List Text) (end : OrderEnd) (ports : Vec ℕ Global) → end ≡ Loop ports → AtLoop end (λ ports. IsLeastCycle reads keys ports) → IsLeastCycle reads keys ports.items
 at_loop reads keys end ports is least = subst (λ (e : OrderEnd). AtLoop e (λ ports. IsLeastCycle reads keys ports)) is least
 
-within_keys : (reads : List (List ℕ)) (keys : List Text) (listed ports : List ℕ) → listed ≡ ports → length reads ≡ length keys → IsLeastCycle reads keys ports → All (λ (i : ℕ). i < length keys) listed
-within_keys reads keys listed ports same size least =
+within_keys : (reads : List (List ℕ)) (keys names : List Text) (listed ports : List ℕ) → listed ≡ ports → length reads ≡ length keys → IsLeastCycle reads names ports → All (λ (i : ℕ). i < length keys) listed
+within_keys reads keys names listed ports same size least =
     subst (All (λ (i : ℕ). i < length keys)) (sym same) (λ k d lt. omega (arith, least.is_cycle.trail.in_range k lt, get_or_default ports k d 0 lt, size))
 
 pub order_or_least_loop-requires : goal.order_or_least_loop-requires
@@ -25,34 +25,29 @@ order_or_least_loop-requires c =
     let size = gathered.all in
     record {
       in_range = gathered_in_range g.entries.items (length g.ports.keys) c.args.reads.now g.in_range gathered;
-      names = size ∙ ap length (sym c.in_ok-keys.ensures);
+      names = size ∙ sym c.in_ok-names.ensures.sized;
       room = omega (arith, size, c.requires.room);
     }
 
 pub returns-in-Ok : goal.returns-in-Ok
 returns-in-Ok c design comp is = no_loop design comp c.args.graph.now is c.requires.distinct c.args.reads.now c.requires.reads c.in-Ok._order.items c.in-Ok.ensures.order
 
--- as many reads as keys
-keys_read : (reads : List (List ℕ)) (keys own : List Text) → length reads ≡ length own → keys ≡ own → length reads ≡ length keys
-keys_read reads keys own size same = size ∙ ap length (sym same)
-
 pub full_names-requires : goal.full_names-requires
 full_names-requires c =
-    let keys = c.in_ok-keys.keys in
+    let names = c.in_ok-names.names in
     let reads = c.args.reads.now in
-    within_keys reads keys c.deref.result.now c.in-Err-Loop.ports.items c.deref.ensures.value (keys_read reads keys c.args.graph.now.ports.keys c.requires.reads.all c.in_ok-keys.ensures) (at_loop reads keys c.in-Err-Loop.field-0 c.in-Err-Loop.ports c.in-Err-Loop.field-0-is c.in-Err-Loop.ensures.cycle)
+    within_keys reads c.args.graph.now.ports.keys names c.deref.result.now c.in-Err-Loop.ports.items c.deref.ensures.value c.requires.reads.all
+    (at_loop reads names c.in-Err-Loop.field-0 c.in-Err-Loop.ports c.in-Err-Loop.field-0-is c.in-Err-Loop.ensures.cycle)
 
 pub returns-in-Err-Loop : goal.returns-in-Err-Loop
 returns-in-Err-Loop c design comp is =
     let g = c.args.graph.now in
-    let keys = c.in_ok-keys.keys in
-    let same = c.in_ok-keys.ensures in
+    let names = c.in_ok-names.names in
     let reads = c.args.reads.now in
-    let least = at_loop reads keys c.in-Err-Loop.field-0 c.in-Err-Loop.ports c.in-Err-Loop.field-0-is c.in-Err-Loop.ensures.cycle in
+    let least = at_loop reads names c.in-Err-Loop.field-0 c.in-Err-Loop.ports c.in-Err-Loop.field-0-is c.in-Err-Loop.ensures.cycle in
     let listed = c.deref.result.now in
-    let size = keys_read reads keys g.ports.keys c.requires.reads.all same in
-    let within = within_keys reads keys listed c.in-Err-Loop.ports.items c.deref.ensures.value size least in
-    let named : All (λ (i : ℕ). slice_get keys i ≡ Some (key_of (node_of g is.nodes i))) listed =
-    (λ k d lt. let is_node = node_is g is.nodes _ (subst (λ (l : List Text). get_or listed k d < length l) same (within k d lt)) in ap (λ (l : List Text). slice_get l (get_or listed k d)) same ∙ is_node.at) in
-    told_loop design comp g is c.requires.distinct reads c.requires.reads c.in_ok-full_names-in-Err-Loop.field-0.items listed (c.in_ok-full_names-in-Err-Loop.ensures (node_of g is.nodes) named)
-    (subst₂ (λ (ns : List Text) (l : List ℕ). IsLeastCycle reads ns l) same (sym c.deref.ensures.value) least)
+    let within = within_keys reads g.ports.keys names listed c.in-Err-Loop.ports.items c.deref.ensures.value c.requires.reads.all least in
+    let named : All (λ (i : ℕ). slice_get g.ports.keys i ≡ Some (key_of (node_of g is.nodes i))) listed =
+    (λ k d lt. (node_is g is.nodes _ (within k d lt)).at) in
+    told_loop design comp g is c.requires.distinct reads c.requires.reads names c.in_ok-names.ensures c.in_ok-full_names-in-Err-Loop.field-0.items listed (c.in_ok-full_names-in-Err-Loop.ensures (node_of g is.nodes) named)
+    (subst (λ (l : List ℕ). IsLeastCycle reads names l) (sym c.deref.ensures.value) least)
