@@ -1,5 +1,5 @@
 -- What assignments give a port.
-use Rattle.std.proofs.Common.{◌≡◌, ◌==◌, ℕ, Bool, true, false, not, ◌&&◌, ◌||◌, if◌then◌else◌, List, [], ◌∷◌, ◌++◌, ◌<◌, ◌≤◌, take, length, get_or, Result, Ok, Err, IfOk, refl, sym, ap, subst, ◌∙◌, append_assoc, arith, ◌+◌, ◌-◌, drop, length-append}
+use Rattle.std.proofs.Common.{◌≡◌, ◌==◌, ℕ, Bool, true, false, not, ◌&&◌, ◌||◌, if◌then◌else◌, List, [], ◌∷◌, ◌++◌, ◌<◌, ◌≤◌, take, length, get_or, Result, Ok, Err, IfOk, refl, sym, ap, subst, ◌∙◌, eq-eqb, eqb-true, append_assoc, arith, ◌+◌, ◌-◌, drop, length-append}
 use Rattle.std.proofs.lemmas.Grind.{common_steps}
 use Rattle.std.proofs.lemmas.List.{append-nil}
 use Rattle.std.proofs.Math.Seq.{drop-append_seam, take-append_seam}
@@ -7,7 +7,7 @@ use Rattle.std.specs.Prelude.{slice_index, All}
 use Rattle.hw_prims.specs.Meaning.{bit}
 use Rattle.net_core.specs.Circuit.{settled}
 use Rattle.net_steps.specs.Apart.{AreNeverBoth, HasNoTwo}
-use Rattle.net_steps.specs.Drivers.{acting, AddsChoices, AddsPort, SameWhere}
+use Rattle.net_steps.specs.Drivers.{acting, ActAlike, AddsChoices, AddsPort, SameWhere}
 use Rattle.net_steps.specs.Operations.{has_two, is_on, part_of, picked, values_on, IsStep}
 use Rattle.net_steps.specs.Steps.{Extends, IsRowOf, Defines, AddsChoice, AddsSlot, IsConstant, IsBit}
 use Rattle.net_steps.specs.StepsValue.{StepsValue}
@@ -38,12 +38,22 @@ chosen_same steps on x y a b when unless same = record {
   made = λ others slots row. choice_of (is_on slots on) (slice_index slots x) (slice_index slots y) (slice_index slots a) (when others slots row) (λ off. ap (slice_index slots) same ∙ unless others slots row off);
 }
 
-pub chosen_always : (steps : StepsValue) (on x y a : ℕ) → SameWhere steps on true x a → IsConstant steps on 1 → AddsSlot steps steps (λ others slots. if is_on slots on then slice_index slots x else slice_index slots y) a
-chosen_always steps on x y a when always = record {
+-- where it is known whether a slot is on
+pub chosen_always : (steps : StepsValue) (on x y a number : ℕ) → SameWhere steps on true x a → IsConstant steps on number → number ≡ 1 → AddsSlot steps steps (λ others slots. if is_on slots on then slice_index slots x else slice_index slots y) a
+chosen_always steps on x y a number when is one = record {
   extends = extends_itself steps;
   made = λ others slots row.
-      let one : is_on slots on ≡ true = ap (λ v. v == 1) (always others slots row) in
+      let there : is_on slots on ≡ true = eq-eqb (slice_index slots on) 1 (is others slots row ∙ one) in
       choice_of (is_on slots on) (slice_index slots x) (slice_index slots y) (slice_index slots a) (when others slots row) (λ off. cc);
+}
+
+pub chosen_never : (steps : StepsValue) (on x y b number : ℕ) → SameWhere steps on false y b → IsConstant steps on number → (number ≡ 1 → ⊥) → AddsSlot steps steps (λ others slots. if is_on slots on then slice_index slots x else slice_index slots y) b
+chosen_never steps on x y b number unless is other = record {
+  extends = extends_itself steps;
+  made = λ others slots row.
+      choice_of (is_on slots on) (slice_index slots x) (slice_index slots y) (slice_index slots b)
+      (λ one. absurd (other (sym (is others slots row) ∙ eqb-true (slice_index slots on) 1 one)))
+      (unless others slots row);
 }
 
 pub chosen_bit : (steps : StepsValue) (on x y a b : ℕ) → SameWhere steps on true x a → SameWhere steps on false y b → IsBit steps on → IsConstant steps a 1 → IsConstant steps b 0 → AddsSlot steps steps (λ others slots. if is_on slots on then slice_index slots x else slice_index slots y) on
@@ -246,6 +256,30 @@ acting_more slots [] d = refl
 acting_more slots (e ∷ drivers) d =
     more_values (is_true slots e.truth) (slice_index slots e.source) (acting slots (drivers ++ d ∷ [])) (acting slots drivers) (value_if (is_true slots d.truth) (slice_index slots d.source)) (acting_more slots drivers d)
 
+-- a driver more that may act, and one that never does
+pub kept_alike : (some drivers : List Driver) (d : Driver) → ActAlike some drivers → ActAlike (some ++ d ∷ []) (drivers ++ d ∷ [])
+kept_alike some drivers d alike slots =
+    acting_more slots some d
+    ∙ ap (λ (vs : List ℕ). vs ++ value_if (is_true slots d.truth) (slice_index slots d.source)) (alike slots)
+    ∙ sym (acting_more slots drivers d)
+
+pub dropped_alike : (some drivers : List Driver) (d : Driver) → ActAlike some drivers → ((slots : List ℕ) → is_true slots d.truth ≡ false) → ActAlike some (drivers ++ d ∷ [])
+dropped_alike some drivers d alike never slots =
+    alike slots
+    ∙ sym (acting_more slots drivers d ∙ ap (λ b. acting slots drivers ++ value_if b (slice_index slots d.source)) (never slots) ∙ append-nil (acting slots drivers))
+
+-- a port with drivers that act as others do
+pub port_of_alike : {E : Type 0} (r : Result ℕ E) (old new : StepsValue) (before after : List Clash) (port : ℕ) (some drivers : List Driver) → ActAlike some drivers → IfOk r (AddsPort old new before after port some) → IfOk r (AddsPort old new before after port drivers)
+port_of_alike (Ok slot) old new before after port some drivers alike adds = record {
+  extends = adds.extends;
+  value = λ others slots row. adds.value others slots row ∙ ap settled (alike slots);
+  added = adds.added;
+  after_is = adds.after_is;
+  of_port = adds.of_port;
+  told = λ others slots row. adds.told others slots row ∙ ap has_two (alike slots);
+}
+port_of_alike (Err e) old new before after port some drivers alike adds = adds
+
 pub choices_none : (steps : StepsValue) → AddsChoices steps steps []
 choices_none steps = record { extends = extends_itself steps; added = []; choices = sym (append-nil steps.choices); count = refl; are = λ others slots row. refl }
 
@@ -275,7 +309,7 @@ choices_more old mid more new drivers d on so_far truth same adds = record {
     table = ap (λ (s : StepsValue). s.choices) adds
 
     pushed : Extends more new
-    pushed = subst (Extends more) (sym adds) (record { base = refl; keeps = λ k step at. at; choices = (c ∷ [], refl) })
+    pushed = subst (Extends more) (sym adds) (record { base = refl; keeps = λ k step at. at; choices = (c ∷ [], refl); assumed = refl })
 
 -- the choices of the drivers, in a table that has others before and after them
 part_is : (old added rest choices : List Choice) (from count : ℕ) → choices ≡ (old ++ added) ++ rest → from ≡ length old → count ≡ length added → part_of choices from count ≡ added

@@ -7,44 +7,45 @@ use Rattle.net_steps.specs.Edge.{IsSteppedOther, AreSteppedOthers}
 use Rattle.net_steps.specs.declared.other.Other.{Other}
 
 -- the first cells have moved on, and the others not yet
-pub record AreSteppedUpto (slots : List ℕ) (number : ℕ) (old new : List Other) : Type 0 where
+pub record AreSteppedUpto (places : List (List ℕ)) (slots : List ℕ) (number : ℕ) (old new : List Other) : Type 0 where
   pub all : length new ≡ length old
-  pub each : (k : ℕ) (o n : Other) → k < number → slice_get old k ≡ Some o → slice_get new k ≡ Some n → IsSteppedOther slots o n
+  pub each : (k : ℕ) (inputs : List ℕ) (o n : Other) → k < number → slice_get places k ≡ Some inputs → slice_get old k ≡ Some o → slice_get new k ≡ Some n → IsSteppedOther inputs slots o n
   pub rest : (k : ℕ) (o n : Other) → number ≤ k → slice_get old k ≡ Some o → slice_get new k ≡ Some n → n ≡ o
 
-pub stepped_none : (slots : List ℕ) (others : List Other) → AreSteppedUpto slots 0 others others
-stepped_none slots others = record {
+pub stepped_none : (places : List (List ℕ)) (slots : List ℕ) (others : List Other) → AreSteppedUpto places slots 0 others others
+stepped_none places slots others = record {
   all = refl;
-  each = λ k o n lt at at'. absurd (omega (arith, lt));
+  each = λ k inputs o n lt has at at'. absurd (omega (arith, lt));
   rest = λ k o n le at at'. same_Some n o (sym at' ∙ at);
 }
 
-pub stepped_all : (slots : List ℕ) (number : ℕ) (old new : List Other) → length new ≤ number → AreSteppedUpto slots number old new → AreSteppedOthers slots old new
-stepped_all slots number old new over so_far = record {
+pub stepped_all : (places : List (List ℕ)) (slots : List ℕ) (number : ℕ) (old new : List Other) → length places ≤ number → AreSteppedUpto places slots number old new → AreSteppedOthers places slots old new
+stepped_all places slots number old new over so_far = record {
   all = so_far.all;
-  each = λ k o n at at'. let lt = slice_get_within new k n at' in so_far.each k o n (omega (arith, lt, over)) at at';
+  each = λ k inputs o n has at at'. let lt = slice_get_within places k inputs has in so_far.each k inputs o n (omega (arith, lt, over)) has at at';
 }
 
 -- the next one is as it was
-pub still : (slots : List ℕ) (number : ℕ) (old new : List Other) (d : Other) → number < length new → AreSteppedUpto slots number old new → get_or new number d ≡ get_or old number d
-still slots number old new d lt so_far =
+pub still : (places : List (List ℕ)) (slots : List ℕ) (number : ℕ) (old new : List Other) (d : Other) → number < length new → AreSteppedUpto places slots number old new → get_or new number d ≡ get_or old number d
+still places slots number old new d lt so_far =
     let here = slice_get-get_or new number d lt in
     let there = slice_get-get_or old number d (let e = so_far.all in omega (arith, lt, e)) in
     so_far.rest number (get_or old number d) (get_or new number d) (omega arith) there here
 
 -- one more
-pub stepped_more : (slots : List ℕ) (number : ℕ) (old new : List Other) (before after : Other) → slice_get old number ≡ Some before → number < length new → IsSteppedOther slots before after → AreSteppedUpto slots number old new → AreSteppedUpto slots (number + 1) old (set new number after)
-stepped_more slots number old new before after here lt is so_far = record {
+pub stepped_more : (places : List (List ℕ)) (slots : List ℕ) (number : ℕ) (old new : List Other) (inputs : List ℕ) (before after : Other) → slice_get places number ≡ Some inputs → slice_get old number ≡ Some before → number < length new → IsSteppedOther inputs slots before after → AreSteppedUpto places slots number old new → AreSteppedUpto places slots (number + 1) old (set new number after)
+stepped_more places slots number old new inputs before after its here lt is so_far = record {
   all = length-set new number after ∙ so_far.all;
-  each = λ k o n less at at'. elim (cases_lt k number) [
+  each = λ k mine o n less has at at'. elim (cases_lt k number) [
     | inl earlier ↦
         let ne : k ≢ number = omega (arith, earlier) in
-        so_far.each k o n earlier at (unset k n ne at')
+        so_far.each k mine o n earlier has at (unset k n ne at')
     | inr beyond ↦
         let e : k ≡ number = omega (arith, less, beyond) in
+        let inputs_is : inputs ≡ mine = same_Some inputs mine (sym its ∙ ap (slice_get places) (sym e) ∙ has) in
         let o_is : before ≡ o = same_Some before o (sym here ∙ ap (slice_get old) (sym e) ∙ at) in
         let n_is : after ≡ n = same_Some after n (sym (set_there) ∙ ap (slice_get (set new number after)) (sym e) ∙ at') in
-        subst (λ x. IsSteppedOther slots x n) o_is (subst (IsSteppedOther slots before) n_is is)
+        subst (λ i. IsSteppedOther i slots o n) inputs_is (subst (λ x. IsSteppedOther inputs slots x n) o_is (subst (IsSteppedOther inputs slots before) n_is is))
   ];
   rest = λ k o n le at at'. let ne : k ≢ number = omega (arith, le) in so_far.rest k o n (omega (arith, le)) at (unset k n ne at');
 }

@@ -8,6 +8,7 @@ use Rattle.net_steps.specs.StepsValue.{StepsValue}
 use Rattle.net_steps.specs.contracts.operation.OperationPartialEq.TheImpl.{eq-value}
 use Rattle.net_steps.specs.contracts.truth.TruthPartialEq.TheImpl.{eq-value as eq-truth}
 use Rattle.net_steps.specs.declared.choice.Choice.{Choice}
+use Rattle.net_steps.specs.declared.equality.Equality.{Equality}
 use Rattle.net_steps.specs.declared.operation.Operation.{Operation}
 use Rattle.net_steps.specs.declared.operation.Operation.TheVariants.{Constant, And, Or, Xor, Both, Either, ButNot, Equal, Less, Choose, Pick, Only, Several, Add, Subtract, Multiply, Invert, ShiftLeft, ShiftRight, Cut, Join, Output}
 use Rattle.net_steps.specs.declared.truth.Truth.{Truth}
@@ -61,14 +62,15 @@ same_operation (Output n o x y) (Output n' o' x' y') h = search rules
 same_operation (Output n o x y) b h = cc
 
 -- a step that was put into the set of the steps
-pub defined : (old : StepsValue) (base : ℕ) (keys new : List Operation) (choices : List Choice) (step : Operation) (index : ℕ) → record { base = base; items = keys; choices = choices } ≡ old → new ≡ insert_key eq-value.it keys step → ((k : Operation) × (slice_get new index ≡ Some k) × (eq-value.it step k ≡ true)) → Defines old (record { base = base; items = new; choices = choices }) step (base + index)
-defined old base keys new choices step index is put stored = record {
+pub defined : (old : StepsValue) (base : ℕ) (keys new : List Operation) (choices : List Choice) (assumed : List Equality) (step : Operation) (index : ℕ) → record { base = base; items = keys; choices = choices; assumed = assumed } ≡ old → new ≡ insert_key eq-value.it keys step → ((k : Operation) × (slice_get new index ≡ Some k) × (eq-value.it step k ≡ true)) → Defines old (record { base = base; items = new; choices = choices; assumed = assumed }) step (base + index)
+defined old base keys new choices assumed step index is put stored = record {
   extends = record {
     base = ap (λ (s : StepsValue). s.base) is;
     keeps = λ k x at.
         subst (λ ks. slice_get ks k ≡ Some x) (sym put)
         (kept_by_insert eq-value.it keys step k x (subst (λ (s : StepsValue). slice_get s.items k ≡ Some x) (sym is) at));
     choices = subst (λ (s : StepsValue). KeepsChoices s.choices choices) is (choices_itself choices);
+    assumed = ap (λ (s : StepsValue). s.assumed) is;
   };
   choices = ap (λ (s : StepsValue). s.choices) is;
   is_step = record { number = index; at = stored.1 ∙ ap Some (sym (same_operation step stored.0 stored.2)); slot_is = refl };

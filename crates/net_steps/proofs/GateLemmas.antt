@@ -1,6 +1,7 @@
 -- What single steps make of the inputs of primitives.
-use Rattle.std.proofs.Common.{◌≡◌, ℕ, ◌+◌, ◌-◌, ◌*◌, ◌/◌, ◌%◌, ◌^◌, ◌<◌, ◌≤◌, List, [], ◌∷◌, Bool, not, ◌==◌, nat_lt, Result, Ok, Err, IfOk, bit_and, refl, sym, ap, subst, ◌∙◌, arith, inl, inr}
+use Rattle.std.proofs.Common.{◌≡◌, ℕ, ◌+◌, ◌-◌, ◌*◌, ◌/◌, ◌%◌, ◌^◌, ◌<◌, ◌≤◌, List, [], ◌∷◌, Bool, not, ◌==◌, nat_lt, if◌then◌else◌, Result, Ok, Err, IfOk, bit_and, refl, sym, ap, subst, ◌∙◌, arith, inl, inr}
 use Rattle.std.specs.Prelude.{slice_index}
+use mir.Val.{bool_byte}
 use Rattle.std.proofs.Math.Nat.{div-one, div-eq_of_lt, mod-eq_of_lt, add-mul-mod_self_left, mul-mod_right}
 use Rattle.std.proofs.Math.Pow.{pow_pos, pow_mono, pow-add}
 use Rattle.std.proofs.lemmas.Bool.{cases_lt}
@@ -13,15 +14,16 @@ use Rattle.hw_prims.specs.State.{Stateless}
 use Rattle.hw_prims.specs.Table.{inputs_of}
 use Rattle.hw_prims.specs.declared.prim.Primitive.{Primitive}
 use Rattle.hw_prims.specs.declared.prim.Primitive.TheVariants.{StdConst, StdWire, StdAdd, StdSub, StdAnd, StdOr, StdXor, StdNot, StdEq, StdNeq, StdLt, StdGt, StdLe, StdGe, StdLsh, StdRsh, StdSlice, StdPad, FilMux, FilSlice, FilConcat}
-use Rattle.net_steps.specs.Gates.{IsMask, IsGate, AddsGate}
-use Rattle.net_steps.specs.Operations.{is_on, shifted_up, shifted_down, value_of}
-use Rattle.net_steps.specs.Steps.{Defines, AddsSlot}
+use Rattle.net_steps.specs.Gates.{IsMask, IsGate, AddsGate, values_at}
+use Rattle.net_steps.specs.Operations.{is_on, shifted_up, shifted_down}
+use Rattle.net_steps.specs.Steps.{Defines, AddsSlot, IsConstant}
 use Rattle.net_steps.specs.StepsValue.{StepsValue}
-use Rattle.net_steps.specs.declared.choice.Choice.{Choice}
+use Rattle.net_steps.specs.Truths.{IsAlways}
 use Rattle.net_steps.specs.declared.operation.Operation.{Operation}
-use Rattle.net_steps.specs.declared.operation.Operation.TheVariants.{And, Or, Xor, Equal, Less, Choose, Add, Subtract, Multiply, Invert, ShiftLeft, ShiftRight, Cut, Join}
+use Rattle.net_steps.specs.declared.operation.Operation.TheVariants.{Constant, And, Or, Xor, Add, Subtract, Multiply, Invert, ShiftLeft, ShiftRight, Cut, Join}
 use Rattle.net_steps.specs.declared.other.Other.{Other}
-use Rattle.net_steps.proofs.StepLemmas.{extends_itself, extends_twice, row_before, defined_made}
+use Rattle.net_steps.proofs.ChoiceLemmas.{byte_is}
+use Rattle.net_steps.proofs.StepLemmas.{extends_itself, ok_slot_after, row_before, defined_made}
 use Rattle.net_steps.proofs.TruthLemmas.{bit_is_on, not_less}
 
 -- the low bits by a mask, of what was wrapped at 64 bits
@@ -52,22 +54,6 @@ or_gate prim w a b is = subst (λ p. IsGate p (a ∷ b ∷ []) (Or a b)) (sym is
 pub xor_gate : (prim : Primitive) (w a b : ℕ) → prim ≡ StdXor w → IsGate prim (a ∷ b ∷ []) (Xor a b)
 unfolding output_values
 xor_gate prim w a b is = subst (λ p. IsGate p (a ∷ b ∷ []) (Xor a b)) (sym is) (λ others choices slots fits. refl)
-
-pub eq_gate : (prim : Primitive) (w a b : ℕ) → prim ≡ StdEq w → IsGate prim (a ∷ b ∷ []) (Equal a b)
-unfolding output_values
-eq_gate prim w a b is = subst (λ p. IsGate p (a ∷ b ∷ []) (Equal a b)) (sym is) (λ others choices slots fits. refl)
-
-pub lt_gate : (prim : Primitive) (w a b : ℕ) → prim ≡ StdLt w → IsGate prim (a ∷ b ∷ []) (Less a b)
-unfolding output_values
-lt_gate prim w a b is = subst (λ p. IsGate p (a ∷ b ∷ []) (Less a b)) (sym is) (λ others choices slots fits. refl)
-
-pub gt_gate : (prim : Primitive) (w a b : ℕ) → prim ≡ StdGt w → IsGate prim (a ∷ b ∷ []) (Less b a)
-unfolding output_values
-gt_gate prim w a b is = subst (λ p. IsGate p (a ∷ b ∷ []) (Less b a)) (sym is) (λ others choices slots fits. refl)
-
-pub mux_gate : (prim : Primitive) (w on a b : ℕ) → prim ≡ FilMux w → IsGate prim (on ∷ a ∷ b ∷ []) (Choose on a b)
-unfolding output_values
-mux_gate prim w on a b is = subst (λ p. IsGate p (on ∷ a ∷ b ∷ []) (Choose on a b)) (sym is) (λ others choices slots fits. refl)
 
 inverted : (w mask x : ℕ) → IsMask w mask → x < 2 ^ w → (mask + (2 ^ 64 - x)) % 2 ^ 64 ≡ inverted_bits w x
 inverted w mask x m fits =
@@ -174,37 +160,77 @@ pub pad_gate : (steps : StepsValue) (prim : Primitive) (i o a : ℕ) → prim �
 unfolding output_values
 pad_gate steps prim i o a is = subst (λ p. AddsGate steps steps p (a ∷ []) a) (sym is) (record { extends = extends_itself steps; made = λ others slots row fits. refl })
 
--- the negation of a test
-negated_slot : (old mid new : StepsValue) (step : Operation) (test slot : ℕ) (on : List ℕ → Bool) → ((others : List Other) (choices : List Choice) (slots : List ℕ) → value_of others choices slots step ≡ bit (on slots)) → Defines old mid step test → AddsSlot mid new (λ others slots. bit (not (is_on slots test))) slot → AddsSlot old new (λ others slots. bit (not (on slots))) slot
-negated_slot old mid new step test slot on value defines adds = record {
-  extends = extends_twice old mid new defines.extends adds.extends;
+-- ---- comparisons, and one of two
+
+-- what is known makes a bit
+pub known_bit : (old new : StepsValue) (test : List ℕ → Bool) (on : Bool) (slot : ℕ) → IsAlways old test on → Defines old new (Constant (bool_byte on)) slot → AddsSlot old new (λ others slots. bit (test slots)) slot
+known_bit old new test on slot always defines = record {
+  extends = defines.extends;
   made = λ others slots row.
-      let before = row_before mid new adds.extends others slots row in
-      adds.made others slots row
-      ∙ ap (λ v. bit (not (v == 1))) (defined_made old mid step test defines others slots before ∙ value others before.choices slots)
-      ∙ ap (λ b. bit (not b)) (bit_is_on (on slots));
+      defined_made old new (Constant (bool_byte on)) slot defines others slots row
+      ∙ byte_is on
+      ∙ ap bit (sym (always others slots (row_before old new defines.extends others slots row)));
 }
 
-pub neq_gate : {E : Type 0} (r : Result ℕ E) (old mid new : StepsValue) (prim : Primitive) (w a b test : ℕ) → prim ≡ StdNeq w → Defines old mid (Equal a b) test → IfOk r (AddsSlot mid new (λ others slots. bit (not (is_on slots test)))) → IfOk r (AddsGate old new prim (a ∷ b ∷ []))
-unfolding output_values
-neq_gate (Ok slot) old mid new prim w a b test is defines adds =
-    let made = negated_slot old mid new (Equal a b) test slot (λ slots. slice_index slots a == slice_index slots b) (λ others choices slots. refl) defines adds in
-    subst (λ p. AddsGate old new p (a ∷ b ∷ []) slot) (sym is) (record { extends = made.extends; made = λ others slots row fits. made.made others slots row })
-neq_gate (Err e) old mid new prim w a b test is defines adds = adds
+pub not_known : (steps : StepsValue) (slot number : ℕ) → IsConstant steps slot number → IsAlways steps (λ slots. not (is_on slots slot)) (not (number == 1))
+not_known steps slot number is others slots row = ap (λ v. not (v == 1)) (is others slots row)
 
-pub le_gate : {E : Type 0} (r : Result ℕ E) (old mid new : StepsValue) (prim : Primitive) (w a b test : ℕ) → prim ≡ StdLe w → Defines old mid (Less b a) test → IfOk r (AddsSlot mid new (λ others slots. bit (not (is_on slots test)))) → IfOk r (AddsGate old new prim (a ∷ b ∷ []))
-unfolding output_values
-le_gate (Ok slot) old mid new prim w a b test is defines adds =
-    let made = negated_slot old mid new (Less b a) test slot (λ slots. nat_lt (slice_index slots b) (slice_index slots a)) (λ others choices slots. refl) defines adds in
-    subst (λ p. AddsGate old new p (a ∷ b ∷ []) slot) (sym is) (record { extends = made.extends; made = λ others slots row fits. made.made others slots row ∙ ap bit (not_less (slice_index slots b) (slice_index slots a)) })
-le_gate (Err e) old mid new prim w a b test is defines adds = adds
+-- a gate whose output is what a slot has
+pub gate_as : {E : Type 0} (r : Result ℕ E) (old new : StepsValue) (prim : Primitive) (inputs : List ℕ) (value : List Other → List ℕ → ℕ) → ((others : List Other) (slots : List ℕ) → value others slots ≡ slice_index (output_values prim Stateless (values_at slots inputs)) 0) → IfOk r (AddsSlot old new value) → IfOk r (AddsGate old new prim inputs)
+gate_as (Ok slot) old new prim inputs value is adds = record {
+  extends = adds.extends;
+  made = λ others slots row fits. adds.made others slots row ∙ is others slots;
+}
+gate_as (Err e) old new prim inputs value is adds = adds
 
-pub ge_gate : {E : Type 0} (r : Result ℕ E) (old mid new : StepsValue) (prim : Primitive) (w a b test : ℕ) → prim ≡ StdGe w → Defines old mid (Less a b) test → IfOk r (AddsSlot mid new (λ others slots. bit (not (is_on slots test)))) → IfOk r (AddsGate old new prim (a ∷ b ∷ []))
+pub eq_gate : {E : Type 0} (r : Result ℕ E) (old new : StepsValue) (prim : Primitive) (w a b : ℕ) → prim ≡ StdEq w → IfOk r (AddsSlot old new (λ others slots. bit (slice_index slots a == slice_index slots b))) → IfOk r (AddsGate old new prim (a ∷ b ∷ []))
 unfolding output_values
-ge_gate (Ok slot) old mid new prim w a b test is defines adds =
-    let made = negated_slot old mid new (Less a b) test slot (λ slots. nat_lt (slice_index slots a) (slice_index slots b)) (λ others choices slots. refl) defines adds in
-    subst (λ p. AddsGate old new p (a ∷ b ∷ []) slot) (sym is) (record { extends = made.extends; made = λ others slots row fits. made.made others slots row ∙ ap bit (not_less (slice_index slots a) (slice_index slots b)) })
-ge_gate (Err e) old mid new prim w a b test is defines adds = adds
+eq_gate r old new prim w a b is = subst (λ p. IfOk r (AddsSlot old new (λ others slots. bit (slice_index slots a == slice_index slots b))) → IfOk r (AddsGate old new p (a ∷ b ∷ []))) (sym is)
+    (gate_as r old new (StdEq w) (a ∷ b ∷ []) (λ others slots. bit (slice_index slots a == slice_index slots b)) (λ others slots. refl))
+
+pub lt_gate : {E : Type 0} (r : Result ℕ E) (old new : StepsValue) (prim : Primitive) (w a b : ℕ) → prim ≡ StdLt w → IfOk r (AddsSlot old new (λ others slots. bit (nat_lt (slice_index slots a) (slice_index slots b)))) → IfOk r (AddsGate old new prim (a ∷ b ∷ []))
+unfolding output_values
+lt_gate r old new prim w a b is = subst (λ p. IfOk r (AddsSlot old new (λ others slots. bit (nat_lt (slice_index slots a) (slice_index slots b)))) → IfOk r (AddsGate old new p (a ∷ b ∷ []))) (sym is)
+    (gate_as r old new (StdLt w) (a ∷ b ∷ []) (λ others slots. bit (nat_lt (slice_index slots a) (slice_index slots b))) (λ others slots. refl))
+
+pub gt_gate : {E : Type 0} (r : Result ℕ E) (old new : StepsValue) (prim : Primitive) (w a b : ℕ) → prim ≡ StdGt w → IfOk r (AddsSlot old new (λ others slots. bit (nat_lt (slice_index slots b) (slice_index slots a)))) → IfOk r (AddsGate old new prim (a ∷ b ∷ []))
+unfolding output_values
+gt_gate r old new prim w a b is = subst (λ p. IfOk r (AddsSlot old new (λ others slots. bit (nat_lt (slice_index slots b) (slice_index slots a)))) → IfOk r (AddsGate old new p (a ∷ b ∷ []))) (sym is)
+    (gate_as r old new (StdGt w) (a ∷ b ∷ []) (λ others slots. bit (nat_lt (slice_index slots b) (slice_index slots a))) (λ others slots. refl))
+
+pub mux_gate : (old new : StepsValue) (prim : Primitive) (w on a b slot : ℕ) → prim ≡ FilMux w → AddsSlot old new (λ others slots. if is_on slots on then slice_index slots a else slice_index slots b) slot → AddsGate old new prim (on ∷ a ∷ b ∷ []) slot
+unfolding output_values
+mux_gate old new prim w on a b slot is adds = subst (λ p. AddsGate old new p (on ∷ a ∷ b ∷ []) slot) (sym is) (record {
+  extends = adds.extends;
+  made = λ others slots row fits. adds.made others slots row;
+})
+
+-- the negation of a test
+negated_slot : {E : Type 0} (r : Result ℕ E) (old mid new : StepsValue) (test : List ℕ → Bool) (slot : ℕ) → AddsSlot old mid (λ others slots. bit (test slots)) slot → IfOk r (AddsSlot mid new (λ others slots. bit (not (is_on slots slot)))) → IfOk r (AddsSlot old new (λ others slots. bit (not (test slots))))
+negated_slot r old mid new test slot adds =
+    ok_slot_after r old mid new (λ others slots. bit (not (is_on slots slot))) (λ others slots. bit (not (test slots))) adds.extends
+    (λ others slots row. ap (λ v. bit (not (v == 1))) (adds.made others slots row) ∙ ap (λ b. bit (not b)) (bit_is_on (test slots)))
+
+pub neq_gate : {E : Type 0} (r : Result ℕ E) (old mid new : StepsValue) (prim : Primitive) (w a b slot : ℕ) → prim ≡ StdNeq w → AddsSlot old mid (λ others slots. bit (slice_index slots a == slice_index slots b)) slot → IfOk r (AddsSlot mid new (λ others slots. bit (not (is_on slots slot)))) → IfOk r (AddsGate old new prim (a ∷ b ∷ []))
+unfolding output_values
+neq_gate r old mid new prim w a b slot is adds negated =
+    subst (λ p. IfOk r (AddsGate old new p (a ∷ b ∷ []))) (sym is)
+    (gate_as r old new (StdNeq w) (a ∷ b ∷ []) (λ others slots. bit (not (slice_index slots a == slice_index slots b))) (λ others slots. refl)
+    (negated_slot r old mid new (λ slots. slice_index slots a == slice_index slots b) slot adds negated))
+
+pub le_gate : {E : Type 0} (r : Result ℕ E) (old mid new : StepsValue) (prim : Primitive) (w a b slot : ℕ) → prim ≡ StdLe w → AddsSlot old mid (λ others slots. bit (nat_lt (slice_index slots b) (slice_index slots a))) slot → IfOk r (AddsSlot mid new (λ others slots. bit (not (is_on slots slot)))) → IfOk r (AddsGate old new prim (a ∷ b ∷ []))
+unfolding output_values
+le_gate r old mid new prim w a b slot is adds negated =
+    subst (λ p. IfOk r (AddsGate old new p (a ∷ b ∷ []))) (sym is)
+    (gate_as r old new (StdLe w) (a ∷ b ∷ []) (λ others slots. bit (not (nat_lt (slice_index slots b) (slice_index slots a)))) (λ others slots. ap bit (not_less (slice_index slots b) (slice_index slots a)))
+    (negated_slot r old mid new (λ slots. nat_lt (slice_index slots b) (slice_index slots a)) slot adds negated))
+
+pub ge_gate : {E : Type 0} (r : Result ℕ E) (old mid new : StepsValue) (prim : Primitive) (w a b slot : ℕ) → prim ≡ StdGe w → AddsSlot old mid (λ others slots. bit (nat_lt (slice_index slots a) (slice_index slots b))) slot → IfOk r (AddsSlot mid new (λ others slots. bit (not (is_on slots slot)))) → IfOk r (AddsGate old new prim (a ∷ b ∷ []))
+unfolding output_values
+ge_gate r old mid new prim w a b slot is adds negated =
+    subst (λ p. IfOk r (AddsGate old new p (a ∷ b ∷ []))) (sym is)
+    (gate_as r old new (StdGe w) (a ∷ b ∷ []) (λ others slots. bit (not (nat_lt (slice_index slots a) (slice_index slots b)))) (λ others slots. ap bit (not_less (slice_index slots a) (slice_index slots b)))
+    (negated_slot r old mid new (λ slots. nat_lt (slice_index slots a) (slice_index slots b)) slot adds negated))
 
 pub product_made : (old new : StepsValue) (w mask a b slot : ℕ) → IsMask w mask → Defines old new (Multiply a b mask) slot → AddsSlot old new (λ others slots. product_bits w (slice_index slots a) (slice_index slots b)) slot
 product_made old new w mask a b slot m defines = record {

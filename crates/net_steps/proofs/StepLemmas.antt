@@ -1,12 +1,12 @@
 -- Steps: what one makes depends on the slots below it alone, and steps that were added to others.
-use Rattle.std.proofs.Common.{◌≡◌, ℕ, zero, suc, ◌+◌, List, [], ◌∷◌, ◌++◌, Bool, true, false, if◌then◌else◌, Result, Ok, Err, IfOk, Some, refl, sym, ap, ◌∙◌, append_assoc}
+use Rattle.std.proofs.Common.{◌≡◌, ℕ, zero, suc, ◌+◌, List, [], ◌∷◌, ◌++◌, Bool, true, false, if◌then◌else◌, Result, Ok, Err, IfOk, Some, refl, sym, ap, subst, ◌∙◌, append_assoc}
 use Rattle.std.proofs.lemmas.List.{append-nil}
 use Rattle.std.proofs.lemmas.Option.{none-some}
 use Rattle.std.specs.List.{list_any}
 use Rattle.indexmap.specs.IndexSet.{insert_key}
 use Rattle.std.specs.Prelude.{slice_get, slice_index}
 use Rattle.net_steps.specs.Operations.{KeepsChoices, KeepsSteps, IsStep, value_of}
-use Rattle.net_steps.specs.Steps.{Extends, IsRowOf, Defines, AddsSlot}
+use Rattle.net_steps.specs.Steps.{Extends, IsAssumed, IsRowOf, Defines, AddsSlot}
 use Rattle.net_steps.specs.StepsValue.{StepsValue}
 use Rattle.net_steps.specs.declared.choice.Choice.{Choice}
 use Rattle.net_steps.specs.declared.operation.Operation.{Operation}
@@ -20,11 +20,11 @@ choices_twice old mid new first second =
     (first.0 ++ second.0, second.1 ∙ ap (λ (l : List Choice). l ++ second.0) first.1 ∙ append_assoc old first.0 second.0)
 
 pub extends_itself : (steps : StepsValue) → Extends steps steps
-extends_itself steps = record { base = refl; keeps = λ k step at. at; choices = choices_itself steps.choices }
+extends_itself steps = record { base = refl; keeps = λ k step at. at; choices = choices_itself steps.choices; assumed = refl }
 
 pub extends_twice : (old mid new : StepsValue) → Extends old mid → Extends mid new → Extends old new
 extends_twice old mid new first second =
-    record { base = second.base ∙ first.base; keeps = λ k step at. second.keeps k step (first.keeps k step at); choices = choices_twice old.choices mid.choices new.choices first.choices second.choices }
+    record { base = second.base ∙ first.base; keeps = λ k step at. second.keeps k step (first.keeps k step at); choices = choices_twice old.choices mid.choices new.choices first.choices second.choices; assumed = second.assumed ∙ first.assumed }
 
 -- a row of more steps is one of fewer
 pub row_before : (old new : StepsValue) → Extends old new → (others : List Other) (slots : List ℕ) → IsRowOf new others slots → IsRowOf old others slots
@@ -32,6 +32,7 @@ row_before old new extends others slots row = record {
   choices = row.choices;
   table = choices_twice old.choices new.choices row.choices extends.choices row.table;
   made = λ k step at. ap (λ b. slice_index slots (b + k)) (sym extends.base) ∙ row.made k step (extends.keeps k step at);
+  assumed = subst (IsAssumed slots) extends.assumed row.assumed;
 }
 
 -- what a step that is there makes

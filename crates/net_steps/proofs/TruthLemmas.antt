@@ -1,5 +1,5 @@
 -- Truths of slots.
-use Rattle.std.proofs.Common.{◌≡◌, ◌==◌, ℕ, Bool, true, false, not, ◌&&◌, ◌||◌, nat_lt, nat_le, if◌then◌else◌, List, Result, Ok, Err, IfOk, refl, sym, ap, ◌∙◌, arith}
+use Rattle.std.proofs.Common.{◌≡◌, ◌==◌, ℕ, Bool, true, false, not, ◌&&◌, ◌||◌, nat_eq, nat_lt, nat_le, if◌then◌else◌, List, Result, Ok, Err, IfOk, refl, sym, ap, ◌∙◌, eq-eqb, arith}
 use Rattle.std.proofs.lemmas.Bool.Decides.{nat_tests}
 use Rattle.net_core.specs.Guard.{compare_values}
 use Rattle.net_core.specs.declared.net.Cmp.{Cmp}
@@ -8,7 +8,7 @@ use Rattle.hw_prims.specs.Meaning.{bit}
 use Rattle.net_steps.specs.Operations.{value_of}
 use Rattle.net_steps.specs.Steps.{Extends, IsRowOf, Defines, IsConstant}
 use Rattle.net_steps.specs.StepsValue.{StepsValue}
-use Rattle.net_steps.specs.Truths.{is_true, AddsTruth, IsTruthOf, IsBothOf}
+use Rattle.net_steps.specs.Truths.{is_true, AddsTruth, IsAlways, IsTruthOf, IsBothOf}
 use Rattle.net_steps.specs.declared.choice.Choice.{Choice}
 use Rattle.net_steps.specs.declared.operation.Operation.{Operation}
 use Rattle.net_steps.specs.declared.other.Other.{Other}
@@ -143,6 +143,25 @@ seen_equal steps a b truth seen one = record {
   extends = extends_itself steps;
   made = λ others slots row. seen others slots row ∙ ap (λ v. slice_index slots a == v) (sym (one others slots row));
 }
+
+-- a comparison of known numbers, and of one slot with itself
+pub known_by : (steps : StepsValue) (a b x y : ℕ) (test : ℕ → ℕ → Bool) → IsConstant steps a x → IsConstant steps b y → IsAlways steps (λ slots. test (slice_index slots a) (slice_index slots b)) (test x y)
+known_by steps a b x y test left right others slots row =
+    ap (λ v. test v (slice_index slots b)) (left others slots row) ∙ ap (test x) (right others slots row)
+
+pub known_alone : (steps : StepsValue) (a b : ℕ) (test : ℕ → ℕ → Bool) (on : Bool) → a ≡ b → ((x : ℕ) → test x x ≡ on) → IsAlways steps (λ slots. test (slice_index slots a) (slice_index slots b)) on
+known_alone steps a b test on same is others slots row =
+    ap (λ k. test (slice_index slots k) (slice_index slots b)) same ∙ is (slice_index slots b)
+
+pub equal_itself : (x : ℕ) → nat_eq x x ≡ true
+equal_itself x = eq-eqb x x refl
+
+pub never_less : (x : ℕ) → nat_lt x x ≡ false
+never_less x = grind (arith, nat_tests)
+
+-- a truth that is known
+pub always_fixed : (steps : StepsValue) (test : List ℕ → Bool) (on : Bool) → IsAlways steps test on → AddsTruth steps steps test (Fixed on)
+always_fixed steps test on always = record { extends = extends_itself steps; made = λ others slots row. sym (always others slots row) }
 
 -- what is not below is at least as great
 pub not_less : (x y : ℕ) → not (nat_lt x y) ≡ nat_le y x

@@ -1,13 +1,13 @@
 -- Assignments that never act at once, since what one asks is denied by what the other asks. This project's.
-use Rattle.std.specs.Prelude.{◌≡◌, ℕ, Bool, true, false, ◌&&◌, ◌||◌, List, slice_index}
+use Rattle.std.specs.Prelude.{◌≡◌, ℕ, Bool, true, false, ◌&&◌, ◌||◌, List, Contains, Option, slice_index, unwrap_or}
 use Rattle.net_steps.specs.Drivers.{acting}
 use Rattle.net_steps.specs.Operations.{has_two}
 use Rattle.net_steps.specs.Steps.{IsRowOf}
 use Rattle.net_steps.specs.StepsValue.{StepsValue}
 use Rattle.net_steps.specs.Truths.{is_true}
-use Rattle.net_steps.specs.declared.apart.Equality.{Equality}
 use Rattle.net_steps.specs.declared.apart.Group.{Group}
 use Rattle.net_steps.specs.declared.drivers.Driver.{Driver}
+use Rattle.net_steps.specs.declared.equality.Equality.{Equality}
 use Rattle.net_steps.specs.declared.other.Other.{Other}
 use Rattle.net_steps.specs.declared.truth.Truth.{Truth}
 use Rattle.net_steps.specs.declared.truth.Truth.TheVariants.{Fixed}
@@ -16,6 +16,15 @@ use Rattle.net_steps.specs.declared.truth.Truth.TheVariants.{Fixed}
 abbrev pub Implies : StepsValue → Truth → Equality → Type 0
 Implies steps truth equality =
     (others : List Other) (slots : List ℕ) → IsRowOf steps others slots → is_true slots truth ≡ true → slice_index slots equality.slot ≡ equality.number
+
+-- in each row in which it is true the slot has one of these numbers
+abbrev pub Asks : StepsValue → Truth → ℕ → List ℕ → Type 0
+Asks steps truth slot numbers =
+    (others : List Other) (slots : List ℕ) → IsRowOf steps others slots → is_true slots truth ≡ true → Contains numbers (slice_index slots slot)
+
+-- no number is in both
+abbrev pub AreDisjoint : List ℕ → List ℕ → Type 0
+AreDisjoint first second = (number : ℕ) → Contains first number → Contains second number → ⊥
 
 -- there is no row in which both are true
 abbrev pub AreNeverBoth : StepsValue → Truth → Truth → Type 0
@@ -39,3 +48,16 @@ has_true slots group = is_true slots group.first || (is_true slots group.second 
 pub record Joins (steps : StepsValue) (old : Group) (truth : Truth) (new : Group) : Type 0 where
   pub apart : (others : List Other) (slots : List ℕ) → IsRowOf steps others slots → (has_true slots old && is_true slots truth) ≡ false
   pub joined : (others : List Other) (slots : List ℕ) → IsRowOf steps others slots → has_true slots new ≡ (has_true slots old || is_true slots truth)
+
+-- the truths that ask for this number
+abbrev pub group_at : (ℕ → Option Group) → ℕ → Group
+group_at groups number = unwrap_or (groups number) empty_group
+
+-- a truth was added to the groups of these numbers, where it is never true beside another
+pub record JoinsGroups (steps : StepsValue) (old new : ℕ → Option Group) (numbers : List ℕ) (truth : Truth) : Type 0 where
+  pub apart : (others : List Other) (slots : List ℕ) → IsRowOf steps others slots → (number : ℕ) → Contains numbers number →
+      (has_true slots (group_at old number) && is_true slots truth) ≡ false
+  pub kept : (others : List Other) (slots : List ℕ) → IsRowOf steps others slots → (number : ℕ) →
+      has_true slots (group_at old number) ≡ true → has_true slots (group_at new number) ≡ true
+  pub joined : (others : List Other) (slots : List ℕ) → IsRowOf steps others slots → (number : ℕ) → Contains numbers number →
+      is_true slots truth ≡ true → has_true slots (group_at new number) ≡ true

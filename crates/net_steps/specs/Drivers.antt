@@ -16,6 +16,10 @@ abbrev pub acting : List ℕ → List Driver → List ℕ
 acting slots [] = []
 acting slots (d ∷ drivers) = if is_true slots d.truth then slice_index slots d.source ∷ acting slots drivers else acting slots drivers
 
+-- in each row some drivers give what others give
+abbrev pub ActAlike : List Driver → List Driver → Type 0
+ActAlike drivers others = (slots : List ℕ) → acting slots drivers ≡ acting slots others
+
 -- both act
 abbrev pub is_clash : List ℕ → Clash → Bool
 is_clash slots clash = is_on slots clash.first && is_on slots clash.second

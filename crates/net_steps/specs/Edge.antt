@@ -4,14 +4,14 @@ use Rattle.hw_prims.specs.Meaning.{next_state}
 use Rattle.net_steps.specs.Gathered.{gathered}
 use Rattle.net_steps.specs.declared.other.Other.{Other}
 
--- a cell after the edge
-pub record IsSteppedOther (slots : List ℕ) (old new : Other) : Type 0 where
+-- a cell after the edge of a row in which its inputs were in these slots
+pub record IsSteppedOther (inputs slots : List ℕ) (old new : Other) : Type 0 where
   pub prim : new.state.prim ≡ old.state.prim
-  pub state : new.state.state ≡ next_state old.state.prim old.state.state (gathered slots old.places old.widths.items)
+  pub state : new.state.state ≡ next_state old.state.prim old.state.state (gathered slots inputs old.widths.items)
   pub widths : new.widths ≡ old.widths
-  pub places : new.places ≡ old.places
   pub outputs : new.outputs ≡ old.outputs
 
-pub record AreSteppedOthers (slots : List ℕ) (old new : List Other) : Type 0 where
+pub record AreSteppedOthers (places : List (List ℕ)) (slots : List ℕ) (old new : List Other) : Type 0 where
   pub all : length new ≡ length old
-  pub each : (k : ℕ) (o n : Other) → slice_get old k ≡ Some o → slice_get new k ≡ Some n → IsSteppedOther slots o n
+  pub each : (k : ℕ) (inputs : List ℕ) (o n : Other) → slice_get places k ≡ Some inputs → slice_get old k ≡ Some o → slice_get new k ≡ Some n →
+      IsSteppedOther inputs slots o n

@@ -1,23 +1,30 @@
 -- Steps that were added to others, and what is then in a slot of every row that they make. This project's.
-use Rattle.std.specs.Prelude.{◌≡◌, ℕ, List, [], ◌∷◌, ◌++◌, slice_index}
+use Rattle.std.specs.Prelude.{◌≡◌, ℕ, List, [], ◌∷◌, ◌++◌, All, slice_index}
 use Rattle.hw_prims.specs.Meaning.{bit}
 use Rattle.net_steps.specs.Operations.{AreMade, IsStep, KeepsChoices, KeepsSteps, is_on}
 use Rattle.net_steps.specs.StepsValue.{StepsValue}
 use Rattle.net_steps.specs.declared.choice.Choice.{Choice}
+use Rattle.net_steps.specs.declared.equality.Equality.{Equality}
 use Rattle.net_steps.specs.declared.operation.Operation.{Operation}
 use Rattle.net_steps.specs.declared.other.Other.{Other}
 
--- the slots are those of a row that these steps make, from a table in which their choices come first
+-- what is assumed of a row holds in it
+abbrev pub IsAssumed : List ℕ → List Equality → Type 0
+IsAssumed slots equalities = All (λ (equality : Equality). slice_index slots equality.slot ≡ equality.number) equalities
+
+-- the slots are those of a row that these steps make, from a table in which their choices come first, and what is assumed holds in it
 pub record IsRowOf (steps : StepsValue) (others : List Other) (slots : List ℕ) : Type 0 where
   pub choices : List Choice
   pub table : KeepsChoices steps.choices choices
   pub made : AreMade others choices steps.base steps.items slots
+  pub assumed : IsAssumed slots steps.assumed
 
--- the old steps and choices stand, with others after them
+-- the old steps and choices stand, with others after them, and no more is assumed
 pub record Extends (old new : StepsValue) : Type 0 where
   pub base : new.base ≡ old.base
   pub keeps : KeepsSteps old.items new.items
   pub choices : KeepsChoices old.choices new.choices
+  pub assumed : new.assumed ≡ old.assumed
 
 -- one choice was added, last
 abbrev pub AddsChoice : StepsValue → StepsValue → Choice → Type 0

@@ -1,5 +1,5 @@
 -- What is true in a row, by its slots. This project's.
-use Rattle.std.specs.Prelude.{◌≡◌, ℕ, Bool, not, ◌&&◌, List, if◌then◌else◌}
+use Rattle.std.specs.Prelude.{◌≡◌, ℕ, Bool, not, ◌&&◌, ◌||◌, List, if◌then◌else◌}
 use Rattle.net_steps.specs.Operations.{is_on}
 use Rattle.net_steps.specs.Steps.{Extends, IsRowOf}
 use Rattle.net_steps.specs.StepsValue.{StepsValue}
@@ -16,6 +16,10 @@ pub record AddsTruth (old new : StepsValue) (holds : List ℕ → Bool) (truth :
   pub extends : Extends old new
   pub made : (others : List Other) (slots : List ℕ) → IsRowOf new others slots → is_true slots truth ≡ holds slots
 
+-- in each row a test of the slots comes out so
+abbrev pub IsAlways : StepsValue → (List ℕ → Bool) → Bool → Type 0
+IsAlways steps test on = (others : List Other) (slots : List ℕ) → IsRowOf steps others slots → test slots ≡ on
+
 -- it is true in each row in which the slot is 1, and in no other
 abbrev pub IsTruthOf : StepsValue → ℕ → Truth → Type 0
 IsTruthOf steps slot truth = (others : List Other) (slots : List ℕ) → IsRowOf steps others slots → is_true slots truth ≡ is_on slots slot
@@ -24,3 +28,8 @@ IsTruthOf steps slot truth = (others : List Other) (slots : List ℕ) → IsRowO
 abbrev pub IsBothOf : StepsValue → Truth → Truth → Truth → Type 0
 IsBothOf steps truth one other =
     (others : List Other) (slots : List ℕ) → IsRowOf steps others slots → is_true slots truth ≡ (is_true slots one && is_true slots other)
+
+-- it is true in each row in which one of two others is, and in no other
+abbrev pub IsEitherOf : StepsValue → Truth → Truth → Truth → Type 0
+IsEitherOf steps truth one other =
+    (others : List Other) (slots : List ℕ) → IsRowOf steps others slots → is_true slots truth ≡ (is_true slots one || is_true slots other)

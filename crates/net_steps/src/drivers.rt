@@ -1,6 +1,6 @@
 //! What the assignments to a port give it.
 ghost use Rattle.std.specs.Prelude.{◌≡◌, ◌==◌, [], ◌∷◌, ℕ, List, true, false, if◌then◌else◌, slice_index, IfOk};
-ghost use Rattle.net_steps.specs.Drivers.{AddsChoices, AddsPort, SameWhere};
+ghost use Rattle.net_steps.specs.Drivers.{ActAlike, AddsChoices, AddsPort, SameWhere};
 ghost use Rattle.net_steps.specs.Operations.{is_on};
 ghost use Rattle.net_steps.specs.Steps.{AddsSlot};
 ghost use Rattle.net_steps.specs.Truths.{is_true};
@@ -23,6 +23,35 @@ pub struct Driver {
 
 /// The slot of a port with these drivers. Where two can act at once it adds that they clash.
 pub fn drive(
+    alloc: Global,
+    steps: &mut Steps,
+    clashes: &mut Vec<Clash>,
+    port: usize,
+    drivers: &[Driver],
+) -> Result<u32, Memory>
+    ensures { IfOk result
+        (AddsPort steps.old steps.new clashes.old.items clashes.new.items port drivers.now) }
+{
+    let possible = possible_of(alloc, drivers)?;
+    drive_by(alloc, steps, clashes, port, possible.as_slice())
+}
+
+/// The drivers but for those that never act.
+fn possible_of(alloc: Global, drivers: &[Driver]) -> Result<Vec<Driver>, Memory>
+    ensures { IfOk result (λ possible. ActAlike possible.items drivers.now) }
+{
+    let mut possible = Vec::new(alloc);
+    for driver in drivers {
+        if driver.truth.is_never() {
+            continue;
+        }
+        possible.push(*driver)?;
+    }
+    Ok(possible)
+}
+
+/// The same by how many drivers there are.
+fn drive_by(
     alloc: Global,
     steps: &mut Steps,
     clashes: &mut Vec<Clash>,
@@ -66,15 +95,18 @@ fn select(steps: &mut Steps, truth: Truth, yes: u32, no: u32) -> Result<u32, Mem
     }
 }
 
-/// A slot with the value of one of two slots, by whether a third is 1. It makes no step where one of them, or the third,
-/// has that value anyway.
+/// A slot with the value of one of two slots, by whether a third is 1. It makes no step where that is known, or where one of them,
+/// or the third, has that value anyway.
 pub fn chosen_slot(steps: &mut Steps, on: u32, yes: u32, no: u32) -> Result<u32, Memory>
     ensures { IfOk result
         (AddsSlot steps.old steps.new (λ others slots. if is_on slots on then slice_index slots yes else slice_index slots no)) }
 {
     let yes = same_where_on(steps, on, yes);
     let no = same_where_off(steps, on, no);
-    if yes == no || steps.is_constant(on, 1) {
+    if let Some(number) = steps.number(on) {
+        return Ok(if number == 1 { yes } else { no });
+    }
+    if yes == no {
         return Ok(yes);
     }
     if steps.is_bit(on) && steps.is_constant(yes, 1) && steps.is_constant(no, 0) {

@@ -3,6 +3,7 @@ ghost use Rattle.std.specs.Prelude.{◌≡◌, ◌<◌, length, map, All, slice_
 ghost use Rattle.net_steps.specs.Edge.{AreSteppedOthers};
 ghost use Rattle.net_steps.specs.Others.{AreNarrow};
 
+use crate::inputs::Places;
 use crate::other::Other;
 
 /// What is kept after a row: for each value the one in its slot.
@@ -16,13 +17,14 @@ pub fn step_kept(places: &[u32], slots: &[u64], kept: &mut [u64])
     }
 }
 
-/// The cells that keep their state by themselves, after a row.
-pub fn step_others(slots: &[u64], others: &mut [Other])
+/// The cells that keep their state by themselves, after a row in which the inputs of each are in the slots of its place.
+pub fn step_others(places: &[Places], slots: &[u64], others: &mut [Other])
     requires narrow { AreNarrow others.old }
-    requires places { All (λ other. All (λ place. place < length slots.now) other.places) others.old }
-    ensures { AreSteppedOthers slots.now others.old others.new }
+    requires count { length places.now ≡ length others.old }
+    requires places { All (λ slots_of. All (λ place. place < length slots.now) slots_of) places.now }
+    ensures { AreSteppedOthers places.now slots.now others.old others.new }
 {
-    for other in others.iter_mut() {
-        other.step(slots);
+    for (number, inputs) in places.iter().enumerate() {
+        others[number].step(*inputs, slots);
     }
 }

@@ -1,13 +1,15 @@
 //! Primitives without a state, as steps.
-ghost use Rattle.std.specs.Prelude.{[], ◌∷◌, not, slice_index, IfOk};
+ghost use Rattle.std.specs.Prelude.{[], ◌∷◌, ◌==◌, nat_lt, not, slice_index, IfOk};
 ghost use Rattle.hw_bits.specs.Width.{product_bits};
 ghost use Rattle.hw_prims.specs.Meaning.{bit};
 ghost use Rattle.net_steps.specs.Gates.{AddsGate, IsGate, IsMask};
 ghost use Rattle.net_steps.specs.Operations.{is_on};
 ghost use Rattle.net_steps.specs.Steps.{AddsSlot};
 
+use crate::drivers::chosen_slot;
 use crate::operation::Operation;
 use crate::steps::{ProgramEnd, Steps};
+use crate::truth::{known_equal, known_less};
 use hw_prims::Prim;
 
 /// The number with the low bits of this width 1, and no other.
@@ -70,9 +72,6 @@ fn step_of_two(prim: Prim, a: u32, b: u32) -> Result<Operation, ProgramEnd>
         Prim::StdAnd { .. } => Ok(Operation::And { a, b }),
         Prim::StdOr { .. } => Ok(Operation::Or { a, b }),
         Prim::StdXor { .. } => Ok(Operation::Xor { a, b }),
-        Prim::StdEq { .. } => Ok(Operation::Equal { a, b }),
-        Prim::StdLt { .. } => Ok(Operation::Less { a, b }),
-        Prim::StdGt { .. } => Ok(Operation::Less { a: b, b: a }),
         Prim::StdLsh { w } => {
             let mask = ones(w)?;
             Ok(Operation::ShiftLeft { a, by: b, mask })
@@ -124,16 +123,19 @@ pub fn gate_of_two(steps: &mut Steps, prim: Prim, a: u32, b: u32) -> Result<u32,
     ensures { IfOk result (AddsGate steps.old steps.new prim (a ∷ b ∷ [])) }
 {
     match prim {
+        Prim::StdEq { .. } => equal_bit(steps, a, b),
         Prim::StdNeq { .. } => {
-            let equal = steps.define(Operation::Equal { a, b })?;
+            let equal = equal_bit(steps, a, b)?;
             not_on(steps, equal)
         }
+        Prim::StdLt { .. } => less_bit(steps, a, b),
+        Prim::StdGt { .. } => less_bit(steps, b, a),
         Prim::StdLe { .. } => {
-            let greater = steps.define(Operation::Less { a: b, b: a })?;
+            let greater = less_bit(steps, b, a)?;
             not_on(steps, greater)
         }
         Prim::StdGe { .. } => {
-            let less = steps.define(Operation::Less { a, b })?;
+            let less = less_bit(steps, a, b)?;
             not_on(steps, less)
         }
         _ => {
@@ -154,8 +156,30 @@ pub fn gate_of_three(
     ensures { IfOk result (AddsGate steps.old steps.new prim (on ∷ value ∷ other ∷ [])) }
 {
     match prim {
-        Prim::FilMux { .. } => Ok(steps.define(Operation::Choose { on, value, other })?),
+        Prim::FilMux { .. } => Ok(chosen_slot(steps, on, value, other)?),
         _ => Err(ProgramEnd::Unfit),
+    }
+}
+
+/// A slot that is 1 where two slots are equal, else 0.
+fn equal_bit(steps: &mut Steps, a: u32, b: u32) -> Result<u32, ProgramEnd>
+    ensures { IfOk result
+        (AddsSlot steps.old steps.new (λ others slots. bit (slice_index slots a == slice_index slots b))) }
+{
+    match known_equal(steps, a, b) {
+        Some(same) => Ok(steps.define(Operation::Constant(same as u64))?),
+        None => Ok(steps.define(Operation::Equal { a, b })?),
+    }
+}
+
+/// A slot that is 1 where the slot `a` is below the slot `b`, else 0.
+fn less_bit(steps: &mut Steps, a: u32, b: u32) -> Result<u32, ProgramEnd>
+    ensures { IfOk result
+        (AddsSlot steps.old steps.new (λ others slots. bit (nat_lt (slice_index slots a) (slice_index slots b)))) }
+{
+    match known_less(steps, a, b) {
+        Some(below) => Ok(steps.define(Operation::Constant(below as u64))?),
+        None => Ok(steps.define(Operation::Less { a, b })?),
     }
 }
 
@@ -163,6 +187,9 @@ pub fn gate_of_three(
 fn not_on(steps: &mut Steps, slot: u32) -> Result<u32, ProgramEnd>
     ensures { IfOk result (AddsSlot steps.old steps.new (λ others slots. bit (not (is_on slots slot)))) }
 {
+    if let Some(number) = steps.number(slot) {
+        return Ok(steps.define(Operation::Constant((number != 1) as u64))?);
+    }
     let one = steps.define(Operation::Constant(1))?;
     Ok(steps.define(Operation::ButNot { a: one, b: slot })?)
 }

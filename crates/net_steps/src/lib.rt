@@ -9,8 +9,11 @@
 //!
 //! comes one step, `Choose { on: 3, value: 4, other: 5 }`: the two never act at once, so no Conflict has to be looked for. A port
 //! with three assignments or more has a part of the table, a `Choice { on, value }` for each: `Only` makes the value of the one
-//! that is on, and `Several` tells the Conflict, unless the guards ask one slot for numbers, and those that ask for the same one
-//! deny each other.
+//! that is on, and `Several` tells the Conflict, unless the guards each ask one slot for a number or for one of a few, and those
+//! that ask for the same one deny each other.
+//!
+//! Steps may be for those rows alone in which some slots have given numbers (`assume`). A comparison whose numbers are known is then
+//! told and makes no step, an assignment that never acts is left out, and one of two by what is known is that one.
 //!
 //! A row is one walk over the steps: each makes its slot of slots below its own, without a branch on what is there. The steps are
 //! first cut into runs (`cut`): many of one kind, one after another, have a loop of their own, and those between go by their kind,
@@ -22,10 +25,12 @@
 #![tactic(auto)]
 
 mod apart;
+mod asked;
 mod choice;
 mod clashes;
 mod drivers;
 mod edge;
+mod equality;
 mod gates;
 mod held;
 mod inputs;
@@ -42,6 +47,7 @@ pub use choice::Choice;
 pub use clashes::{Clash, find_conflict};
 pub use drivers::{Driver, chosen_slot, drive};
 pub use edge::{step_kept, step_others};
+pub use equality::Equality;
 pub use gates::{constant, gate_of_none, gate_of_one, gate_of_three, gate_of_two, product};
 pub use held::HeldState;
 pub use inputs::{INPUTS, Places};

@@ -2,12 +2,11 @@
 use crate::held::HeldState;
 use crate::inputs::Places;
 
-/// A cell that keeps its state by itself, the widths of its inputs, in bits, their slots, and the number of its outputs.
+/// A cell that keeps its state by itself, the widths of its inputs, in bits, and the number of its outputs.
 #[derive(Drop)]
 pub struct Other {
     pub state: HeldState,
     pub widths: Vec<u8>,
-    pub places: Places,
     pub outputs: usize,
 }
 
@@ -31,18 +30,16 @@ impl Other {
             .output(output, self.widths.as_slice(), places, slots)
     }
 
-    /// The edge that ends a row.
-    pub fn step(&mut self, slots: &[u64])
+    /// The edge that ends a row in which its inputs are in these slots.
+    pub fn step(&mut self, places: Places, slots: &[u64])
         requires narrow { IsNarrow self.old.state self.old.widths.items }
-        requires places { All (λ place. place < length slots.now) self.old.places }
+        requires places { All (λ place. place < length slots.now) places }
         ensures prim { self.new.state.prim ≡ self.old.state.prim }
         ensures state { self.new.state.state
-            ≡ next_state self.old.state.prim self.old.state.state (gathered slots.now self.old.places self.old.widths.items) }
+            ≡ next_state self.old.state.prim self.old.state.state (gathered slots.now places self.old.widths.items) }
         ensures widths { self.new.widths ≡ self.old.widths }
-        ensures places { self.new.places ≡ self.old.places }
         ensures outputs { self.new.outputs ≡ self.old.outputs }
     {
-        let places = self.places;
         self.state.step(self.widths.as_slice(), places, slots);
     }
 }

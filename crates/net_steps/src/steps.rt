@@ -2,6 +2,7 @@
 ghost use Rattle.std.specs.Prelude.{◌≡◌, ◌<◌, [], IfOk, IfSome};
 
 use crate::choice::Choice;
+use crate::equality::Equality;
 use crate::operation::Operation;
 use hw_bits::Memory;
 use indexmap::IndexSet;
@@ -34,12 +35,14 @@ impl<T: Drop> From<AllocFailed<T>> for ProgramEnd {
     }
 }
 
-/// The steps so far, each once, and the choices that they are made of. The first has the slot `base`.
+/// The steps so far, each once, and the choices that they are made of. The first has the slot `base`. They may be for those rows
+/// alone in which some slots have given numbers: what is then said of rows is said of these.
 #[derive(Drop)]
 pub struct Steps {
     base: usize,
     set: IndexSet<Operation>,
     choices: Vec<Choice>,
+    assumed: Vec<Equality>,
 }
 
 impl Model for Steps {
@@ -47,23 +50,39 @@ impl Model for Steps {
 
     ghost Value = { StepsValue };
 
-    ghost view = { λ s. record { base = s.base; items = s.set.keys; choices = s.choices.items } };
+    ghost view = { λ s. record { base = s.base; items = s.set.keys; choices = s.choices.items; assumed = s.assumed.items } };
 }
 
 impl Steps {
     ghost use Rattle.net_steps.specs.Operations.{IsStep};
-    ghost use Rattle.std.specs.Prelude.{◌≡◌, true, [], length, IfOk, IfSome};
+    ghost use Rattle.std.specs.Prelude.{◌≡◌, true, [], ◌∷◌, ◌++◌, length, IfOk, IfSome};
     ghost use Rattle.net_steps.specs.Steps.{AddsChoice, Defines, IsConstant, IsBit};
 
-    /// No steps.
+    /// No steps, and nothing is assumed.
     pub fn new(alloc: Global, base: usize) -> Steps
-        ensures { result ≡ record { base = base; items = []; choices = [] } }
+        ensures { result ≡ record { base = base; items = []; choices = []; assumed = [] } }
     {
         Steps {
             base,
             set: IndexSet::new(alloc),
             choices: Vec::new(alloc),
+            assumed: Vec::new(alloc),
         }
+    }
+
+    /// From now on the steps are for those rows in which this holds too.
+    pub fn assume(&mut self, equality: Equality) -> Result<(), Memory>
+        ensures { IfOk result (λ _. self.new ≡ record self.old { assumed = self.old.assumed ++ equality ∷ [] }) }
+    {
+        self.assumed.push(equality)?;
+        Ok(())
+    }
+
+    /// What is assumed of each row, in the order in which it was.
+    pub fn assumed(&self) -> &[Equality]
+        ensures { result.now ≡ self.now.assumed }
+    {
+        self.assumed.as_slice()
     }
 
     /// The slot of the step that makes this; it goes last where there is none yet.
@@ -107,13 +126,45 @@ impl Steps {
         self.set.as_slice().get(slot - self.base).copied()
     }
 
-    /// Whether this number is in the slot in each row, by what is made in it.
+    /// The number that is in the slot in each row, if it is assumed or what is made in it tells it.
+    pub fn number(&self, slot: u32) -> Option<u64>
+        ensures { IfSome result (IsConstant self.now slot) }
+    {
+        match self.assumed_number(slot) {
+            Some(number) => Some(number),
+            None => self.made_number(slot),
+        }
+    }
+
+    /// The same by what is assumed alone.
+    fn assumed_number(&self, slot: u32) -> Option<u64>
+        ensures { IfSome result (IsConstant self.now slot) }
+    {
+        for equality in &self.assumed {
+            if equality.slot == slot {
+                return Some(equality.number);
+            }
+        }
+        None
+    }
+
+    /// The same by what is made in it alone.
+    fn made_number(&self, slot: u32) -> Option<u64>
+        ensures { IfSome result (IsConstant self.now slot) }
+    {
+        match self.operation(slot) {
+            Some(Operation::Constant(number)) => Some(number),
+            _ => None,
+        }
+    }
+
+    /// Whether this number is in the slot in each row, by what is known of it.
     pub fn is_constant(&self, slot: u32, number: u64) -> bool
         ensures { result ≡ true → IsConstant self.now slot number }
     {
-        match self.operation(slot) {
-            Some(Operation::Constant(there)) => there == number,
-            _ => false,
+        match self.number(slot) {
+            Some(there) => there == number,
+            None => false,
         }
     }
 

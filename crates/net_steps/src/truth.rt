@@ -3,7 +3,7 @@ ghost use Rattle.std.specs.Prelude.{◌≡◌, ◌==◌, ◌&&◌, ◌||◌, ℕ
 ghost use Rattle.net_core.specs.Guard.{compare_values};
 ghost use Rattle.net_steps.specs.Operations.{is_on};
 ghost use Rattle.net_steps.specs.Steps.{AddsSlot};
-ghost use Rattle.net_steps.specs.Truths.{is_true, AddsTruth, IsTruthOf, IsBothOf};
+ghost use Rattle.net_steps.specs.Truths.{is_true, AddsTruth, IsAlways, IsTruthOf, IsBothOf, IsEitherOf};
 
 use crate::operation::Operation;
 use crate::steps::Steps;
@@ -187,6 +187,23 @@ pub fn parts(steps: &Steps, truth: Truth) -> Option<(Truth, Truth)>
     }
 }
 
+/// Two truths of which one has to be true for this one to be, if a step tells it.
+pub fn alternatives(steps: &Steps, truth: Truth) -> Option<(Truth, Truth)>
+    ensures { IfSome result (λ two. IsEitherOf steps.now truth two.0 two.1) }
+{
+    let Truth::Slot {
+        slot,
+        negated: false,
+    } = truth
+    else {
+        return None;
+    };
+    match steps.operation(slot) {
+        Some(Operation::Either { a, b }) => Some((at(a), at(b))),
+        _ => None,
+    }
+}
+
 /// A slot that is 1 where this is true, else not.
 pub fn plain(steps: &mut Steps, truth: Truth) -> Result<u32, Memory>
     ensures truth { IfOk result (λ slot. AddsTruth steps.old steps.new (λ slots. is_true slots truth) (Truth.Slot slot false)) }
@@ -223,11 +240,38 @@ pub fn compare(steps: &mut Steps, op: Cmp, left: u32, right: u32) -> Result<Trut
     })
 }
 
-/// True where two slots are equal. A slot that is compared with 1 tells it itself.
+/// Whether two slots are equal, where that is known: they are one slot, or both numbers are known.
+pub fn known_equal(steps: &Steps, a: u32, b: u32) -> Option<bool>
+    ensures { IfSome result (IsAlways steps.now (λ slots. slice_index slots a == slice_index slots b)) }
+{
+    if a == b {
+        return Some(true);
+    }
+    let left = steps.number(a)?;
+    let right = steps.number(b)?;
+    Some(left == right)
+}
+
+/// Whether the slot `a` is below the slot `b`, where that is known: they are one slot, or both numbers are known.
+pub fn known_less(steps: &Steps, a: u32, b: u32) -> Option<bool>
+    ensures { IfSome result (IsAlways steps.now (λ slots. nat_lt (slice_index slots a) (slice_index slots b))) }
+{
+    if a == b {
+        return Some(false);
+    }
+    let left = steps.number(a)?;
+    let right = steps.number(b)?;
+    Some(left < right)
+}
+
+/// True where two slots are equal: fixed where that is known. A slot that is compared with 1 tells it itself.
 fn equal(steps: &mut Steps, a: u32, b: u32) -> Result<Truth, Memory>
     ensures { IfOk result
         (AddsTruth steps.old steps.new (λ slots. slice_index slots a == slice_index slots b)) }
 {
+    if let Some(same) = known_equal(steps, a, b) {
+        return Ok(Truth::Fixed(same));
+    }
     if steps.is_constant(b, 1) {
         return Ok(seen(steps, a));
     }
@@ -247,10 +291,13 @@ fn seen(steps: &Steps, slot: u32) -> Truth
     at(slot)
 }
 
-/// True where the slot `a` is below the slot `b`.
+/// True where the slot `a` is below the slot `b`: fixed where that is known.
 fn less(steps: &mut Steps, a: u32, b: u32) -> Result<Truth, Memory>
     ensures { IfOk result
         (AddsTruth steps.old steps.new (λ slots. nat_lt (slice_index slots a) (slice_index slots b))) }
 {
+    if let Some(below) = known_less(steps, a, b) {
+        return Ok(Truth::Fixed(below));
+    }
     Ok(at(steps.define(Operation::Less { a, b })?))
 }

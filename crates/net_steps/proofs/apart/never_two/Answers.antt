@@ -1,7 +1,7 @@
-use Rattle.std.proofs.Common.{List, false, nat_eq, get_or, take, unwrap_or, subst, sym}
+use Rattle.std.proofs.Common.{List, ℕ, false, nat_eq, get_or, take, subst, sym}
 use Rattle.std.proofs.lemmas.List.{take_all, take_more}
 use Rattle.indexmap.specs.IndexMap.{get}
-use Rattle.net_steps.specs.Apart.{HasNoTwo, Joins, empty_group}
+use Rattle.net_steps.specs.Apart.{HasNoTwo, JoinsGroups}
 use Rattle.net_steps.specs.declared.drivers.Driver.{Driver}
 use Rattle.net_steps.specs.declared.truth.Truth.TheVariants.{Fixed}
 use Rattle.net_steps.proofs.ApartLemmas.{AreApartUpto, apart_none, apart_more}
@@ -12,13 +12,17 @@ loop-driver-init c = apart_none c.args.steps.now c.in-Some.slot _
 
 pub loop-driver-preserved : goal.loop-driver-preserved
 loop-driver-preserved c =
+    let steps = c.args.steps.now in
     let drivers = c.args.drivers.now in
     let i = c.loop-driver.driver-index in
     let d : Driver = record { truth = Fixed false; source = 0 } in
-    let joins : Joins c.args.steps.now (unwrap_or (get nat_eq c.loop-driver.groups c.in-Some-asked_number.number) empty_group) (get_or drivers i d).truth c.in-Some-joined.group =
-    subst (λ g. Joins c.args.steps.now g (get_or drivers i d).truth c.in-Some-joined.group) c.group_of.ensures c.in-Some-joined.ensures in
-    subst (λ (ds : List Driver). AreApartUpto c.args.steps.now c.in-Some.slot ds (get nat_eq c.insert.new.self)) (sym (take_more drivers i d c.loop-driver-test.true))
-    (apart_more c.args.steps.now c.in-Some.slot (take i drivers) (get nat_eq c.loop-driver.groups) (get nat_eq c.insert.new.self) (get_or drivers i d) c.in-Some-asked_number.number c.in-Some-joined.group c.loop-driver.invariant c.in-Some-asked_number.ensures joins c.in_ok-insert.ensures.updates.0)
+    let old = get nat_eq c.loop-driver.groups in
+    let new = get nat_eq c.join_groups.new.groups in
+    let numbers = c.in-Some-asked_numbers.numbers.items in
+    let joins : JoinsGroups steps old new numbers (get_or drivers i d).truth =
+    subst (λ (ns : List ℕ). JoinsGroups steps old new ns (get_or drivers i d).truth) c.as_slice.ensures.value (c.in_ok-joined.ensures c.if-not-joined.false) in
+    subst (λ (ds : List Driver). AreApartUpto steps c.in-Some.slot ds new) (sym (take_more drivers i d c.loop-driver-test.true))
+    (apart_more steps c.in-Some.slot (take i drivers) old new (get_or drivers i d) numbers c.loop-driver.invariant c.in-Some-asked_numbers.ensures joins)
 
 pub returns : goal.returns
 returns c same =

@@ -1,5 +1,5 @@
 use Rattle.net_steps.proofs.EdgeLemmas.{AreSteppedUpto}
 use Rattle.net_steps.proofs.edge.step_others.Given as goal
 
-abbrev pub invariant-loop-other : goal.invariant-loop-other
-invariant-loop-other l = AreSteppedUpto l.slots l.other-index l.fn.others l.others
+abbrev pub invariant-loop-number : goal.invariant-loop-number
+invariant-loop-number l = AreSteppedUpto l.places l.slots l.number l.fn.others l.others

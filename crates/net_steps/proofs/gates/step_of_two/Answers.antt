@@ -1,5 +1,5 @@
 use Rattle.std.proofs.Common.{arith}
-use Rattle.net_steps.proofs.GateLemmas.{add_gate, sub_gate, and_gate, or_gate, xor_gate, eq_gate, lt_gate, gt_gate, lsh_gate, rsh_gate, join_gate}
+use Rattle.net_steps.proofs.GateLemmas.{add_gate, sub_gate, and_gate, or_gate, xor_gate, lsh_gate, rsh_gate, join_gate}
 use Rattle.net_steps.proofs.gates.step_of_two.Goals as goal
 
 pub returns-in_ok-mask-in-StdAdd : goal.returns-in_ok-mask-in-StdAdd
@@ -20,15 +20,6 @@ returns-in-StdOr c = or_gate c.args.prim c.in-StdOr.w c.args.a c.args.b c.in-Std
 
 pub returns-in-StdXor : goal.returns-in-StdXor
 returns-in-StdXor c = xor_gate c.args.prim c.in-StdXor.w c.args.a c.args.b c.in-StdXor.is
-
-pub returns-in-StdEq : goal.returns-in-StdEq
-returns-in-StdEq c = eq_gate c.args.prim c.in-StdEq.w c.args.a c.args.b c.in-StdEq.is
-
-pub returns-in-StdLt : goal.returns-in-StdLt
-returns-in-StdLt c = lt_gate c.args.prim c.in-StdLt.w c.args.a c.args.b c.in-StdLt.is
-
-pub returns-in-StdGt : goal.returns-in-StdGt
-returns-in-StdGt c = gt_gate c.args.prim c.in-StdGt.w c.args.a c.args.b c.in-StdGt.is
 
 pub returns-in_ok-mask-in-StdLsh : goal.returns-in_ok-mask-in-StdLsh
 returns-in_ok-mask-in-StdLsh c =

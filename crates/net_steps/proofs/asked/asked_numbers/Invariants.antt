@@ -1,5 +1,5 @@
 use Rattle.net_steps.proofs.ApartLemmas.{Follows}
-use Rattle.net_steps.proofs.apart.asked_of.Given as goal
+use Rattle.net_steps.proofs.asked.asked_numbers.Given as goal
 
 -- where the truth holds the rest does
 abbrev pub invariant-loop : goal.invariant-loop

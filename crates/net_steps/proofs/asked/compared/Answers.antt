@@ -2,7 +2,7 @@ use Rattle.std.proofs.Common.{subst}
 use Rattle.net_steps.specs.Operations.{IsStep}
 use Rattle.net_steps.specs.declared.operation.Operation.TheVariants.{Equal}
 use Rattle.net_steps.proofs.ApartLemmas.{left_implied, right_implied}
-use Rattle.net_steps.proofs.apart.compared.Goals as goal
+use Rattle.net_steps.proofs.asked.compared.Goals as goal
 
 pub returns-in-Some : goal.returns-in-Some
 returns-in-Some c =

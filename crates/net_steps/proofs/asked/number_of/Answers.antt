@@ -1,5 +1,5 @@
 use Rattle.net_steps.proofs.ApartLemmas.{implied_at}
-use Rattle.net_steps.proofs.apart.asked_number.Goals as goal
+use Rattle.net_steps.proofs.asked.number_of.Goals as goal
 
 pub returns-then-asked-slot : goal.returns-then-asked-slot
 returns-then-asked-slot c =
