@@ -22,26 +22,28 @@ use Rattle.net_steps.specs.declared.operation.Operation.TheVariants.{Output}
 use Rattle.net_steps.specs.declared.other.Other.{Other as OtherCell}
 use Rattle.net_row.proofs.FlatKindLemmas.{other_number, by_itself, cell_of_number, few_inputs}
 use Rattle.net_row.proofs.RowLemmas.{kind_is, in_range}
-use Rattle.net_row.specs.Flats.{IsOther, IsOtherAt, AreOthers, AreSlots, IsSound, IsLike, IsLoadedOther}
-use Rattle.net_row.specs.Kinds.{kinds_of, kind_after, kept_in, others_in, others_for}
+use Rattle.net_row.specs.Flats.{IsOther, AreOthers, IsLike, IsLoadedOther}
+use Rattle.net_row.specs.Programs.{AreFit, IsFit, IsSound}
+use Rattle.net_row.specs.Kinds.{AreOfOthers, kinds_of, kind_after, kept_in, others_in, others_for}
 use Rattle.net_row.specs.Rows.{AreOthersOf, IsOtherOf}
 use Rattle.net_row.specs.declared.kinds.Kind.{Kind}
 use Rattle.net_row.specs.declared.kinds.Kind.TheVariants.{Other}
 use Rattle.net_row.specs.Program.{steps_in}
 use Rattle.net_row.specs.declared.program.Program.{Program}
+use Rattle.net_row.specs.declared.programs.Programs.{Programs}
 
 -- ---- one after another
 
 -- those of the first cells
-pub record AreOthersUpto (cells : List CellPorts) (ports : List ℕ) (count : ℕ) (others : List OtherCell) : Type 0 where
-  pub all : length others ≡ others_in (take count cells)
-  pub each : (k number : ℕ) (cell : CellPorts) → k < count → slice_get cells k ≡ Some cell → slice_get (kinds_of cells) k ≡ Some (Other number) → IsOtherAt ports others cell number
+pub record AreOfFirst {A : Type 0} (Is : CellPorts → A → Type 0) (cells : List CellPorts) (count : ℕ) (items : List A) : Type 0 where
+  pub all : length items ≡ others_in (take count cells)
+  pub each : (k number : ℕ) (cell : CellPorts) → k < count → slice_get cells k ≡ Some cell → slice_get (kinds_of cells) k ≡ Some (Other number) → (item : A) × (slice_get items number ≡ Some item) × Is cell item
 
-pub others_none : (cells : List CellPorts) (ports : List ℕ) → AreOthersUpto cells ports 0 []
-others_none cells ports = record { all = refl; each = λ k number cell lt. absurd (omega (arith, lt)) }
+pub first_none : {A : Type 0} (Is : CellPorts → A → Type 0) (cells : List CellPorts) → AreOfFirst Is cells 0 []
+first_none Is cells = record { all = refl; each = λ k number cell lt. absurd (omega (arith, lt)) }
 
-pub others_all : (cells : List CellPorts) (ports : List ℕ) (count : ℕ) (others : List OtherCell) → length cells ≤ count → AreOthersUpto cells ports count others → AreOthers cells ports others
-others_all cells ports count others past so_far = record {
+pub first_all : {A : Type 0} (Is : CellPorts → A → Type 0) (cells : List CellPorts) (count : ℕ) (items : List A) → length cells ≤ count → AreOfFirst Is cells count items → AreOfOthers Is cells items
+first_all Is cells count items past so_far = record {
   all = so_far.all ∙ ap others_in (take_all count cells past);
   each = λ k number cell at kind. let lt = slice_get_within cells k cell at in so_far.each k number cell (omega (arith, lt, past)) at kind;
 }
@@ -50,25 +52,25 @@ others_in-snoc : (cells : List CellPorts) (c : CellPorts) → others_in (cells +
 others_in-snoc [] c = omega arith
 others_in-snoc (d ∷ cells) c = omega (arith, others_in-snoc cells c)
 
-module _ (cells : List CellPorts) (ports : List ℕ) (number : ℕ) (others : List OtherCell) (so_far : AreOthersUpto cells ports number others) (c : CellPorts) (kind : Kind) (at_c : slice_get cells number ≡ Some c) (at_kind : slice_get (kinds_of cells) number ≡ Some kind) where
+module _ {A : Type 0} (Is : CellPorts → A → Type 0) (cells : List CellPorts) (number : ℕ) (items : List A) (so_far : AreOfFirst Is cells number items) (c : CellPorts) (kind : Kind) (at_c : slice_get cells number ≡ Some c) (at_kind : slice_get (kinds_of cells) number ≡ Some kind) where
   kind_here : kind ≡ kind_after (kept_in (take number cells)) (others_in (take number cells)) c.prim
   kind_here = kind_is cells number c kind at_c at_kind
 
   one_more : others_in (take (number + 1) cells) ≡ others_in (take number cells) + others_for c.prim
   one_more = ap others_in (take_more cells number c (slice_get_within cells number c at_c)) ∙ ap (λ (d : CellPorts). others_in (take number cells ++ d ∷ [])) (get_or_from_slice_get cells number c c at_c) ∙ others_in-snoc (take number cells) c
 
-  -- a cell that is counted goes last
-  pub others_more : (m : ℕ) (other : OtherCell) → kind ≡ Other m → IsOther ports c other → AreOthersUpto cells ports (number + 1) (others ++ other ∷ [])
-  others_more m other e is = record {
-    all = let len = length_push others other in omega (arith, len, so_far.all, one_more, mine.1);
+  -- that of a cell that is counted goes last
+  pub first_more : (m : ℕ) (item : A) → kind ≡ Other m → Is c item → AreOfFirst Is cells (number + 1) (items ++ item ∷ [])
+  first_more m item e is = record {
+    all = let len = length_push items item in omega (arith, len, so_far.all, one_more, mine.1);
     each = λ k n cell lt at at_n. elim (cases_lt k number) [
-      | inl before ↦ let was = so_far.each k n cell before at at_n in (was.0, slice_get-append_left others (other ∷ []) n was.0 was.1, was.2)
+      | inl before ↦ let was = so_far.each k n cell before at at_n in (was.0, slice_get-append_left items (item ∷ []) n was.0 was.1, was.2)
       | inr past ↦
           let here : k ≡ number = omega (arith, lt, past) in
           let same_cell : c ≡ cell = same_Some c cell (sym at_c ∙ ap (slice_get cells) (sym here) ∙ at) in
           let same_kind : kind ≡ Other n = same_Some kind (Other n) (sym at_kind ∙ ap (slice_get (kinds_of cells)) (sym here) ∙ at_n) in
-          let there : n ≡ length others = (other_number (kept_in (take number cells)) (others_in (take number cells)) n c.prim (sym kind_here ∙ same_kind)).0 ∙ sym so_far.all in
-          (other, ap (slice_get (others ++ other ∷ [])) there ∙ slice_get-last others other, subst (λ (d : CellPorts). IsOther ports d other) same_cell is)
+          let there : n ≡ length items = (other_number (kept_in (take number cells)) (others_in (take number cells)) n c.prim (sym kind_here ∙ same_kind)).0 ∙ sym so_far.all in
+          (item, ap (slice_get (items ++ item ∷ [])) there ∙ slice_get-last items item, subst (λ (d : CellPorts). Is d item) same_cell is)
     ];
   }
     where
@@ -76,8 +78,8 @@ module _ (cells : List CellPorts) (ports : List ℕ) (number : ℕ) (others : Li
       mine = other_number (kept_in (take number cells)) (others_in (take number cells)) m c.prim (sym kind_here ∙ e)
 
   -- and another is passed over
-  pub others_skip : ((m : ℕ) → kind ≡ Other m → ⊥) → AreOthersUpto cells ports (number + 1) others
-  others_skip none = record {
+  pub first_skip : ((m : ℕ) → kind ≡ Other m → ⊥) → AreOfFirst Is cells (number + 1) items
+  first_skip none = record {
     all = omega (arith, so_far.all, one_more, uncounted);
     each = λ k n cell lt at at_n. elim (cases_lt k number) [
       | inl before ↦ so_far.each k n cell before at at_n
@@ -95,19 +97,19 @@ module _ (cells : List CellPorts) (ports : List ℕ) (number : ℕ) (others : Li
 
 -- ---- all of them
 
-module _ (cells : List CellPorts) (ports : List ℕ) (others : List OtherCell) (are : AreOthers cells ports others) where
+module _ (cells : List CellPorts) (others : List OtherCell) (are : AreOthers cells others) where
   -- each is of a cell
   pub record IsOfCell (other : OtherCell) : Type 0 where
     pub index : ℕ
     pub cell : CellPorts
     pub at : slice_get cells index ≡ Some cell
-    pub is : IsOther ports cell other
+    pub is : IsOther cell other
 
   pub of_cell : (number : ℕ) (other : OtherCell) → slice_get others number ≡ Some other → IsOfCell other
   of_cell number other here =
       let c = cell_of_number cells number (let lt = slice_get_within others number other here in omega (arith, lt, are.all)) in
       let it = are.each c.index number c.cell c.at c.kind in
-      record { index = c.index; cell = c.cell; at = c.at; is = subst (IsOther ports c.cell) (same_Some it.0 other (sym it.1 ∙ here)) it.2 }
+      record { index = c.index; cell = c.cell; at = c.at; is = subst (IsOther c.cell) (same_Some it.0 other (sym it.1 ∙ here)) it.2 }
 
   of_cell_at : (number : ℕ) (d : OtherCell) → number < length others → IsOfCell (get_or others number d)
   of_cell_at number d lt = of_cell number (get_or others number d) (slice_get-get_or others number d lt)
@@ -152,10 +154,13 @@ pub record AreLike (old new : List OtherCell) : Type 0 where
   pub all : length new ≡ length old
   pub each : (k : ℕ) (o n : OtherCell) → slice_get old k ≡ Some o → slice_get new k ≡ Some n → IsLike o n
 
-pub like_stepped : (slots : List ℕ) (old new : List OtherCell) → AreSteppedOthers slots old new → AreLike old new
-like_stepped slots old new stepped = record {
+pub like_stepped : (places : List (List ℕ)) (slots : List ℕ) (old new : List OtherCell) → length places ≡ length old → AreSteppedOthers places slots old new → AreLike old new
+like_stepped places slots old new count stepped = record {
   all = stepped.all;
-  each = λ k o n at at'. let is = stepped.each k o n at at' in record { prim = is.prim; widths = is.widths; places = is.places; outputs = is.outputs };
+  each = λ k o n at at'.
+      let p = at_some places k (let lt = slice_get_within old k o at in omega (arith, lt, count)) in
+      let is = stepped.each k p.0 o n p.1 at at' in
+      record { prim = is.prim; widths = is.widths; outputs = is.outputs };
 }
 
 pub like_loaded : (number place word : ℕ) (old new : List OtherCell) → IsLoadedOther number place word old new → AreLike old new
@@ -180,14 +185,23 @@ module _ (old new : List OtherCell) (like : AreLike old new) where
     ports = sound.ports;
     next = sound.next;
     clashes = sound.clashes;
-    places = λ k d lt.
-        let before : k < length old = omega (arith, lt, like.all) in
-        let is = like.each k (get_or old k d) (get_or new k d) (slice_get-get_or old k d before) (slice_get-get_or new k d lt) in
-        subst (AreSlots (base + length (steps_in program))) (sym is.places) (sound.places k d before);
+    places = sound.places;
   }
 
-  pub others_like : (cells : List CellPorts) (ports : List ℕ) → AreOthers cells ports old → AreOthers cells ports new
-  others_like cells ports are = record {
+  fit_like : (base room : ℕ) (program : Program) → IsFit base room old program → IsFit base room new program
+  fit_like base room program fit = record { within = fit.within; sound = sound_like base program fit.sound }
+
+  pub all_fit_like : (base : ℕ) (programs : Programs) → AreFit base old programs → AreFit base new programs
+  all_fit_like base programs fit = record {
+    general = fit_like base programs.room programs.general fit.general;
+    any = fit.any;
+    cases = λ k d lt. fit_like base programs.room (get_or programs.cases.items k d) (fit.cases k d lt);
+    opening_within = fit.opening_within;
+    opening_below = λ k step at. below_like old new like [] (base + k) step (fit.opening_below k step at);
+  }
+
+  pub others_like : (cells : List CellPorts) → AreOthers cells old → AreOthers cells new
+  others_like cells are = record {
     all = like.all ∙ are.all;
     each = λ k number cell at kind.
         let o = are.each k number cell at kind in
@@ -198,7 +212,6 @@ module _ (old new : List OtherCell) (like : AreLike old new) where
           record {
             prim = is.prim ∙ o.2.prim;
             widths = ap (λ (v : _). v.items) is.widths ∙ o.2.widths;
-            places = ap (take (length (inputs_of cell.prim))) is.places ∙ o.2.places;
             outputs = is.outputs ∙ o.2.outputs;
           },
         );

@@ -1,5 +1,5 @@
 -- A row of a program, from its slots: what it evaluates, and what the edge after it and a load make of the states.
-use Rattle.std.proofs.Common.{◌≡◌, ℕ, zero, suc, ◌+◌, ◌<◌, ◌≤◌, ◌^◌, List, [], ◌∷◌, Option, Some, None, length, take, refl, sym, ap, ap₂, ◌∙◌, arith, map, replicate, subst, All}
+use Rattle.std.proofs.Common.{◌≡◌, ℕ, zero, suc, ◌+◌, ◌<◌, ◌≤◌, ◌^◌, List, [], ◌∷◌, Option, Some, None, length, length-take, take, refl, sym, ap, ap₂, ◌∙◌, arith, map, replicate, subst, All}
 use Rattle.std.specs.Prelude.{slice_get, slice_index, option_map}
 use Rattle.std.proofs.Math.Nat.{mod-eq_of_lt}
 use Rattle.std.proofs.lemmas.List.{length-map}
@@ -34,10 +34,12 @@ use Rattle.net_steps.specs.declared.other.Other.{Other as OtherCell}
 use Rattle.net_row.proofs.FlatKindLemmas.{one_cell, same_states}
 use Rattle.net_row.proofs.FlatOtherLemmas.{are_others_of}
 use Rattle.net_row.proofs.FlatStateLemmas.{AreNext, IsLoadedAt}
-use Rattle.net_row.proofs.RowLemmas.{AreWithin, in_range, inputs_fit, length-kinds_after}
-use Rattle.net_row.specs.Flats.{IsOther, AreOthers, FitWidths, AreOpened, IsBuilt, AreKept, IsAfterRow, IsLoadedOther, states_from, values_from}
+use Rattle.net_row.proofs.RowLemmas.{AreWithin, cell_count, in_range, inputs_fit, length-kinds_after}
+use Rattle.net_row.specs.Flats.{AreOthers, FitWidths, AreOpened, IsBuilt, AreKept, IsAfterRow, IsLoadedOther, states_from, values_from}
 use Rattle.net_row.specs.Kinds.{kinds_of, kinds_after, kind_after, kept_for, others_for, state_of, other_state, IfKept}
+use Rattle.net_row.specs.Places.{IsPlaces}
 use Rattle.net_row.specs.Program.{TellsRow, frame, steps_of, values_in, steps_in}
+use Rattle.net_row.specs.Programs.{IsRunOf}
 use Rattle.net_row.specs.Rows.{SlotRow, IsRowIn, AreStatesOf, states_in}
 use Rattle.net_row.specs.declared.kinds.Kind.{Kind}
 use Rattle.net_row.specs.declared.kinds.Kind.TheVariants.{Stateless, Register, Delay, FastMult, Other}
@@ -52,12 +54,12 @@ gathered_is slots (p ∷ places) (w ∷ widths) le fit =
     ap₂ ◌∷◌ (mod-eq_of_lt (fit 0 (slice_index slots p) w refl refl))
     (gathered_is slots places widths (omega (arith, le)) (λ k value width at wide. fit (suc k) value width at wide))
 
-pub gathered_inputs : (slots ports : List ℕ) (cell : CellPorts) (other : OtherCell) → length other.widths.items ≤ length other.places → IsOther ports cell other → AreWithin (pin_widths (inputs_of cell.prim)) (cell_inputs (map (slice_index slots) ports) cell) → gathered slots other.places other.widths.items ≡ cell_inputs (map (slice_index slots) ports) cell
-gathered_inputs slots ports cell other le is fit =
-    let count : length other.widths.items ≡ length (inputs_of cell.prim) = ap length is.widths ∙ length-map (inputs_of cell.prim) (λ (p : Pin). p.width) in
-    let there : map (slice_index slots) (take (length other.widths.items) other.places) ≡ cell_inputs (map (slice_index slots) ports) cell =
-    ap (λ n. map (slice_index slots) (take n other.places)) count ∙ ap (map (slice_index slots)) is.places ∙ cut_of_map (slice_index slots) ports cell.first (cell.first + length (inputs_of cell.prim)) in
-    gathered_is slots other.places other.widths.items le (subst (λ widths. AreWithin widths (map (slice_index slots) (take (length other.widths.items) other.places))) (sym is.widths) (subst (AreWithin (pin_widths (inputs_of cell.prim))) (sym there) fit)) ∙ there
+pub gathered_inputs : (slots ports : List ℕ) (cell : CellPorts) (places widths : List ℕ) → length widths ≤ length places → widths ≡ pin_widths (inputs_of cell.prim) → IsPlaces ports cell places → AreWithin (pin_widths (inputs_of cell.prim)) (cell_inputs (map (slice_index slots) ports) cell) → gathered slots places widths ≡ cell_inputs (map (slice_index slots) ports) cell
+gathered_inputs slots ports cell places widths le widths_are is fit =
+    let count : length widths ≡ length (inputs_of cell.prim) = ap length widths_are ∙ length-map (inputs_of cell.prim) (λ (p : Pin). p.width) in
+    let there : map (slice_index slots) (take (length widths) places) ≡ cell_inputs (map (slice_index slots) ports) cell =
+    ap (λ n. map (slice_index slots) (take n places)) count ∙ ap (map (slice_index slots)) is ∙ cut_of_map (slice_index slots) ports cell.first (cell.first + length (inputs_of cell.prim)) in
+    gathered_is slots places widths le (subst (λ ws. AreWithin ws (map (slice_index slots) (take (length widths) places))) (sym widths_are) (subst (AreWithin (pin_widths (inputs_of cell.prim))) (sym there) fit)) ∙ there
 
 -- ---- states, cell by cell
 
@@ -69,11 +71,11 @@ by_kind kept others state (Delay k) is other = is
 by_kind kept others state (FastMult k) is other = is
 by_kind kept others state (Other number) is other = other number refl
 
-module _ (program : Program) (kept : List ℕ) (others : List OtherCell) (k : ℕ) (kind : Kind) (at : slice_get program.kinds.items k ≡ Some kind) where
-  pub state_at : slice_get (states_from program kept others) k ≡ Some (state_of kept others kind)
-  state_at = slice_get-map (state_of kept others) program.kinds.items k ∙ ap (option_map (state_of kept others)) at
+module _ (kinds : List Kind) (kept : List ℕ) (others : List OtherCell) (k : ℕ) (kind : Kind) (at : slice_get kinds k ≡ Some kind) where
+  pub state_at : slice_get (states_from kinds kept others) k ≡ Some (state_of kept others kind)
+  state_at = slice_get-map (state_of kept others) kinds k ∙ ap (option_map (state_of kept others)) at
 
-  pub state_is : (s : State) → slice_get (states_from program kept others) k ≡ Some s → state_of kept others kind ≡ s
+  pub state_is : (s : State) → slice_get (states_from kinds kept others) k ≡ Some s → state_of kept others kind ≡ s
   state_is s here = same_Some _ s (sym state_at ∙ here)
 
 -- ---- the opening states
@@ -95,8 +97,8 @@ opening_after kept others first number (c ∷ cells) none other =
     ap₂ ◌∷◌ (opening_one kept others first number c.prim none (λ m is. other 0 m c refl (ap Some is)))
     (opening_after kept others (first + kept_for c.prim) (number + others_for c.prim) cells none (λ k m d at kind. other (suc k) m d at kind))
 
-pub opening_states : (kept : List ℕ) (others : List OtherCell) (cells : List CellPorts) (ports : List ℕ) → ((k : ℕ) → slice_index kept k ≡ 0) → AreOthers cells ports others → All (λ (other : OtherCell). other.state.state ≡ opening_state other.state.prim []) others → map (state_of kept others) (kinds_of cells) ≡ map (λ (c : CellPorts). opening_state c.prim []) cells
-opening_states kept others cells ports none are opening = opening_after kept others 0 0 cells none (λ k m c at kind.
+pub opening_states : (kept : List ℕ) (others : List OtherCell) (cells : List CellPorts) → ((k : ℕ) → slice_index kept k ≡ 0) → AreOthers cells others → All (λ (other : OtherCell). other.state.state ≡ opening_state other.state.prim []) others → map (state_of kept others) (kinds_of cells) ≡ map (λ (c : CellPorts). opening_state c.prim []) cells
+opening_states kept others cells none are opening = opening_after kept others 0 0 cells none (λ k m c at kind.
     let o = are.each k m c at kind in
     let lt = slice_get_within others m o.0 o.1 in
     let is : o.0.state.state ≡ opening_state o.0.state.prim [] = subst (λ (x : OtherCell). x.state.state ≡ opening_state x.state.prim []) (get_or_from_slice_get others m o.0 o.0 o.1) (opening m o.0 lt) in
@@ -109,42 +111,42 @@ zeros (suc n) (suc k) = zeros n k
 
 -- ---- a word put into a memory
 
-module _ (program : Program) (cells : List CellPorts) (kept : List ℕ) (old new : List OtherCell) (kinds_are : program.kinds.items ≡ kinds_of cells) (cell number place word : ℕ) (kind : slice_get program.kinds.items cell ≡ Some (Other number)) (is : IsLoadedOther number place word old new) (within : number < length old) where
-  other_kind : (k m : ℕ) → (k ≡ cell → ⊥) → slice_get program.kinds.items k ≡ Some (Other m) → m ≡ number → ⊥
+module _ (kinds : List Kind) (cells : List CellPorts) (kept : List ℕ) (old new : List OtherCell) (kinds_are : kinds ≡ kinds_of cells) (cell number place word : ℕ) (kind : slice_get kinds cell ≡ Some (Other number)) (is : IsLoadedOther number place word old new) (within : number < length old) where
+  other_kind : (k m : ℕ) → (k ≡ cell → ⊥) → slice_get kinds k ≡ Some (Other m) → m ≡ number → ⊥
   other_kind k m ne at same = ne (one_cell cells k cell number (ap (λ l. slice_get l k) (sym kinds_are) ∙ at ∙ ap (λ x. Some (Other x)) same) (ap (λ l. slice_get l cell) (sym kinds_are) ∙ kind))
 
-  still : (k : ℕ) → (k ≡ cell → ⊥) → (found : Kind) → slice_get program.kinds.items k ≡ Some found → state_of kept new found ≡ state_of kept old found
+  still : (k : ℕ) → (k ≡ cell → ⊥) → (found : Kind) → slice_get kinds k ≡ Some found → state_of kept new found ≡ state_of kept old found
   still k ne Stateless at = refl
   still k ne (Register first) at = refl
   still k ne (Delay first) at = refl
   still k ne (FastMult first) at = refl
   still k ne (Other m) at = ap other_state (is.others m (other_kind k m ne at))
 
-  still_at : (k : ℕ) → (k ≡ cell → ⊥) → (o : Option Kind) → slice_get program.kinds.items k ≡ o → option_map (state_of kept new) o ≡ option_map (state_of kept old) o
+  still_at : (k : ℕ) → (k ≡ cell → ⊥) → (o : Option Kind) → slice_get kinds k ≡ o → option_map (state_of kept new) o ≡ option_map (state_of kept old) o
   still_at k ne None at = refl
   still_at k ne (Some found) at = ap Some (still k ne found at)
 
-  pub loaded_at : IsLoadedAt (states_from program kept old) (states_from program kept new) cell place word
+  pub loaded_at : IsLoadedAt (states_from kinds kept old) (states_from kinds kept new) cell place word
   loaded_at = record {
     loaded = λ s here.
         let o = at_some old number within in
         let n = at_some new number (omega (arith, within, is.all)) in
-        let was : o.0.state.state ≡ s = ap other_state (sym o.1) ∙ state_is program kept old cell (Other number) kind s here in
-        state_at program kept new cell (Other number) kind ∙ ap Some (ap other_state n.1 ∙ is.loaded o.0 n.0 o.1 n.1 ∙ ap (λ x. state_with_word x place word) was);
+        let was : o.0.state.state ≡ s = ap other_state (sym o.1) ∙ state_is kinds kept old cell (Other number) kind s here in
+        state_at kinds kept new cell (Other number) kind ∙ ap Some (ap other_state n.1 ∙ is.loaded o.0 n.0 o.1 n.1 ∙ ap (λ x. state_with_word x place word) was);
     others = λ k ne.
-        slice_get-map (state_of kept new) program.kinds.items k
-        ∙ still_at k ne (slice_get program.kinds.items k) refl
-        ∙ sym (slice_get-map (state_of kept old) program.kinds.items k);
+        slice_get-map (state_of kept new) kinds k
+        ∙ still_at k ne (slice_get kinds k) refl
+        ∙ sym (slice_get-map (state_of kept old) kinds k);
   }
 
 -- ---- a row
 
-module _ (n : Netlist) (table : Table) (program : Program) (shown : List ℕ) (built : IsBuilt n table program shown) where
+module _ (n : Netlist) (table : Table) (kinds : List Kind) (program : Program) (shown : List ℕ) (built : IsBuilt n table kinds program shown) where
   pub values_count : (slots : List ℕ) → length (values_from program slots) ≡ length (port_names n)
   values_count slots = length-map program.ports.items (slice_index slots) ∙ built.program_is.ports
 
-  pub states_count : (kept : List ℕ) (others : List OtherCell) → length (states_from program kept others) ≡ length built.cells
-  states_count kept others = length-map program.kinds.items (state_of kept others) ∙ ap length built.program_is.kinds ∙ length-kinds_after 0 0 built.cells
+  pub states_count : (kept : List ℕ) (others : List OtherCell) → length (states_from kinds kept others) ≡ length built.cells
+  states_count kept others = length-map kinds (state_of kept others) ∙ ap length built.kinds_are ∙ length-kinds_after 0 0 built.cells
 
   -- the inputs of each cell fit
   pub cells_fit : (values : List ℕ) → length values ≡ length (port_names n) → FitWidths (port_widths n) values → (k : ℕ) (c : CellPorts) → slice_get built.cells k ≡ Some c → AreValuesOf (inputs_of c.prim) (cell_inputs values c)
@@ -169,32 +171,33 @@ module _ (n : Netlist) (table : Table) (program : Program) (shown : List ℕ) (b
           let positive : 0 < 2 ^ width = pow_pos width in
           omega (arith, same, positive)
 
-  module _ (others : List OtherCell) (kept was : List ℕ) (are : AreKept n built.cells program others kept was) where
+  module _ (others : List OtherCell) (kept was : List ℕ) (are : AreKept n built.cells kinds program others kept was) where
     -- the first slots hold the same states
-    pub opened_states : (slots : List ℕ) → ((k : ℕ) → k < length kept → slice_index slots k ≡ slice_index kept k) → map (state_of slots others) (kinds_of built.cells) ≡ states_from program kept others
+    pub opened_states : (slots : List ℕ) → ((k : ℕ) → k < length kept → slice_index slots k ≡ slice_index kept k) → map (state_of slots others) (kinds_of built.cells) ≡ states_from kinds kept others
     opened_states slots opened =
         same_states slots kept others built.cells (λ k lt. opened k (omega (arith, lt, are.kept_all)))
-        ∙ ap (map (state_of kept others)) (sym built.program_is.kinds)
+        ∙ ap (map (state_of kept others)) (sym built.kinds_are)
 
     -- slots that were opened and filled are those of a row
-    pub row_in : (inputs slots : List ℕ) → AreOpened kept inputs slots → AreMade others program.choices.items (length kept + length inputs) (steps_in program) slots → AreValuesOf n.ins inputs → length inputs ≡ length n.ins → IsRowIn (frame n built.cells) (steps_of n built.cells program) (record { slots = slots; inputs = inputs; others = others })
-    row_in inputs slots opened made fit count = record {
+    pub row_in : (inputs slots : List ℕ) → AreOpened kept inputs slots → IsRunOf (length kept + length inputs) program others slots → AreValuesOf n.ins inputs → length inputs ≡ length n.ins → IsRowIn (frame n built.cells) (steps_of n built.cells program) (record { slots = slots; inputs = inputs; others = others })
+    row_in inputs slots opened run fit count = record {
       made = record {
         choices = program.choices.items;
         table = choices_itself program.choices.items;
-        made = subst (λ base. AreMade others program.choices.items base (steps_in program) slots) (ap₂ ◌+◌ are.kept_all count) made;
+        made = subst (λ base. AreMade others program.choices.items base (steps_in program) slots) (ap₂ ◌+◌ are.kept_all count) run.made;
+        assumed = run.assumed;
       };
       given = λ k value at.
           ap (λ base. slice_index slots (base + k)) (sym are.kept_all)
           ∙ opened.inputs_next k (slice_get_within inputs k value at) ∙ get_or_from_slice_get inputs k value 0 at;
       inputs = fit;
       states = subst (AreStatesOf built.cells) (sym (opened_states slots opened.kept_first)) are.states;
-      others = are_others_of built.cells program.ports.items others are.others_are;
+      others = are_others_of built.cells others are.others_are;
     }
 
     -- ---- the edge that ends a row
 
-    module _ (new : List OtherCell) (slots : List ℕ) (row : IsAfterRow n built.cells program others kept slots) (stepped : AreSteppedOthers slots others new) (room : All (λ (other : OtherCell). length other.widths.items ≤ length other.places) others) where
+    module _ (new : List OtherCell) (slots : List ℕ) (row : IsAfterRow n built.cells program others kept slots) (stepped : AreSteppedOthers program.places.items slots others new) where
       abbrev this : SlotRow
       this = record { slots = slots; inputs = row.inputs; others = others }
 
@@ -215,22 +218,24 @@ module _ (n : Netlist) (table : Table) (program : Program) (shown : List ℕ) (b
           let o = are.others_are.each k number c at kind in
           let within = slice_get_within others number o.0 o.1 in
           let m = at_some new number (omega (arith, within, stepped.all)) in
-          let is = stepped.each number o.0 m.0 o.1 m.1 in
-          let space : length o.0.widths.items ≤ length o.0.places = subst (λ (x : OtherCell). length x.widths.items ≤ length x.places) (get_or_from_slice_get others number o.0 o.0 o.1) (room number o.0 within) in
-          let ins = gathered_inputs slots program.ports.items c o.0 space o.2 (inputs_within k c at) in
+          let p = built.program_is.places.each k number c at kind in
+          let is = stepped.each number p.0 o.0 m.0 p.1 o.1 m.1 in
+          let count = cell_count (frame n built.cells) (record { valid = built.compiled.valid; listed = built.compiled.listed }) k c at program.ports.items built.program_is.ports in
+          let space : length o.0.widths.items ≤ length p.0 = omega (arith, ap length o.2.widths, length-map (inputs_of c.prim) (λ (q : Pin). q.width), ap length p.2, length-take (length (inputs_of c.prim)) p.0, count) in
+          let ins = gathered_inputs slots program.ports.items c p.0 o.0.widths.items space o.2.widths p.2 (inputs_within k c at) in
           ap other_state m.1 ∙ is.state
           ∙ ap₂ (λ p i. next_state p o.0.state.state i) o.2.prim ins
           ∙ ap (λ x. next_state c.prim (other_state x) (cell_inputs (values_from program slots) c)) (sym o.1)
 
-      pub are_next : AreNext built.cells (values_from program slots) (states_from program kept others) (states_from program (map (slice_index slots) program.next.items) new)
+      pub are_next : AreNext built.cells (values_from program slots) (states_from kinds kept others) (states_from kinds (map (slice_index slots) program.next.items) new)
       are_next k c s at here =
-          let kind = at_some program.kinds.items k (let lt = slice_get_within (states_from program kept others) k s here in omega (arith, lt, length-map program.kinds.items (state_of kept others))) in
-          let at_kind : slice_get (kinds_of built.cells) k ≡ Some kind.0 = ap (λ l. slice_get l k) (sym built.program_is.kinds) ∙ kind.1 in
+          let kind = at_some kinds k (let lt = slice_get_within (states_from kinds kept others) k s here in omega (arith, lt, length-map kinds (state_of kept others))) in
+          let at_kind : slice_get (kinds_of built.cells) k ≡ Some kind.0 = ap (λ l. slice_get l k) (sym built.kinds_are) ∙ kind.1 in
           let inputs = cell_inputs (values_from program slots) c in
           let same : state_of slots others kind.0 ≡ s = same_Some (state_of slots others kind.0) s (
           sym (slice_get-map (state_of slots others) (kinds_of built.cells) k ∙ ap (option_map (state_of slots others)) at_kind)
           ∙ ap (λ l. slice_get l k) (opened_states slots row.opened) ∙ here) in
-          state_at program (map (slice_index slots) program.next.items) new k kind.0 kind.1
+          state_at kinds (map (slice_index slots) program.next.items) new k kind.0 kind.1
           ∙ ap Some (by_kind (map (slice_index slots) program.next.items) new (next_state c.prim (state_of slots others kind.0) inputs) kind.0 (tells.next k c kind.0 at at_kind)
           (λ number is. other_next k number c at (at_kind ∙ ap Some is) ∙ ap (λ x. next_state c.prim (state_of slots others x) inputs) (sym is))
           ∙ ap (λ x. next_state c.prim x inputs) same)

@@ -1,5 +1,5 @@
 -- Each assignment of a valid netlist has a source by number: what a netlist was compiled from without listing them.
-use Rattle.std.proofs.Common.{◌≡◌, ℕ, zero, suc, ◌<◌, ◌≤◌, ◌^◌, List, [], ◌∷◌, Some, length, refl, ap, ◌∙◌, arith, true, nat_lt, All, subst}
+use Rattle.std.proofs.Common.{◌≡◌, ℕ, zero, suc, ◌+◌, ◌<◌, ◌≤◌, ◌^◌, List, [], ◌∷◌, Some, length, refl, ap, ◌∙◌, arith, true, nat_lt, All, subst}
 use Rattle.std.specs.Prelude.{◌+◌, slice_get, slice_index, Contains}
 use Rattle.std.proofs.lemmas.Bool.{and_parts}
 use Rattle.std.proofs.lemmas.Bool.Decides.{nat_tests}
@@ -21,7 +21,7 @@ use Rattle.net_sim.proofs.SourceLemmas.{source_fits}
 use Rattle.net_sim.proofs.ValidLemmas.{source_there}
 use Rattle.std.proofs.lemmas.List.{length-map}
 use Rattle.net_sim.specs.Compiled.{IsSource, givers_of}
-use Rattle.net_sim.specs.Layout.{port_names, AreCellPorts}
+use Rattle.net_sim.specs.Layout.{port_names, port_widths, AreCellPorts}
 use Rattle.net_sim.specs.OrderValue.{OrderValue}
 use Rattle.net_sim.specs.Plan.{IsCompiled}
 use Rattle.net_sim.specs.PortOrder.{IsPortOrderOf}
@@ -32,10 +32,15 @@ use Rattle.net_sim.specs.declared.plan.Source.{Source}
 use Rattle.net_sim.specs.declared.plan.Source.TheVariants.{Slot, Fixed}
 use Rattle.net_sim.specs.declared.sim.Phase.TheVariants.{Fresh}
 use Rattle.net_steps.specs.declared.other.Other.{Other as OtherCell}
-use Rattle.net_row.proofs.FlatSimLemmas.{widths_narrow, new_keeps, new_sim}
-use Rattle.net_row.specs.Flats.{HaveRoom, AreOthers, AreOpeningOthers, IsSound, IsBuilt, AreKept, states_from, values_from}
-use Rattle.net_row.specs.Kinds.{kept_in}
-use Rattle.net_row.specs.Program.{IsProgram, steps_of, steps_in}
+use Rattle.net_row.proofs.FlatRowLemmas.{zeros_fit}
+use Rattle.net_row.proofs.FlatSimLemmas.{of_place, widths_narrow, new_keeps, new_sim}
+use Rattle.net_row.specs.Flats.{AreOthers, AreOpeningOthers, FitWidths, IsBuilt, AreKept, states_from, values_from}
+use Rattle.net_row.specs.Kinds.{kept_in, kinds_of}
+use Rattle.net_row.specs.declared.kinds.Kind.{Kind}
+use Rattle.net_row.specs.Places.{HaveRoom}
+use Rattle.net_row.specs.Programs.{AreFit, AreProgramsOf, IsFit, program_at}
+use Rattle.net_row.specs.declared.programs.Programs.{Programs}
+use Rattle.net_row.specs.Program.{IsProgram}
 use Rattle.net_row.specs.declared.program.Program.{Program}
 
 literal_parts : (width value : ℕ) → is_width width ≡ true → nat_lt value (2 ^ width) ≡ true → (1 ≤ width) × (width ≤ 128) × (value < 2 ^ width)
@@ -102,12 +107,12 @@ have_room n valid cells listed count e k c at = omega (arith, e, (input_widths n
 -- ---- a new simulation
 
 -- what a netlist was compiled to, with these cells
-pub record HasBuilt (n : Netlist) (table : Table) (program : Program) (shown : List ℕ) (cells : List CellPorts) : Type 0 where
-  pub built : IsBuilt n table program shown
+pub record HasBuilt (n : Netlist) (table : Table) (kinds : List Kind) (program : Program) (shown : List ℕ) (cells : List CellPorts) : Type 0 where
+  pub built : IsBuilt n table kinds program shown
   pub cells_are : cells ≡ built.cells
 
-pub has_built : (n : Netlist) → IsValid n → (table : Table) → IsTableOf n table → AreDistinct table.names → (order : OrderValue) → IsPortOrderOf n order → (cells : List CellPorts) → AreCellPorts n cells → (program : Program) → IsProgram n cells program → (shown : List ℕ) → AreShown n shown → All (λ (p : PortInfo). p.width ≤ 64) table.ports.items → HasBuilt n table program shown cells
-has_built n valid table is distinct order ordered cells listed program program_is shown are narrow =
+pub has_built : (n : Netlist) → IsValid n → (table : Table) → IsTableOf n table → AreDistinct table.names → (order : OrderValue) → IsPortOrderOf n order → (cells : List CellPorts) → AreCellPorts n cells → (kinds : List Kind) → kinds ≡ kinds_of cells → (program : Program) → IsProgram n cells program → (shown : List ℕ) → AreShown n shown → All (λ (p : PortInfo). p.width ≤ 64) table.ports.items → HasBuilt n table kinds program shown cells
+has_built n valid table is distinct order ordered cells listed kinds kinds_are program program_is shown are narrow =
     let has = has_compiled n valid (subst AreDistinct is.names distinct) order ordered cells listed in
     record {
       built = record {
@@ -117,6 +122,7 @@ has_built n valid table is distinct order ordered cells listed program program_i
         givers = givers_of n cells;
         compiled = has.compiled;
         table_is = is;
+        kinds_are = kinds_are;
         shown_are = are;
         program_is = program_is;
         narrow = widths_narrow n valid cells listed table is narrow;
@@ -124,19 +130,24 @@ has_built n valid table is distinct order ordered cells listed program program_i
       cells_are = refl;
     }
 
-pub record IsNewFlat (net : Net) (table : Table) (program : Program) (shown : List ℕ) (others : List OtherCell) (kept slots : List ℕ) : Type 0 where
-  pub built : IsBuilt (netlist_of net) table program shown
-  pub are : AreKept (netlist_of net) built.cells program others kept slots
-  pub new : IsNewSim net (record { net = net; states = states_from program kept others; values = values_from program slots; phase = Fresh })
+pub record IsNewFlat (net : Net) (table : Table) (kinds : List Kind) (programs : Programs) (place : ℕ) (shown : List ℕ) (others : List OtherCell) (kept slots : List ℕ) : Type 0 where
+  pub built : IsBuilt (netlist_of net) table kinds (program_at programs place) shown
+  pub are : AreKept (netlist_of net) built.cells kinds (program_at programs place) others kept slots
+  pub values : FitWidths (port_widths (netlist_of net)) (values_from (program_at programs place) slots)
+  pub programs_are : AreProgramsOf (netlist_of net) built.cells programs
+  pub fit : AreFit (kept_in built.cells + length (netlist_of net).ins) others programs
+  pub new : IsNewSim net (record { net = net; states = states_from kinds kept others; values = values_from (program_at programs place) slots; phase = Fresh })
 
-pub is_new_flat : (net : Net) (table : Table) (program : Program) (shown : List ℕ) (cells : List CellPorts) → HasBuilt (netlist_of net) table program shown cells → (others : List OtherCell) (kept slots : List ℕ) → AreOthers cells program.ports.items others → AreOpeningOthers others → ((k : ℕ) → slice_index kept k ≡ 0) → ((k : ℕ) → slice_index slots k ≡ 0) → length kept ≡ kept_in cells → length slots ≡ (steps_of (netlist_of net) cells program).base + length (steps_in program) → IsSound (steps_of (netlist_of net) cells program).base program others → IsNewFlat net table program shown others kept slots
-is_new_flat net table program shown cells has others kept slots are opening no_kept no_slots kept_all slots_all sound =
-    let are_built = subst (λ (cs : List CellPorts). AreOthers cs program.ports.items others) has.cells_are are in
+pub is_new_flat : (net : Net) (table : Table) (kinds : List Kind) (programs : Programs) (place : ℕ) (shown : List ℕ) (cells : List CellPorts) → HasBuilt (netlist_of net) table kinds (program_at programs place) shown cells → AreProgramsOf (netlist_of net) cells programs → (others : List OtherCell) (kept slots : List ℕ) → AreOthers cells others → AreFit (kept_in cells + length (netlist_of net).ins) others programs → AreOpeningOthers others → ((k : ℕ) → slice_index kept k ≡ 0) → ((k : ℕ) → slice_index slots k ≡ 0) → length kept ≡ kept_in cells → programs.room ≡ length slots → IsNewFlat net table kinds programs place shown others kept slots
+is_new_flat net table kinds programs place shown cells has programs_are others kept slots are fit opening no_kept no_slots kept_all room =
+    let are_built = subst (λ (cs : List CellPorts). AreOthers cs others) has.cells_are are in
+    let fit_built : AreFit (kept_in has.built.cells + length (netlist_of net).ins) others programs = subst (λ (cs : List CellPorts). AreFit (kept_in cs + length (netlist_of net).ins) others programs) has.cells_are fit in
+    let here = of_place (IsFit (kept_in has.built.cells + length (netlist_of net).ins) programs.room others) programs fit_built.general fit_built.cases place in
     record {
       built = has.built;
-      are = new_keeps net table program shown has.built others kept slots are_built opening no_kept no_slots
-          (kept_all ∙ ap kept_in has.cells_are)
-          (slots_all ∙ ap (λ (cs : List CellPorts). (steps_of (netlist_of net) cs program).base + length (steps_in program)) has.cells_are)
-          (subst (λ (cs : List CellPorts). IsSound (steps_of (netlist_of net) cs program).base program others) has.cells_are sound);
-      new = new_sim net table program shown has.built others kept slots are_built opening no_kept;
+      are = new_keeps net table kinds (program_at programs place) shown has.built others kept slots are_built opening no_kept (kept_all ∙ ap kept_in has.cells_are) (omega (arith, here.within, room)) here.sound;
+      values = zeros_fit (netlist_of net) table kinds (program_at programs place) shown has.built slots no_slots;
+      programs_are = subst (λ (cs : List CellPorts). AreProgramsOf (netlist_of net) cs programs) has.cells_are programs_are;
+      fit = fit_built;
+      new = new_sim net table kinds (program_at programs place) shown has.built others kept slots are_built opening no_kept;
     }

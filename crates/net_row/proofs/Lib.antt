@@ -12,3 +12,4 @@ pub mod DrivenLemmas
 pub mod MadeLemmas
 pub mod PortSlotLemmas
 pub mod ProgramLemmas
+pub mod ProgramsLemmas

@@ -10,6 +10,7 @@ use Rattle.net_steps.specs.Conflicts.{Clashes as ClashesIn}
 use Rattle.net_steps.specs.StepsValue.{StepsValue}
 use Rattle.net_steps.specs.declared.choice.Choice.{Choice}
 use Rattle.net_steps.specs.declared.clashes.Clash.{Clash}
+use Rattle.net_steps.specs.declared.equality.Equality.{Equality}
 use Rattle.net_steps.specs.declared.operation.Operation.{Operation}
 use Rattle.net_row.proofs.PortSlotLemmas.{is_frame}
 use Rattle.net_row.proofs.RowLemmas.{row_in_before}
@@ -17,6 +18,7 @@ use Rattle.net_row.specs.inside.Compiling.{frame_in, net_of}
 use Rattle.net_row.specs.Kinds.{kept_in}
 use Rattle.net_row.specs.Outputs.{AddsNext}
 use Rattle.net_row.specs.inside.Ports.{IsMadeOf, IsNumbered}
+use Rattle.net_row.specs.Places.{ArePlaces}
 use Rattle.net_row.specs.Program.{IsProgram, TellsRow, steps_of, values_in, steps_in}
 use Rattle.net_row.specs.Rows.{AreValuesAt, IsRowIn, SlotRow, states_in}
 use Rattle.net_row.specs.declared.compile.Made.{Made}
@@ -63,7 +65,7 @@ some_of (Some x) slot e = same_Some (Some x) (Some slot) e
 
 -- ---- the program
 
-module _ (numbered : Numbered) (is : IsNumbered (net_of numbered) numbered) (made : Made) (are : IsMadeOf (net_of numbered) numbered made) (new : StepsValue) (program : Program) (adds : AddsNext made.steps new made.ports.slots.items numbered.cells.now program.next.items) (slots : made.ports.slots.items ≡ map Some program.ports.items) (kinds : program.kinds.items ≡ numbered.kinds.of_cells.items) (steps : steps_in program ≡ new.items) (choices : program.choices.items ≡ new.choices) (clashes : program.clashes.items ≡ made.clashes.items) where
+module _ (numbered : Numbered) (is : IsNumbered (net_of numbered) numbered) (made : Made) (are : IsMadeOf (net_of numbered) numbered made) (new : StepsValue) (program : Program) (adds : AddsNext made.steps new made.ports.slots.items numbered.cells.now program.next.items) (slots : made.ports.slots.items ≡ map Some program.ports.items) (places : ArePlaces numbered.cells.now program.ports.items program.places.items) (steps : steps_in program ≡ new.items) (choices : program.choices.items ≡ new.choices) (assumed : program.assumed.items ≡ new.assumed) (clashes : program.clashes.items ≡ made.clashes.items) where
   count : length program.ports.items ≡ length (port_names (net_of numbered))
   count = sym (length-map program.ports.items Some) ∙ ap length (sym slots) ∙ are.count
 
@@ -74,8 +76,8 @@ module _ (numbered : Numbered) (is : IsNumbered (net_of numbered) numbered) (mad
 
   same_steps : steps_of (net_of numbered) numbered.cells.now program ≡ new
   same_steps =
-      ap (λ (cs : List Choice). (let s : StepsValue = record { base = kept_in numbered.cells.now + length (net_of numbered).ins; items = steps_in program; choices = cs } in s)) choices
-      ∙ ap₂ (λ b (i : List Operation). (let s : StepsValue = record { base = b; items = i; choices = new.choices } in s)) (sym (adds.extends.base ∙ are.base)) steps
+      ap₂ (λ (cs : List Choice) (a : List Equality). (let s : StepsValue = record { base = kept_in numbered.cells.now + length (net_of numbered).ins; items = steps_in program; choices = cs; assumed = a } in s)) choices assumed
+      ∙ ap₂ (λ b (i : List Operation). (let s : StepsValue = record { base = b; items = i; choices = new.choices; assumed = new.assumed } in s)) (sym (adds.extends.base ∙ are.base)) steps
 
   has_slot : (port slot : ℕ) → slice_get program.ports.items port ≡ Some slot → slice_get made.ports.slots.items port ≡ Some (Some slot)
   has_slot port slot at = ap (λ l. slice_get l port) slots ∙ slice_get-map Some program.ports.items port ∙ ap (option_map Some) at
@@ -114,8 +116,8 @@ module _ (numbered : Numbered) (is : IsNumbered (net_of numbered) numbered) (mad
 
   pub program_is : IsProgram (net_of numbered) numbered.cells.now program
   program_is = record {
-    kinds = kinds ∙ is.kinds;
     ports = count;
+    places = places;
     next = adds.count;
     clashes = subst (All (λ (clash : Clash). clash.port < length (port_names (net_of numbered)))) (sym clashes) within;
     tells = λ row in_row. tells row (subst (λ s. IsRowIn (frame_in numbered) s row) same_steps in_row);

@@ -1,5 +1,5 @@
 -- How each cell keeps its state: in values that are kept for it, one after another in the order of the cells, or by itself. This project's.
-use Rattle.std.specs.Prelude.{ℕ, ◌+◌, List, [], ◌∷◌, Option, None, Some, slice_get, slice_index}
+use Rattle.std.specs.Prelude.{◌≡◌, ℕ, ◌+◌, List, [], ◌∷◌, length, Option, None, Some, slice_get, slice_index}
 use Rattle.hw_prims.specs.State.{State, Stateless as NoState, Register as RegisterState, Delay as DelayState, FastMult as FastMultState}
 use Rattle.hw_prims.specs.declared.prim.Primitive.{Primitive}
 use Rattle.hw_prims.specs.declared.prim.Primitive.TheVariants.{StdReg, StdMemD1, StdMemD2, StdMultPipe, FilDelay, FilFastMult, FilSeqMult}
@@ -50,6 +50,12 @@ kept_in (c ∷ cells) = kept_for c.prim + kept_in cells
 abbrev pub others_in : List CellPorts → ℕ
 others_in [] = 0
 others_in (c ∷ cells) = others_for c.prim + others_in cells
+
+-- one for each cell that keeps its state by itself, in the order of the cells: it is found by the cell's number, and is what it has to be of the cell
+pub record AreOfOthers {A : Type 0} (Is : CellPorts → A → Type 0) (cells : List CellPorts) (items : List A) : Type 0 where
+  pub all : length items ≡ others_in cells
+  pub each : (k number : ℕ) (cell : CellPorts) → slice_get cells k ≡ Some cell → slice_get (kinds_of cells) k ≡ Some (Other number) →
+      (item : A) × (slice_get items number ≡ Some item) × Is cell item
 
 -- the state of a cell that keeps it by itself, if it is there
 abbrev pub other_state : Option OtherCell → State

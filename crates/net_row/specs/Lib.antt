@@ -2,6 +2,8 @@ pub mod inside
 pub mod Kinds
 pub mod Rows
 pub mod Outputs
+pub mod Places
 pub mod Program
+pub mod Programs
 pub mod Flats
 pub mod Engines

@@ -12,6 +12,7 @@ use Rattle.net_steps.specs.declared.clashes.Clash.{Clash}
 use Rattle.net_steps.specs.declared.operation.Operation.{Operation}
 use Rattle.net_row.specs.Kinds.{kinds_of, kept_in}
 use Rattle.net_row.specs.Outputs.{IsNextState}
+use Rattle.net_row.specs.Places.{ArePlaces}
 use Rattle.net_row.specs.Rows.{Frame, SlotRow, IsRowIn, states_in}
 use Rattle.net_row.specs.declared.kinds.Kind.{Kind}
 use Rattle.net_row.specs.declared.program.Program.{Program}
@@ -23,9 +24,10 @@ frame n cells = record { net = n; cells = cells }
 abbrev pub steps_in : Program → List Operation
 steps_in program = all_operations program.runs.items
 
--- the first step has the slot after what is kept and the inputs
+-- the first step has the slot after what is kept and the inputs; what is assumed holds in each row
 abbrev pub steps_of : Netlist → List CellPorts → Program → StepsValue
-steps_of n cells program = record { base = kept_in cells + length n.ins; items = steps_in program; choices = program.choices.items }
+steps_of n cells program =
+    record { base = kept_in cells + length n.ins; items = steps_in program; choices = program.choices.items; assumed = program.assumed.items }
 
 -- the values of the ports in a row
 abbrev pub values_in : Program → SlotRow → List ℕ
@@ -45,8 +47,8 @@ pub record TellsRow (n : Netlist) (cells : List CellPorts) (program : Program) (
 
 -- the program of a netlist with these cells
 pub record IsProgram (n : Netlist) (cells : List CellPorts) (program : Program) : Type 0 where
-  pub kinds : program.kinds.items ≡ kinds_of cells
   pub ports : length program.ports.items ≡ length (port_names n)
+  pub places : ArePlaces cells program.ports.items program.places.items
   pub next : length program.next.items ≡ kept_in cells
   pub clashes : All (λ (clash : Clash). clash.port < length (port_names n)) program.clashes.items
   pub tells : (row : SlotRow) → IsRowIn (frame n cells) (steps_of n cells program) row → TellsRow n cells program row

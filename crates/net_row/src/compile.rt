@@ -7,6 +7,7 @@ ghost use Rattle.net_core.specs.Rules.{IsValid};
 ghost use Rattle.net_core.specs.Table.{IsTableOf};
 ghost use Rattle.net_sim.specs.Layout.{AreCellPorts, port_names};
 ghost use Rattle.net_sim.specs.PortOrder.{IsPortOrderOf};
+ghost use Rattle.net_row.specs.Kinds.{kept_in};
 ghost use Rattle.net_row.specs.inside.Compiling.{AddsDriver, AddsDrivers, AddsPortSlot, AddsTruths, net_of};
 ghost use Rattle.net_row.specs.inside.Ports.{IsMadeOf, IsNumbered};
 ghost use Rattle.net_row.specs.Program.{IsProgram};
@@ -14,12 +15,13 @@ ghost use Rattle.net_row.specs.Program.{IsProgram};
 use crate::kinds::{Kinds, kinds_of};
 use crate::levels::by_levels;
 use crate::outputs::{next_kept, output_slot};
+use crate::places::places_of;
 use crate::program::Program;
 use crate::slots::{PortSlots, Truths, first_tests, test_truth, tests_upto};
 use hw_bits::Memory;
 use net_core::{Net, Table};
 use net_sim::{CellPorts, FlatGuards, Giver, PortOrder, Source, flat_guards, givers, sources};
-use net_steps::{Clash, Driver, ProgramEnd, Steps, cut, drive};
+use net_steps::{Clash, Driver, Equality, Operation, ProgramEnd, Steps, cut, drive};
 use std::alloc::Global;
 
 /// A netlist by numbers: what is compiled.
@@ -33,47 +35,73 @@ pub struct Numbered<'a> {
     pub sources: Vec<Source>,
     pub guards: FlatGuards,
     pub first_tests: Vec<usize>,
+    /// The number of ports.
+    pub ports: usize,
 }
 
 /// What is compiled so far.
 #[derive(Drop)]
-struct Made {
-    steps: Steps,
+pub struct Made {
+    pub steps: Steps,
     ports: PortSlots,
     truths: Truths,
     clashes: Vec<Clash>,
 }
 
-/// The program of a netlist, whose table, order and cells these are.
+/// A netlist compiled after these steps, for the rows in which this holds.
 pub fn compile(
     alloc: Global,
-    net: &Net,
-    table: &Table,
-    order: &PortOrder,
-    cells: &[CellPorts],
-) -> Result<Program, ProgramEnd>
-    requires valid { IsValid (netlist_of net.now) }
-    requires numbers { HasNumbers net.now }
-    requires table { IsTableOf (netlist_of net.now) table.now }
-    requires order { IsPortOrderOf (netlist_of net.now) order.now }
-    requires cells { AreCellPorts (netlist_of net.now) cells.now }
-    ensures { IfOk result (IsProgram (netlist_of net.now) cells.now) }
+    numbered: &Numbered,
+    opening: &[Operation],
+    assumed: &[Equality],
+) -> Result<Made, ProgramEnd>
+    requires { IsNumbered (net_of numbered.now) numbered.now }
+    ensures { IfOk result (IsMadeOf (net_of numbered.now) numbered.now) }
 {
-    let count = table.names.len();
-    let numbered = number(alloc, net, table, order, cells)?;
-    let mut made = none_made(alloc, &numbered, count)?;
-    let places = by_levels(alloc, &numbered, count)?;
+    let steps = first_steps(alloc, numbered, opening, assumed)?;
+    let mut made = none_made(alloc, numbered, steps)?;
+    let places = by_levels(alloc, numbered)?;
     for place in &places {
-        if place.port >= count {
+        if place.port >= numbered.ports {
             return Err(ProgramEnd::Unfit);
         }
-        add_port(alloc, &numbered, &mut made, place.port)?;
+        add_port(alloc, numbered, &mut made, place.port)?;
     }
-    finish(alloc, numbered, made)
+    Ok(made)
+}
+
+/// The steps that are there at first, and what is assumed of each row.
+fn first_steps(
+    alloc: Global,
+    numbered: &Numbered,
+    opening: &[Operation],
+    assumed: &[Equality],
+) -> Result<Steps, ProgramEnd>
+    requires { IsNumbered (net_of numbered.now) numbered.now }
+    ensures { IfOk result
+        (λ steps. steps.base ≡ kept_in numbered.now.cells.now + length (net_of numbered.now).ins) }
+{
+    let base = first_slot(numbered)?;
+    let mut steps = Steps::new(alloc, base as usize);
+    for operation in opening {
+        steps.define(*operation)?;
+    }
+    assume_all(&mut steps, assumed)?;
+    Ok(steps)
+}
+
+/// From now on the steps are for the rows in which all this holds.
+fn assume_all(steps: &mut Steps, assumed: &[Equality]) -> Result<(), Memory>
+    ensures { IfOk result (λ _. steps.new.base ≡ steps.old.base) }
+{
+    for equality in assumed {
+        steps.assume(*equality)?;
+    }
+    Ok(())
 }
 
 /// The netlist by numbers, whose table, order and cells these are.
-fn number<'a>(
+pub fn number<'a>(
     alloc: Global,
     net: &'a Net,
     table: &Table,
@@ -105,22 +133,31 @@ fn number<'a>(
         sources,
         guards,
         first_tests,
+        ports: table.names.len(),
     })
 }
 
-/// Nothing is compiled yet of a netlist with so many ports.
-fn none_made(alloc: Global, numbered: &Numbered, count: usize) -> Result<Made, ProgramEnd>
+/// Nothing is compiled yet of a netlist but these steps.
+fn none_made(alloc: Global, numbered: &Numbered, steps: Steps) -> Result<Made, Memory>
     requires numbered { IsNumbered (net_of numbered.now) numbered.now }
-    requires count { count ≡ length (port_names (net_of numbered.now)) }
+    requires base { steps.base ≡ kept_in numbered.now.cells.now + length (net_of numbered.now).ins }
     ensures { IfOk result (IsMadeOf (net_of numbered.now) numbered.now) }
 {
-    let base = slot_after(numbered.kinds.kept, numbered.net.ins.len())?;
     Ok(Made {
-        steps: Steps::new(alloc, base as usize),
-        ports: PortSlots::new(alloc, count)?,
+        steps,
+        ports: PortSlots::new(alloc, numbered.ports)?,
         truths: Truths::new(alloc, numbered.guards.tests.len())?,
         clashes: Vec::new(alloc),
     })
+}
+
+/// The slot of the first step.
+pub fn first_slot(numbered: &Numbered) -> Result<u32, ProgramEnd>
+    requires { IsNumbered (net_of numbered.now) numbered.now }
+    ensures { IfOk result
+        (λ slot. slot ≡ kept_in numbered.now.cells.now + length (net_of numbered.now).ins) }
+{
+    slot_after(numbered.kinds.kept, numbered.net.ins.len())
 }
 
 /// The slot that lies so many after another.
@@ -234,22 +271,30 @@ fn add_truths(numbered: &Numbered, made: &mut Made, number: usize) -> Result<(),
 }
 
 /// The program, when each port has a slot.
-fn finish(alloc: Global, numbered: Numbered, mut made: Made) -> Result<Program, ProgramEnd>
-    requires numbered { IsNumbered (net_of numbered) numbered }
-    requires made { IsMadeOf (net_of numbered) numbered made }
-    ensures { IfOk result (IsProgram (net_of numbered.entry) numbered.entry.cells.now) }
+pub fn finish(alloc: Global, numbered: &Numbered, mut made: Made) -> Result<Program, ProgramEnd>
+    requires numbered { IsNumbered (net_of numbered.now) numbered.now }
+    requires made { IsMadeOf (net_of numbered.now) numbered.now made }
+    ensures { IfOk result (IsProgram (net_of numbered.now) numbered.now.cells.now) }
 {
     let next = next_kept(alloc, &mut made.steps, &made.ports, numbered.cells)?;
     let ports = port_slots(alloc, &made.ports)?;
+    let places = places_of(
+        alloc,
+        numbered.cells,
+        numbered.kinds.of_cells.as_slice(),
+        ports.as_slice(),
+    )?;
     let runs = cut(alloc, made.steps.operations())?;
     let choices = Vec::from_slice(alloc, made.steps.choices())?;
+    let assumed = Vec::from_slice(alloc, made.steps.assumed())?;
     Ok(Program {
         ports,
-        kinds: numbered.kinds.of_cells,
+        places,
         next,
         runs,
         choices,
         clashes: made.clashes,
+        assumed,
     })
 }
 

@@ -1,5 +1,5 @@
 //! The simulation of a netlist by a program.
-ghost use Rattle.std.specs.Prelude.{◌≡◌, ◌+◌, ◌<◌, ◌≤◌, ◌^◌, true, [], length, map, take, slice_get, Some, Err, IfOk, All};
+ghost use Rattle.std.specs.Prelude.{◌≡◌, ◌+◌, ◌<◌, ◌≤◌, true, [], length, map, slice_get, Some, Err, IfOk, All};
 ghost use Rattle.hw_bits.specs.Values.{values_of, widths_of};
 ghost use Rattle.hw_bits.specs.declared.bits.Bits.{Bits};
 ghost use Rattle.hw_prims.specs.Meaning.{opening_state};
@@ -10,30 +10,26 @@ ghost use Rattle.net_core.specs.Numbers.{HasNumbers};
 ghost use Rattle.net_core.specs.Rules.{IsValid};
 ghost use Rattle.net_core.specs.Table.{IsTableOf};
 ghost use Rattle.net_core.specs.declared.table.PortInfo.{PortInfo};
-ghost use Rattle.net_sim.specs.Evaluated.{cell_inputs};
 ghost use Rattle.net_sim.specs.Layout.{port_widths};
 ghost use Rattle.net_sim.specs.PortOrder.{IsPortOrderOf};
 ghost use Rattle.net_sim.specs.Shown.{shown_cells, HasWord, HasWordWidth};
 ghost use Rattle.net_sim.specs.Sim.{IsNewSim, IsLoadOfSim, IsWordOfSim, IsWordCountOfSim, IsRowOfSim, IsEdgeOfSim, IfRunning, IfStopped, IfEvaluated, IfNotEvaluated, conflict_in};
 ghost use Rattle.net_sim.specs.declared.cells.CellPorts.{CellPorts};
-ghost use Rattle.net_steps.specs.Operations.{AreMade, AreBelow};
-ghost use Rattle.net_steps.specs.Others.{AreNarrow, AreCounted};
+ghost use Rattle.net_row.specs.Programs.{AreFit, IsRunOf, program_at};
+ghost use Rattle.net_steps.specs.Others.{AreNarrow};
 ghost use Rattle.net_steps.specs.declared.other.Other.{Other as OtherCell};
-ghost use Rattle.net_row.specs.Flats.{AreOthers, AreOpeningOthers, HaveRoom, HasShown, IsShownAs, IsLoadedOther, AreOpened, IsOther, IsSound};
+ghost use Rattle.net_row.specs.Flats.{AreOthers, AreOpeningOthers, HasShown, IsShownAs, IsLoadedOther, AreOpened, IsOther};
 ghost use Rattle.net_row.specs.Kinds.{kinds_of};
-ghost use Rattle.net_row.specs.Program.{steps_in};
 
-use crate::compile::compile;
+use crate::cases::compile_all;
+use crate::compile::number;
 use crate::kinds::Kind;
-use crate::program::Program;
+use crate::programs::Programs;
 use hw_bits::Bits;
 use hw_prims::Prim;
 use net_core::{Net, Table};
 use net_sim::{CellPorts, Conflict, Phase, PortOrder, cell_ports, shown_cells};
-use net_steps::{
-    HeldState, INPUTS, Other, Places, ProgramEnd, are_below, find_conflict, run_all, step_count,
-    step_kept, step_others,
-};
+use net_steps::{HeldState, Other, ProgramEnd, find_conflict, step_kept, step_others};
 use std::alloc::Global;
 use std::marker::Model;
 
@@ -42,7 +38,10 @@ use std::marker::Model;
 pub struct Flat<'a> {
     net: &'a Net,
     table: &'a Table,
-    program: Program,
+    kinds: Vec<Kind>,
+    programs: Programs,
+    /// The place of the program that the last row went by.
+    current: usize,
     others: Vec<Other>,
     shown: Vec<usize>,
     kept: Vec<u64>,
@@ -84,25 +83,18 @@ impl<'a> Flat<'a> {
             return Err(ProgramEnd::Unfit);
         }
         let cells = cell_ports(alloc, net, table.names.len())?;
-        let program = compile(alloc, net, table, order, cells.as_slice())?;
-        let others = others(
-            alloc,
-            cells.as_slice(),
-            program.kinds.as_slice(),
-            program.ports.as_slice(),
-        )?;
+        let numbered = number(alloc, net, table, order, cells.as_slice())?;
+        let others = others(alloc, cells.as_slice(), numbered.kinds.of_cells.as_slice())?;
+        let programs = compile_all(alloc, &numbered, others.as_slice())?;
         let shown = shown_cells(alloc, net)?;
-        let steps = step_count(program.runs.as_slice())?;
-        let base = step_base(program.next.len(), net.ins.len(), steps)?;
-        if !is_sound(base, base + steps, &program, others.as_slice()) {
-            return Err(ProgramEnd::Unfit);
-        }
-        let kept = vec![in alloc; 0u64; program.next.len()]?;
-        let slots = vec![in alloc; 0u64; base + steps]?;
+        let kept = vec![in alloc; 0u64; numbered.kinds.kept]?;
+        let slots = vec![in alloc; 0u64; programs.room]?;
         Ok(Flat {
             net,
             table,
-            program,
+            kinds: numbered.kinds.of_cells,
+            current: programs.cases.len(),
+            programs,
             others,
             shown,
             kept,
@@ -118,7 +110,7 @@ impl<'a> Flat<'a> {
         requires width { HasWordWidth (netlist_of self.old.net) mem word.width }
         ensures { IsLoadOfSim self.old mem at word.value self.new }
     {
-        let number = shown_number(self.program.kinds.as_slice(), self.shown.as_slice(), mem);
+        let number = shown_number(self.kinds.as_slice(), self.shown.as_slice(), mem);
         load_other(self.others.as_mut_slice(), number, at, word);
     }
 
@@ -128,7 +120,7 @@ impl<'a> Flat<'a> {
         ensures value { IsWordOfSim self.now mem at result.value }
         ensures width { HasWordWidth (netlist_of self.now.net) mem result.width }
     {
-        let number = shown_number(self.program.kinds.as_slice(), self.shown.as_slice(), mem);
+        let number = shown_number(self.kinds.as_slice(), self.shown.as_slice(), mem);
         self.others[number].state.word(at)
     }
 
@@ -137,7 +129,7 @@ impl<'a> Flat<'a> {
         requires { mem < length (shown_cells (netlist_of self.now.net)) }
         ensures { IsWordCountOfSim self.now mem result }
     {
-        let number = shown_number(self.program.kinds.as_slice(), self.shown.as_slice(), mem);
+        let number = shown_number(self.kinds.as_slice(), self.shown.as_slice(), mem);
         self.others[number].state.word_count()
     }
 
@@ -152,8 +144,8 @@ impl<'a> Flat<'a> {
         if let Phase::Stopped(port) = self.phase {
             return Err(Conflict { port });
         }
-        fill(
-            &self.program,
+        self.current = fill(
+            &self.programs,
             self.others.as_slice(),
             self.kept.as_slice(),
             inputs,
@@ -161,7 +153,7 @@ impl<'a> Flat<'a> {
         );
         match find_conflict(
             &self.table.names,
-            self.program.clashes.as_slice(),
+            self.programs.at(self.current).clashes.as_slice(),
             self.slots.as_slice(),
         ) {
             None => {
@@ -181,12 +173,17 @@ impl<'a> Flat<'a> {
         ensures others { IfNotEvaluated self.old.phase (self.new ≡ self.old) }
     {
         if let Phase::Evaluated = self.phase {
+            let program = self.programs.at(self.current);
             step_kept(
-                self.program.next.as_slice(),
+                program.next.as_slice(),
                 self.slots.as_slice(),
                 self.kept.as_mut_slice(),
             );
-            step_others(self.slots.as_slice(), self.others.as_mut_slice());
+            step_others(
+                program.places.as_slice(),
+                self.slots.as_slice(),
+                self.others.as_mut_slice(),
+            );
             self.phase = Phase::Stepped;
         }
     }
@@ -197,7 +194,7 @@ impl<'a> Flat<'a> {
         ensures value { slice_get self.now.values port ≡ Some result.value }
         ensures width { slice_get (port_widths (netlist_of self.now.net)) port ≡ Some result.width }
     {
-        let slot = self.program.ports[port] as usize;
+        let slot = self.programs.at(self.current).ports[port] as usize;
         Bits::wrap(self.slots[slot] as u128, self.table.ports[port].width)
     }
 
@@ -214,41 +211,6 @@ fn is_narrow(table: &Table) -> bool
     ensures { result ≡ true → All (λ (port : PortInfo). port.width ≤ 64) table.now.ports.items }
 {
     table.ports.iter().all(|port| port.width <= 64)
-}
-
-/// The slot of the first step, where all slots can be counted.
-fn step_base(kept: usize, inputs: usize, steps: usize) -> Result<usize, ProgramEnd>
-    ensures { IfOk result (λ base. (base ≡ kept + inputs) × (base + steps < 2 ^ 64)) }
-{
-    let Some(base) = kept.checked_add(inputs) else {
-        return Err(ProgramEnd::Memory);
-    };
-    if steps > usize::MAX - base {
-        return Err(ProgramEnd::Memory);
-    }
-    Ok(base)
-}
-
-/// Whether each slot that is named is one of `count`, and each operand of a step lies below it. The first step has the slot `base`.
-fn is_sound(base: usize, count: usize, program: &Program, others: &[Other]) -> bool
-    requires room { base + length (steps_in program.now) < 2 ^ 64 }
-    requires count { count ≡ base + length (steps_in program.now) }
-    requires counted { AreCounted others.now }
-    ensures { result ≡ true → IsSound base program.now others.now }
-{
-    let within = |slot: &u32| (*slot as usize) < count;
-    are_below(
-        program.runs.as_slice(),
-        base,
-        others,
-        program.choices.as_slice(),
-    ) && program.ports.iter().all(within)
-        && program.next.iter().all(within)
-        && program
-            .clashes
-            .iter()
-            .all(|clash| within(&clash.first) && within(&clash.second))
-        && others.iter().all(|other| other.places.iter().all(within))
 }
 
 /// The number of a shown memory among the cells that keep their states by themselves.
@@ -273,24 +235,24 @@ fn load_other(others: &mut [Other], number: usize, at: usize, word: Bits)
     other.state.load(at, word);
 }
 
-/// Fills the slots of a row: with what is kept, with the inputs, and with what the steps make.
-fn fill(program: &Program, others: &[Other], kept: &[u64], inputs: &[Bits], slots: &mut [u64])
-    requires room { length kept.now + length inputs.now + length (steps_in program.now) ≡ length slots.old }
+/// Fills the slots of a row: with what is kept, with the inputs, and with what the steps of a program make. It tells which.
+fn fill(
+    programs: &Programs,
+    others: &[Other],
+    kept: &[u64],
+    inputs: &[Bits],
+    slots: &mut [u64],
+) -> usize
+    requires room { programs.now.room ≡ length slots.old }
+    requires opening { length kept.now + length inputs.now ≤ length slots.old }
     requires inputs { All (λ (input : Bits). input.width ≤ 64) inputs.now }
-    requires below { AreBelow others.now program.now.choices.items (length kept.now + length inputs.now) (steps_in program.now) }
+    requires fit { AreFit (length kept.now + length inputs.now) others.now programs.now }
     requires others { AreNarrow others.now }
     ensures opened { AreOpened kept.now (values_of inputs.now) slots.new }
-    ensures made { AreMade others.now program.now.choices.items (length kept.now + length inputs.now) (steps_in program.now) slots.new }
+    ensures made { IsRunOf (length kept.now + length inputs.now) (program_at programs.now result) others.now slots.new }
 {
     open(slots, kept, inputs);
-    let base = kept.len() + inputs.len();
-    run_all(
-        program.runs.as_slice(),
-        base,
-        others,
-        program.choices.as_slice(),
-        slots,
-    );
+    programs.run(kept.len() + inputs.len(), others, slots)
 }
 
 /// Puts what is kept and the inputs into their slots.
@@ -306,22 +268,16 @@ fn open(slots: &mut [u64], kept: &[u64], inputs: &[Bits])
 }
 
 /// The cells that keep their states by themselves, in their opening states.
-fn others(
-    alloc: Global,
-    cells: &[CellPorts],
-    kinds: &[Kind],
-    ports: &[u32],
-) -> Result<Vec<Other>, ProgramEnd>
+fn others(alloc: Global, cells: &[CellPorts], kinds: &[Kind]) -> Result<Vec<Other>, ProgramEnd>
     requires made { All (λ (cell : CellPorts). IsMade cell.prim) cells.now }
     requires kinds { kinds.now ≡ kinds_of cells.now }
-    requires room { HaveRoom (length ports.now) cells.now }
-    ensures are { IfOk result (λ others. AreOthers cells.now ports.now others.items) }
+    ensures are { IfOk result (λ others. AreOthers cells.now others.items) }
     ensures opening { IfOk result (λ others. AreOpeningOthers others.items) }
 {
     let mut others = Vec::new(alloc);
     for (number, cell) in cells.iter().enumerate() {
         if let Kind::Other(_) = kinds[number] {
-            let other = other_of(alloc, *cell, ports)?;
+            let other = other_of(alloc, *cell)?;
             others.push(other)?;
         }
     }
@@ -329,19 +285,16 @@ fn others(
 }
 
 /// A cell that keeps its state by itself, in its opening state.
-fn other_of(alloc: Global, cell: CellPorts, ports: &[u32]) -> Result<Other, ProgramEnd>
-    requires made { IsMade cell.prim }
-    requires room { cell.first + length (inputs_of cell.prim) ≤ length ports.now }
-    ensures is { IfOk result (IsOther ports.now cell) }
+fn other_of(alloc: Global, cell: CellPorts) -> Result<Other, ProgramEnd>
+    requires { IsMade cell.prim }
+    ensures is { IfOk result (IsOther cell) }
     ensures opening { IfOk result (λ other. other.state.state ≡ opening_state other.state.prim []) }
 {
     let widths = input_widths(alloc, cell.prim)?;
-    let places = input_places(cell, ports);
     let state = HeldState::new(alloc, cell.prim)?;
     Ok(Other {
         state,
         widths,
-        places,
         outputs: cell.prim.outputs(),
     })
 }
@@ -359,16 +312,4 @@ fn input_widths(alloc: Global, prim: Prim) -> Result<Vec<u8>, ProgramEnd>
         widths.push(port.width)?;
     }
     Ok(widths)
-}
-
-/// The slots of a cell's inputs.
-fn input_places(cell: CellPorts, ports: &[u32]) -> Places
-    requires { cell.first + length (inputs_of cell.prim) ≤ length ports.now }
-    ensures { take (length (inputs_of cell.prim)) result ≡ cell_inputs ports.now cell }
-{
-    let mut places = [0; INPUTS];
-    for number in 0..cell.prim.inputs() {
-        places[number] = ports[cell.first + number];
-    }
-    places
 }

@@ -257,14 +257,26 @@ impl Maker {
         }
     }
 
+    /// Assignments to a port by the number that another has; now and then two ask for one number, which may be a Conflict.
     fn drive_by_number(&mut self, port: &str, width: u128) -> Result<(), AllocError> {
         let [_, by, _, _] = self.widths;
         let on = self.source(by)?;
-        for number in 0..3usize {
-            let guard = format!(in self.alloc; "({on} == {by}'d{number})")?;
+        for number in 0..4usize {
+            let asked = if self.random.below(8) == 0 { 2 } else { number };
+            let guard = self.asking(on.as_str(), by, asked)?;
             self.set(port, guard.as_str(), width)?;
         }
         Ok(())
+    }
+
+    /// A guard that asks a port of this width for a number, and sometimes for more.
+    fn asking(&mut self, on: &str, by: u128, number: usize) -> Result<String, AllocError> {
+        if self.random.below(3) == 0 {
+            let other = self.atom()?;
+            format!(in self.alloc; "(({on} == {by}'d{number}) & {other})")
+        } else {
+            format!(in self.alloc; "({on} == {by}'d{number})")
+        }
     }
 
     fn drive_by_any(&mut self, port: &str, width: u128) -> Result<(), AllocError> {

@@ -33,6 +33,7 @@ pub record IsNumbered (n : Netlist) (numbered : Numbered) : Type 0 where
   pub kept : numbered.kinds.kept ≡ kept_in numbered.cells.now
   pub guards : AreGuards n numbered.guards.tests.items numbered.guards.starts.items
   pub first_tests : length numbered.first_tests.items ≡ length n.sets
+  pub ports : numbered.ports ≡ length (port_names n)
 
 -- ---- sources
 

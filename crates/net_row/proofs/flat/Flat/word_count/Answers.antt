@@ -3,6 +3,7 @@ use Rattle.net_core.specs.Netlist.{netlist_of}
 use Rattle.net_sim.specs.Shown.{shown_cells}
 use Rattle.net_sim.specs.Sim.{SimValue, IsWordCountOfSim}
 use Rattle.net_row.proofs.FlatSimLemmas.{has_shown_in, found_in, within_in, read_in, count_is}
+use Rattle.net_row.specs.Flats.{current_program}
 use Rattle.net_row.proofs.flat.Flat.word_count.Goals as goal
 
 pub shown_number-number-requires : goal.shown_number-number-requires
@@ -27,4 +28,4 @@ returns c =
     let found = found_in flat is c.args.mem number c.as_slice.result.now c.as_slice-2.result.now c.as_slice.ensures.value c.as_slice-2.ensures.value lt c.shown_number-number.ensures in
     let here = read_in flat is c.args.mem number c.as_slice.result.now c.as_slice-2.result.now c.as_slice.ensures.value c.as_slice-2.ensures.value lt c.shown_number-number.ensures c.index.result.now c.index.ensures in
     subst (λ (o : SimValue). IsWordCountOfSim o c.args.mem c.word_count.result) c.self.view_is
-    (count_is flat.net.now flat.table.now flat.program flat.shown.items is.built flat.others.items flat.kept.items flat.slots.items is.are c.args.mem number c.word_count.result c.index.result.now lt found here c.word_count.ensures.prim c.word_count.ensures.state flat.phase)
+    (count_is flat.net.now flat.table.now flat.kinds.items (current_program flat) flat.shown.items is.built flat.others.items flat.kept.items flat.slots.items is.are c.args.mem number c.word_count.result c.index.result.now lt found here c.word_count.ensures.prim c.word_count.ensures.state flat.phase)

@@ -1,6 +1,6 @@
 use Rattle.std.proofs.Common.{◌≡◌, ℕ, ◌+◌, ◌<◌, length}
 use Rattle.std.specs.Prelude.{slice_index}
-use Rattle.net_row.proofs.flat.input_places.Given as goal
+use Rattle.net_row.proofs.places.input_places.Given as goal
 
 abbrev pub invariant-loop-number : goal.invariant-loop-number
 invariant-loop-number l = record {

@@ -3,7 +3,7 @@ use Rattle.std.proofs.lemmas.List.{get_or-take}
 use Rattle.hw_prims.specs.Table.{inputs_of}
 use Rattle.net_sim.proofs.PortLemmas.{part_is}
 use Rattle.net_row.proofs.FlatKindLemmas.{few_inputs}
-use Rattle.net_row.proofs.flat.input_places.Goals as goal
+use Rattle.net_row.proofs.places.input_places.Goals as goal
 
 pub bounds-places-number : goal.bounds-places-number
 bounds-places-number c = omega (arith, few_inputs c.args.cell.prim)
