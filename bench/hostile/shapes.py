@@ -337,11 +337,20 @@ def fil_reach(count):
     return fil(f"comp Wide<G: 1>({ins}) -> ({outs}) {{\n{body}}}\n{use}")
 
 
-def long_names(count):
-    """A cell with a name as long as the text of its component, which leads so many inputs to as many outputs."""
+def lead(count):
+    """A component that leads so many inputs to as many outputs."""
     ins, outs = (", ".join(f"{side}{i}: 1" for i in range(count)) for side in "ao")
-    lead = component(wires="".join(f"o{i} = a{i};\n" for i in range(count)), name="lead", face=f"({ins}) -> ({outs})")
-    return cal(lead + component("x" * len(lead) + " = lead();"))
+    return component(wires="".join(f"o{i} = a{i};\n" for i in range(count)), name="lead", face=f"({ins}) -> ({outs})")
+
+
+def long_names(count):
+    """A cell of it with a name as long as the text of its component."""
+    return cal(lead(count) + component("x" * len(lead(count)) + " = lead();"))
+
+
+def long_name_loop(count):
+    """The same beside a loop, for which ports are put in the order of their full names."""
+    return cal(lead(count) + component("w = std_wire(1); " + "x" * len(lead(count)) + " = lead();", "w.in = w.out;"))
 
 
 def fil_long_names(count):

@@ -115,6 +115,8 @@ TABLE = [
     Row(shapes.together, 9_000, "check f.futil|net f.futil", done, makes=True),
     Row(shapes.cal_loop, 20_000, "check f.futil", begins("refused C12 main item 0 loop w00000.in w00001.out w00001.in ")),
     Row(shapes.long_names, 4_000, "check f.futil", accepted),
+    Row(shapes.fil_long_names, 4_000, "check f.fil", accepted),
+    Row(shapes.long_name_loop, 4_000, "check f.futil", ends("refused C12 main item 0 loop w.in w.out")),
     Row(shapes.many_cells, 20_000, "check f.futil", begins("limit weight ")),
     Row(shapes.many_instances, 14_000, "check f.fil", begins("limit weight ")),
 ]
@@ -128,7 +130,6 @@ KNOWN = [
     Row(shapes.cal_reach, 8_000, "check f.futil", accepted),
     Row(shapes.cal_reach_cells, 400, "check f.futil", accepted),
     Row(shapes.fil_reach, 8_000, "check f.fil", accepted),
-    Row(shapes.fil_long_names, 4_000, "check f.fil", accepted),
     Row(shapes.meeting_wires, 50_000, "check f.net", accepted),
     Row(shapes.meeting_instances, 40_000, "check f.fil", accepted),
 ]
