@@ -65,13 +65,6 @@ impl<'a> Model for Tokens<'a> {
     ghost invariant = { λ t. AreTokens t.dialect t.source.now t.tokens.items };
 }
 
-/// The same tokens in just the room that they take: a list that grew may hold twice as much.
-fn in_exact_room(alloc: Global, tokens: &[Token]) -> Result<Vec<Token>, Memory>
-    ensures { IfOk result (λ exact. exact.items ≡ tokens.now) }
-{
-    Ok(Vec::from_slice(alloc, tokens)?)
-}
-
 /// The tokens of a text. `Fault` exactly where it has none; `at` is the first byte at which nothing starts.
 pub fn lex<'a>(alloc: Global, text: &'a [u8], dialect: Dialect) -> Result<Tokens<'a>, LexEnd>
     ensures text { IfOk result (λ t. (t.dialect ≡ dialect) × (t.source ≡ text.now)) }
@@ -95,7 +88,7 @@ pub fn lex<'a>(alloc: Global, text: &'a [u8], dialect: Dialect) -> Result<Tokens
     Ok(Tokens {
         dialect,
         source: text,
-        tokens: in_exact_room(alloc, &tokens)?,
+        tokens,
     })
 }
 
