@@ -102,12 +102,30 @@ fn both_slots(steps: &mut Steps, a: u32, not_a: bool, b: u32, not_b: bool) -> Re
     ensures { IfOk result
         (AddsTruth steps.old steps.new (λ slots. is_true slots (Truth.Slot a not_a) && is_true slots (Truth.Slot b not_b))) }
 {
+    if a == b {
+        return Ok(twice(a, not_a, not_b));
+    }
     Ok(match (not_a, not_b) {
         (false, false) => at(steps.define(Operation::Both { a, b })?),
         (false, true) => at(steps.define(Operation::ButNot { a, b })?),
         (true, false) => at(steps.define(Operation::ButNot { a: b, b: a })?),
         (true, true) => at(steps.define(Operation::Either { a, b })?).not(),
     })
+}
+
+/// True where a slot is, negated or not, and again so: never, where only one of the two is negated.
+fn twice(slot: u32, first: bool, again: bool) -> Truth
+    ensures { (slots : List ℕ) →
+        is_true slots result ≡ (is_true slots (Truth.Slot slot first) && is_true slots (Truth.Slot slot again)) }
+{
+    if first == again {
+        Truth::Slot {
+            slot,
+            negated: first,
+        }
+    } else {
+        Truth::Fixed(false)
+    }
 }
 
 /// True where either is.

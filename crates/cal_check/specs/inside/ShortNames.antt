@@ -1,5 +1,6 @@
 -- Short names of ports and holes, which stand in the order of the full names. This project's.
-use Rattle.std.specs.Prelude.{◌≡◌, ◌≢◌, ℕ, List, [], ◌∷◌, ◌++◌, ◌<◌, ◌^◌, cond, true, false, Option, Some, None, IfSome, length, slice_get, slice_index, slice_index_or}
+use Rattle.std.specs.Prelude.{◌≡◌, ◌≢◌, ℕ, List, [], ◌∷◌, ◌++◌, ◌<◌, ◌^◌, cond, true, false, Option, Some, None, IfSome}
+use Rattle.std.specs.Prelude.{length, slice_get, slice_index, slice_index_or}
 use Rattle.std.specs.Cmp.Lexicographic.{slice_cmp}
 use Rattle.std.specs.Int.{to_be_bytes, w32}
 use Rattle.std.specs.Ordering.{nat_cmp}

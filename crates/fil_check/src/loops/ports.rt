@@ -1,7 +1,7 @@
 //! The ports of a component and of its instances, by numbers.
 //!
 //! A port is known by the number of its instance and that of its own name, so the length of an instance's name is not paid for
-//! at each port. Full names are made only where the ports are put in order.
+//! at each port. Full names are made only where there is a loop to be told.
 ghost use Rattle.std.specs.Prelude.{◌≡◌, ◌⊎◌, ◌<◌, ◌^◌, ◌+◌, [], ◌∷◌, ◌++◌, Some, Contains, List, drop, length, slice_get, slice_index_or, IfNone, IfOk, IfSome, OnOk};
 ghost use Rattle.hw_names.specs.Name.{AreDistinct, HasNoDot, KeepsTexts, Text, dot, dotted};
 ghost use Rattle.fil_check.specs.inside.Ports.{AreDifferent, IsFit, PortList, full_name_in};
