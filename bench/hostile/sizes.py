@@ -117,7 +117,6 @@ TABLE = [
     Row(shapes.long_names, 4_000, "check f.futil", accepted),
     Row(shapes.fil_long_names, 4_000, "check f.fil", accepted),
     Row(shapes.long_name_loop, 4_000, "check f.futil", ends("refused C12 main item 0 loop w.in w.out")),
-    Row(shapes.many_cells, 20_000, "check f.futil", begins("limit weight ")),
     Row(shapes.many_instances, 14_000, "check f.fil", begins("limit weight ")),
 ]
 
@@ -127,6 +126,7 @@ KNOWN = [
     Row(shapes.cal_many_nots, 12_000, "check f.futil", accepted),
     Row(shapes.enables, 300_000, "check f.futil", accepted),
     Row(shapes.enables, 500_000, "net f.futil", done, makes=True),
+    Row(shapes.many_cells, 20_000, "check f.futil", begins("limit weight ")),
     Row(shapes.cal_reach, 8_000, "check f.futil", accepted),
     Row(shapes.cal_reach_cells, 400, "check f.futil", accepted),
     Row(shapes.fil_reach, 8_000, "check f.fil", accepted),
@@ -184,10 +184,10 @@ def try_over(program, folder, row):
             yield f"{row.shape.__name__} {row.size + 1}, {command}: {wrong or said}"[:300]
 
 
-def try_row(program, folder, row, halved=True):
-    """The faults at the size of a row, and, if it is also halved, in growth. What a run costs is printed."""
+def try_row(program, folder, row):
+    """The faults at the size of a row, and in growth where it is no small limit. What a run costs is printed."""
     halves = {}
-    if halved and row.size > 1000 and row.size != FULL:
+    if row.size > 300 and row.size != FULL:
         write(folder, row.shape(row.size // 2))
         halves = {command: measure_twice(program, command.split(), folder)[1] for command in row.commands.split("|")}
     write(folder, row.shape(row.size))
@@ -213,7 +213,7 @@ def main():
         if row.shape in (shapes.meeting_wires, shapes.meeting_instances) and not shapes.MEETING:
             print(f"skipped: {row.shape.__name__}, since there are no such names")
             continue
-        wrong = [*try_row(program, folder, row, halved=False)]
+        wrong = [*try_row(program, folder, row)]
         print(*[f"known: {it}" for it in wrong] or [f"kept by now: {row.shape.__name__} {row.size}, {row.commands}"], sep="\n", flush=True)
     print(*[f"fault: {it}" for it in faults], f"faults: {len(faults)}", sep="\n")
     return 1 if faults else 0
