@@ -10,11 +10,13 @@ use Rattle.std.specs.Global.{Box}
 use Rattle.hw_names.proofs.NameLemmas.{same_number}
 use Rattle.hw_names.specs.Name.{Text, AreDistinct, text_of}
 use Rattle.net_core.proofs.GuardLemmas.{guard_tree-All, guard_tree-Any}
-use Rattle.net_core.specs.Guard.{GuardTree, Negates, AllOf, AnyOf, guards_of, source_tree}
+use Rattle.net_core.specs.Guard.{GuardTree, Reads, Compares, Negates, AllOf, AnyOf, guards_of, source_tree}
+use Rattle.net_core.specs.declared.net.Cmp.{Cmp}
+use Rattle.net_core.specs.declared.net.Src.{Src}
 use Rattle.net_core.specs.declared.net.Guard.{Guard, Row_of-Guard, end_of-Guard, more_of-Guard, items-the_row-Guard, items_hidden-the_row-Guard-0}
 use Rattle.net_core.specs.declared.net.Guard as code
 use Rattle.net_core.specs.declared.net.Guard.TheVariants as variants
-use Rattle.cal_ast.specs.Numbers.{GuardHasNumbers, GuardsHaveNumbers, SetHasNumbers, DoneHasNumbers}
+use Rattle.cal_ast.specs.Numbers.{SourceHasNumbers, GuardHasNumbers, GuardsHaveNumbers, SetHasNumbers, DoneHasNumbers}
 use Rattle.cal_ast.specs.Tree.{PortName, Assignment, DoneLine, port_tree, assignment_tree, done_tree}
 use Rattle.cal_ast.specs.declared.tree.Assign.{Assign}
 use Rattle.cal_ast.specs.declared.tree.CalCell.{CalCell}
@@ -86,8 +88,18 @@ numbers_from names v h =
     let P : List (Guard CalPort) → Type 0 = AllByRecursion (GuardHasNumbers names) in
     row_from names r.0 r.1 (subst P (sym (items_hidden-the_row-Guard-0 CalPort v)) (recursion_from_All (GuardHasNumbers names) v.items h))
 
-pub copy_itself : (g : Guard CalPort) → IsGuardCopy g g
-copy_itself g = record { numbers = λ names h. h; tree = λ names. refl }
+-- sources in boxes of their own
+pub copy_read : (s made : Box (Src CalPort)) → made.value ≡ s.value → IsGuardCopy (variants.Read s) (variants.Read made)
+copy_read s made same = record {
+  numbers = λ names h. let N : Src CalPort → Type 0 = SourceHasNumbers names in subst N (sym same) h;
+  tree = λ names. ap (λ (src : Src CalPort). Reads (source_tree (port_tree names) src)) same;
+}
+
+pub copy_test : (op : Cmp) (a b left right : Box (Src CalPort)) → left.value ≡ a.value → right.value ≡ b.value → IsGuardCopy (variants.Test op a b) (variants.Test op left right)
+copy_test op a b left right same-left same-right = record {
+  numbers = λ names h. let N : Src CalPort → Type 0 = SourceHasNumbers names in (subst N (sym same-left) h.0, subst N (sym same-right) h.1);
+  tree = λ names. ap₂ (λ (x y : Src CalPort). Compares op (source_tree (port_tree names) x) (source_tree (port_tree names) y)) same-left same-right;
+}
 
 -- guards of a list that is to hold whole, and of one of which one is to hold
 pub copy_all : (v copies : Vec (Guard CalPort) Global) → AllZip IsGuardCopy v.items copies.items → IsGuardCopy (variants.All v) (variants.All copies)

@@ -39,9 +39,14 @@ pub fn copy_guard(alloc: Global, guard: &Guard<CalPort>) -> Result<Guard<CalPort
                 count += 1;
                 inner = operand;
             }
-            Guard::Read(src) => return negate(alloc, Guard::Read(*src), count),
+            Guard::Read(src) => {
+                let src = Box::new(alloc, **src)?;
+                return negate(alloc, Guard::Read(src), count);
+            }
             Guard::Test(op, left, right) => {
-                return negate(alloc, Guard::Test(*op, *left, *right), count);
+                let left = Box::new(alloc, **left)?;
+                let right = Box::new(alloc, **right)?;
+                return negate(alloc, Guard::Test(*op, left, right), count);
             }
             Guard::All(guards) => {
                 let guards = copy_guards(alloc, guards)?;

@@ -7,12 +7,13 @@ use Rattle.std.specs.Global.{Box}
 use mathlib.Core.Former.{Count}
 use Rattle.hw_names.specs.Name.{Text}
 use Rattle.net_core.proofs.GuardLemmas.{guard_tree-All, guard_tree-Any}
-use Rattle.net_core.specs.Guard.{GuardTree, Reads, Negates, AllOf, AnyOf, guards_of}
+use Rattle.net_core.specs.Guard.{GuardTree, Reads, Negates, AllOf, AnyOf, guards_of, source_tree}
 use Rattle.net_core.specs.declared.net.Guard.{Guard, Row_of-Guard, end_of-Guard, more_of-Guard, items-the_row-Guard, items_hidden-the_row-Guard-0}
 use Rattle.net_core.specs.declared.net.Guard as code
 use Rattle.net_core.specs.declared.net.Guard.TheVariants as variants
+use Rattle.net_core.specs.declared.net.Src.{Src}
 use Rattle.net_core.specs.declared.net.Src.TheVariants.{Port, Lit}
-use Rattle.cal_ast.specs.Numbers.{GuardHasNumbers, GuardsHaveNumbers}
+use Rattle.cal_ast.specs.Numbers.{SourceHasNumbers, GuardHasNumbers, GuardsHaveNumbers}
 use Rattle.cal_ast.specs.Tree.{PortName, port_tree}
 use Rattle.cal_ast.specs.declared.tree.CalPort.{CalPort}
 use Rattle.cal_lower.specs.Pieces.{all_of, any_of, both, either, reads}
@@ -61,14 +62,17 @@ list_numbers names g v (inr e) h = let P : Guard CalPort → Type 0 = GuardHasNu
 module _ (names : List Text) where
   -- ---- one guard
 
-  pub reads_shown : (tree : PortName) (p : CalPort) → ShowsPort names tree p → ShowsGuard names (reads tree) (variants.Read (Port p))
-  reads_shown tree p h = record {
-    tree = λ later more. ap (λ (q : PortName). Reads (Port q)) (h.tree later more);
-    numbers = λ later more. h.numbers later more;
+  pub reads_shown : (tree : PortName) (p : CalPort) (b : Box (Src CalPort)) → b.value ≡ Port p → ShowsPort names tree p → ShowsGuard names (reads tree) (variants.Read b)
+  reads_shown tree p b is h = record {
+    tree = λ later more. ap (λ (s : Src CalPort). Reads (source_tree (port_tree later) s)) is ∙ ap (λ (q : PortName). Reads (Port q)) (h.tree later more);
+    numbers = λ later more. let N : Src CalPort → Type 0 = SourceHasNumbers later in subst N (sym is) (h.numbers later more);
   }
 
-  pub literal_shown : (value : ℕ) → ShowsGuard names (Reads (Lit 1 value)) (variants.Read (Lit 1 value))
-  literal_shown value = record { tree = λ later more. refl; numbers = λ later more. tt }
+  pub literal_shown : (value : ℕ) (b : Box (Src CalPort)) → b.value ≡ Lit 1 value → ShowsGuard names (Reads (Lit 1 value)) (variants.Read b)
+  literal_shown value b is = record {
+    tree = λ later more. ap (λ (s : Src CalPort). Reads (source_tree (port_tree later) s)) is;
+    numbers = λ later more. let N : Src CalPort → Type 0 = SourceHasNumbers later in subst N (sym is) tt;
+  }
 
   pub negates_shown : (tree : GuardTree PortName) (g : Guard CalPort) (b : Box (Guard CalPort)) → b.value ≡ g → ShowsGuard names tree g → ShowsGuard names (Negates tree) (variants.Not b)
   negates_shown tree g b is h = record {
@@ -127,11 +131,12 @@ module _ (names : List Text) where
           All-head (GuardHasNumbers later) g [] (subst A is (h.numbers later more));
     }
 
-    pub none_shown : (of : List (GuardTree PortName) → GuardTree PortName) (value : ℕ) → items ≡ [] → of [] ≡ Reads (Lit 1 value) → ShowsGuard names (of trees) (variants.Read (Lit 1 value))
-    none_shown of value is empty =
+    pub none_shown : (of : List (GuardTree PortName) → GuardTree PortName) (value : ℕ) (b : Box (Src CalPort)) → b.value ≡ Lit 1 value → items ≡ [] → of [] ≡ Reads (Lit 1 value)
+        → ShowsGuard names (of trees) (variants.Read b)
+    none_shown of value b literal is empty =
         let trees_are : [] ≡ trees = ap (map (seen_guard names)) (sym is) ∙ h.trees names (KeepsTexts-refl names) in
-        let P : GuardTree PortName → Type 0 = λ t. ShowsGuard names t (variants.Read (Lit 1 value)) in
-        subst P (sym empty ∙ ap of trees_are) (literal_shown value)
+        let P : GuardTree PortName → Type 0 = λ t. ShowsGuard names t (variants.Read b) in
+        subst P (sym empty ∙ ap of trees_are) (literal_shown value b literal)
 
   pub no_trees : (trees : List (GuardTree PortName)) (items : List (Guard CalPort)) → ShowsGuards names trees items → items ≡ [] → [] ≡ trees
   no_trees trees items h is = ap (map (seen_guard names)) (sym is) ∙ h.trees names (KeepsTexts-refl names)

@@ -35,7 +35,7 @@ fn group_names(alloc: Global, names: &Names, groups: &[Group]) -> Result<Names, 
     requires { All (λ (group : GroupOf). IsNumberOf names.now group.name) groups.now }
     ensures { IfOk result (λ known. All (λ (group : GroupOf). Contains known (text_of names.now group.name)) groups.now) }
 {
-    let mut known = Names::new(alloc);
+    let mut known = names.beside();
     for group in groups {
         let _number = add_name(&mut known, names.text(group.name))?;
     }

@@ -114,10 +114,10 @@ fn rule_when(
     ensures guard { IfOk result (ShowsGuard labels.new.names (rule_when bare (text_of labels.old.names group))) }
 {
     if bare {
-        return Ok(never());
+        return never(alloc);
     }
     let acts = labels.port(alloc, Label::Acts(group))?;
-    Ok(reads(acts))
+    reads(alloc, acts)
 }
 
 /// Puts the rules of the groups of a component last, which has this number.

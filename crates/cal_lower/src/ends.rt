@@ -41,7 +41,7 @@ fn port_or(
         → IfOk result (ShowsGuard labels.new.names (either (reads tree) (is_set (label_text labels.old.names label)))) }
 {
     let other = labels.port(alloc, label)?;
-    either(alloc, reads(port), reads(other))
+    either(alloc, reads(alloc, port)?, reads(alloc, other)?)
 }
 
 /// What the part enables is enabled: the part starts, or goes on.
@@ -79,7 +79,7 @@ pub(crate) fn part_ends(
     ensures guard { IfOk result (ShowsGuard labels.new.names (part_ends number)) }
 {
     let port = labels.port(alloc, Label::Ends(number))?;
-    Ok(reads(port))
+    reads(alloc, port)
 }
 
 /// An enabled group: where it ends, whether it goes on, and that it is enabled.
@@ -99,7 +99,7 @@ pub(crate) fn push_enable(
 {
     let done = labels.port(alloc, Label::Done(group))?;
     let acting = enabled(alloc, labels, at)?;
-    let ends = both(alloc, acting, reads(done))?;
+    let ends = both(alloc, acting, reads(alloc, done)?)?;
     let drive = one_when(ends);
     parts
         .pieces
@@ -198,7 +198,12 @@ pub(crate) fn push_all_end(
         (list ++ ends_wire number (AtOnce (plans_from item (statements_from (map (statement_tree source) statements.now)))) start ∷ []) pieces.new) }
 {
     let guards = all_ended(alloc, labels, after(number)?, statements)?;
-    pieces.push(alloc, labels, Label::Ends(number), one_when(all_of(guards)))
+    pieces.push(
+        alloc,
+        labels,
+        Label::Ends(number),
+        one_when(all_of(alloc, guards)?),
+    )
 }
 
 /// One of statements at once: that it has ended is kept until all of them have, the part with the number `all`.
@@ -243,13 +248,16 @@ fn chooses_nothing(
         → IfOk result (λ guards. ShowsGuards names (chooses_nothing (reads begin) tested on_over off_over) guards.items) }
 {
     if on_over && off_over {
-        return alone(alloc, reads(start));
+        return alone(alloc, reads(alloc, start)?);
     }
     if on_over {
-        return alone(alloc, both(alloc, reads(start), reads(port))?);
+        return alone(
+            alloc,
+            both(alloc, reads(alloc, start)?, reads(alloc, port)?)?,
+        );
     }
     if off_over {
-        return alone(alloc, unless(alloc, reads(start), port)?);
+        return alone(alloc, unless(alloc, reads(alloc, start)?, port)?);
     }
     Ok(Vec::new(alloc))
 }
@@ -291,7 +299,7 @@ fn choice_ends(
     let mut guards = chooses_nothing(alloc, start, choice.test.port, on_over, off_over)?;
     push_part_ends(alloc, labels, &mut guards, &choice.on)?;
     push_part_ends(alloc, labels, &mut guards, &choice.off)?;
-    Ok(any_of(guards))
+    any_of(alloc, guards)
 }
 
 /// The guard of a test goes to the group that acts then, if there is one.
@@ -335,7 +343,12 @@ pub(crate) fn push_choice(
     parts
         .pieces
         .push(alloc, labels, Label::Ends(at.number), ends)?;
-    push_test(labels, &mut parts.acts, choice.test.by, reads(at.start))
+    push_test(
+        labels,
+        &mut parts.acts,
+        choice.test.by,
+        reads(alloc, at.start)?,
+    )
 }
 
 /// In the next row the loop is tested again: its body ends, or is over and the port is 1 in a test.
@@ -354,7 +367,7 @@ fn again(
 {
     if is_over(body.control) {
         let tested = tested(alloc, labels, at)?;
-        both(alloc, tested, reads(port))
+        both(alloc, tested, reads(alloc, port)?)
     } else {
         part_ends(alloc, labels, body.number)
     }

@@ -36,9 +36,9 @@ fn acts_guard(
 {
     let wanted = acts.wanted(labels.names.text(group.name));
     if group.comb {
-        return Ok(any_of(copy_guards(alloc, &wanted.tested)?));
+        return any_of(alloc, copy_guards(alloc, &wanted.tested)?);
     }
-    let enabled = any_of(copy_guards(alloc, &wanted.enabled)?);
+    let enabled = any_of(alloc, copy_guards(alloc, &wanted.enabled)?)?;
     let done = labels.port(alloc, Label::Done(group.name))?;
     unless(alloc, enabled, done)
 }

@@ -12,17 +12,17 @@ use net_core::{Guard, Src};
 use std::alloc::Global;
 
 /// The port is 1.
-pub(crate) fn reads(port: CalPort) -> Guard<CalPort>
-    ensures { (names : List Text) (tree : PortName) → ShowsPort names tree port → ShowsGuard names (reads tree) result }
+pub(crate) fn reads(alloc: Global, port: CalPort) -> Result<Guard<CalPort>, Memory>
+    ensures { (names : List Text) (tree : PortName) → ShowsPort names tree port → IfOk result (ShowsGuard names (reads tree)) }
 {
-    Guard::Read(Src::Port(port))
+    Ok(Guard::Read(Box::new(alloc, Src::Port(port))?))
 }
 
 /// No row.
-pub(crate) fn never() -> Guard<CalPort>
-    ensures { (names : List Text) → ShowsGuard names never result }
+pub(crate) fn never(alloc: Global) -> Result<Guard<CalPort>, Memory>
+    ensures { (names : List Text) → IfOk result (ShowsGuard names never) }
 {
-    Guard::Read(Src::Lit { width: 1, value: 0 })
+    Ok(Guard::Read(Box::new(alloc, Src::Lit { width: 1, value: 0 })?))
 }
 
 /// The guard is not true.
@@ -71,28 +71,36 @@ pub(crate) fn both(
 }
 
 /// One of the guards is true; of none, in no row.
-pub(crate) fn any_of(mut guards: Vec<Guard<CalPort>>) -> Guard<CalPort>
-    ensures { (names : List Text) (trees : List (GuardTree PortName)) → ShowsGuards names trees guards.items → ShowsGuard names (any_of trees) result }
+pub(crate) fn any_of(
+    alloc: Global,
+    mut guards: Vec<Guard<CalPort>>,
+) -> Result<Guard<CalPort>, Memory>
+    ensures { (names : List Text) (trees : List (GuardTree PortName)) → ShowsGuards names trees guards.items
+        → IfOk result (ShowsGuard names (any_of trees)) }
 {
     if guards.len() >= 2 {
-        return Guard::Any(guards);
+        return Ok(Guard::Any(guards));
     }
     match guards.pop() {
-        Some(guard) => guard,
-        None => never(),
+        Some(guard) => Ok(guard),
+        None => never(alloc),
     }
 }
 
 /// All of the guards are true; of none, in each row.
-pub(crate) fn all_of(mut guards: Vec<Guard<CalPort>>) -> Guard<CalPort>
-    ensures { (names : List Text) (trees : List (GuardTree PortName)) → ShowsGuards names trees guards.items → ShowsGuard names (all_of trees) result }
+pub(crate) fn all_of(
+    alloc: Global,
+    mut guards: Vec<Guard<CalPort>>,
+) -> Result<Guard<CalPort>, Memory>
+    ensures { (names : List Text) (trees : List (GuardTree PortName)) → ShowsGuards names trees guards.items
+        → IfOk result (ShowsGuard names (all_of trees)) }
 {
     if guards.len() >= 2 {
-        return Guard::All(guards);
+        return Ok(Guard::All(guards));
     }
     match guards.pop() {
-        Some(guard) => guard,
-        None => Guard::Read(Src::Lit { width: 1, value: 1 }),
+        Some(guard) => Ok(guard),
+        None => Ok(Guard::Read(Box::new(alloc, Src::Lit { width: 1, value: 1 })?)),
     }
 }
 
@@ -105,6 +113,6 @@ pub(crate) fn unless(
     ensures { (names : List Text) (tree : GuardTree PortName) (bit : PortName) → ShowsGuard names tree guard → ShowsPort names bit port
         → IfOk result (ShowsGuard names (both tree (Negates (reads bit)))) }
 {
-    let not = negate(alloc, reads(port))?;
+    let not = negate(alloc, reads(alloc, port)?)?;
     both(alloc, guard, not)
 }

@@ -47,10 +47,10 @@ fn start_guard(alloc: Global, labels: &mut Labels) -> Result<Guard<CalPort>, Mem
     let busy = labels.port(alloc, Label::Busy)?;
     let over = labels.port(alloc, Label::Over)?;
     let mut guards = Vec::new(alloc);
-    guards.push(reads(go))?;
-    guards.push(negate(alloc, reads(busy))?)?;
-    guards.push(negate(alloc, reads(over))?)?;
-    Ok(all_of(guards))
+    guards.push(reads(alloc, go)?)?;
+    guards.push(negate(alloc, reads(alloc, busy)?)?)?;
+    guards.push(negate(alloc, reads(alloc, over)?)?)?;
+    all_of(alloc, guards)
 }
 
 /// Control ends: of a section that takes no row, where it starts.
@@ -65,7 +65,7 @@ fn control_ends(
 {
     if is_nothing(control) {
         let start = labels.port(alloc, Label::Start)?;
-        return Ok(reads(start));
+        return reads(alloc, start);
     }
     part_ends(alloc, labels, 0)
 }
@@ -82,7 +82,7 @@ fn busy_guard(
 {
     let start = labels.port(alloc, Label::Start)?;
     let busy = labels.port(alloc, Label::Busy)?;
-    let runs = either(alloc, reads(start), reads(busy))?;
+    let runs = either(alloc, reads(alloc, start)?, reads(alloc, busy)?)?;
     let ends = control_ends(alloc, labels, control)?;
     let not_ends = negate(alloc, ends)?;
     both(alloc, runs, not_ends)

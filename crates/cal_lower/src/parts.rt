@@ -65,10 +65,10 @@ pub(crate) fn push_part(
                 control: no,
             };
             push_choice(alloc, labels, parts, &Choice { test, on, off }, at)?;
-            let next = both(alloc, reads(at.start), reads(test.port))?;
+            let next = both(alloc, reads(alloc, at.start)?, reads(alloc, test.port)?)?;
             let number = on.number;
             push_later(alloc, labels, parts, yes, Later { number, next })?;
-            let next = unless(alloc, reads(at.start), test.port)?;
+            let next = unless(alloc, reads(alloc, at.start)?, test.port)?;
             let number = off.number;
             push_later(alloc, labels, parts, no, Later { number, next })
         }
@@ -84,7 +84,7 @@ pub(crate) fn push_part(
             };
             push_loop(alloc, labels, parts, &Repeat { test, body: inner }, at)?;
             let tested = tested(alloc, labels, at)?;
-            let next = both(alloc, tested, reads(test.port))?;
+            let next = both(alloc, tested, reads(alloc, test.port)?)?;
             push_later(alloc, labels, parts, body, Later { number, next })
         }
         Control::Invoke { .. } => unreachable!(),

@@ -1,5 +1,6 @@
 -- Guards over numbers of ports, and what each guard of a list in a guard has.
 use Rattle.std.proofs.Common.{◌≡◌, ℕ, zero, suc, ◌+◌, ◌<◌, List, [], ◌∷◌, ◌++◌, length, get_or, map, All, refl, sym, subst, ap, ap₂, ◌∙◌, inl, inr, ◌⊎◌, arith, length-append, Vec, Global, Result, Ok, Err, IfOk}
+use Rattle.std.specs.Global.{Box}
 use Rattle.std.specs.List.{AllByRecursion}
 use Rattle.std.proofs.lemmas.List.{get_or_append_left, get_or-append-add}
 use Rattle.std.proofs.lemmas.List.Elements.{All-append, All-cons, All-from_recursion, All-get_or, All-head, All-nil, All-tail}
@@ -94,14 +95,23 @@ module _ (names ports : List Text) where
   source_within : (src : Src CalPort) (over : Src ℕ) → IsSourceOver names ports src over → AreWithin ports (source_ports (source_tree numbers_only over))
   source_within src over h = subst (λ (ks : List ℕ). AreWithin ports ks) (sym (same_ports over)) h.within
 
-  pub over_read : (src : Src CalPort) (over : Src ℕ) → IsSourceOver names ports src over → IsGuardOver names ports (variants.Read src) (variants.Read over)
-  over_read src over h = record { is = ap Reads h.is; within = source_within src over h }
+  -- a source over numbers that is put into a box, of one out of a box
+  pub over_boxed : (from : Box (Src CalPort)) (made : Box (Src ℕ)) (src : Src CalPort) (over : Src ℕ) → src ≡ from.value → made.value ≡ over → IsSourceOver names ports src over
+      → IsSourceOver names ports from.value made.value
+  over_boxed from made src over was put h =
+      let P : Src CalPort → Type 0 = λ s. IsSourceOver names ports s made.value in
+      let Q : Src ℕ → Type 0 = IsSourceOver names ports src in
+      subst P was (subst Q (sym put) h)
 
-  pub over_test : (op : Cmp) (a b : Src CalPort) (left right : Src ℕ) → IsSourceOver names ports a left → IsSourceOver names ports b right → IsGuardOver names ports (variants.Test op a b) (variants.Test op left right)
+  pub over_read : (s : Box (Src CalPort)) (made : Box (Src ℕ)) → IsSourceOver names ports s.value made.value → IsGuardOver names ports (variants.Read s) (variants.Read made)
+  over_read s made h = record { is = ap Reads h.is; within = source_within s.value made.value h }
+
+  pub over_test : (op : Cmp) (a b : Box (Src CalPort)) (left right : Box (Src ℕ)) → IsSourceOver names ports a.value left.value → IsSourceOver names ports b.value right.value
+      → IsGuardOver names ports (variants.Test op a b) (variants.Test op left right)
   over_test op a b left right first second =
       record {
         is = ap₂ (Compares op) first.is second.is;
-        within = All-append (λ k. k < length ports) _ _ (source_within a left first) (source_within b right second);
+        within = All-append (λ k. k < length ports) _ _ (source_within a.value left.value first) (source_within b.value right.value second);
       }
 
   -- guards of a list that is to hold whole, and of one of which one is to hold

@@ -47,11 +47,12 @@ module _ {P Q R : Type 0} (f : P → Q) (h : P → R) (A : Q → Type 0) (B : R 
 
   mutual
     guard_weaker : (g : Guard P) → All A (guard_ports (guard_tree f g)) → All B (guard_ports (guard_tree h g))
-    guard_weaker (code.Read s) all = source_weaker s all
+    guard_weaker (code.Read s) all = source_weaker s.value all
     guard_weaker (code.Test op a b) all =
-        let left = source_ports (source_tree f a) in
-        let right = source_ports (source_tree f b) in
-        All-append B (source_ports (source_tree h a)) (source_ports (source_tree h b)) (source_weaker a (all_left A left right all)) (source_weaker b (all_right A left right all))
+        let left = source_ports (source_tree f a.value) in
+        let right = source_ports (source_tree f b.value) in
+        All-append B (source_ports (source_tree h a.value)) (source_ports (source_tree h b.value))
+        (source_weaker a.value (all_left A left right all)) (source_weaker b.value (all_right A left right all))
     guard_weaker (code.Not' p g) all = guard_weaker g all
     guard_weaker (code.All' shape gs) all = guards_weaker gs all
     guard_weaker (code.Any' shape gs) all = guards_weaker gs all

@@ -37,11 +37,11 @@ module _ {P Q R : Type 0} (f : P → Q) (h : P → R) (seen : Q → ℕ) (other 
 
   mutual
     guard_alike : (g : Guard P) → All Alike (guard_ports (guard_tree (λ (p : P). p) g)) → holds seen (guard_tree f g) ≡ holds other (guard_tree h g)
-    guard_alike (code.Read s) all = ap (λ v. v == 1) (read_alike s all)
+    guard_alike (code.Read s) all = ap (λ v. v == 1) (read_alike s.value all)
     guard_alike (code.Test op a b) all =
-        let left = source_ports (source_tree (λ (p : P). p) a) in
-        let right = source_ports (source_tree (λ (p : P). p) b) in
-        ap₂ (compare_values op) (read_alike a (all_left Alike left right all)) (read_alike b (all_right Alike left right all))
+        let left = source_ports (source_tree (λ (p : P). p) a.value) in
+        let right = source_ports (source_tree (λ (p : P). p) b.value) in
+        ap₂ (compare_values op) (read_alike a.value (all_left Alike left right all)) (read_alike b.value (all_right Alike left right all))
     guard_alike (code.Not' p g) all = ap not (guard_alike g all)
     guard_alike (code.All' shape gs) all = all_alike gs all
     guard_alike (code.Any' shape gs) all = any_alike gs all

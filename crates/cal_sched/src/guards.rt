@@ -67,12 +67,14 @@ pub(crate) fn guard_over(
                 inner = operand;
             }
             Guard::Read(src) => {
-                let src = source_over(alloc, names, ports, *src)?;
-                return negate(alloc, Guard::Read(src), count);
+                let src = source_over(alloc, names, ports, **src)?;
+                return negate(alloc, Guard::Read(Box::new(alloc, src)?), count);
             }
             Guard::Test(op, left, right) => {
-                let left = source_over(alloc, names, ports, *left)?;
-                let right = source_over(alloc, names, ports, *right)?;
+                let left = source_over(alloc, names, ports, **left)?;
+                let right = source_over(alloc, names, ports, **right)?;
+                let left = Box::new(alloc, left)?;
+                let right = Box::new(alloc, right)?;
                 return negate(alloc, Guard::Test(*op, left, right), count);
             }
             Guard::All(guards) => {
@@ -162,9 +164,9 @@ fn holds(sim: &Sim, guard: &Guard<usize>) -> bool
                 negated = !negated;
                 inner = operand;
             }
-            Guard::Read(src) => return (value_of(sim, *src) == 1) != negated,
+            Guard::Read(src) => return (value_of(sim, **src) == 1) != negated,
             Guard::Test(op, left, right) => {
-                return compare(*op, value_of(sim, *left), value_of(sim, *right)) != negated;
+                return compare(*op, value_of(sim, **left), value_of(sim, **right)) != negated;
             }
             Guard::All(guards) => return all_hold(sim, guards) != negated,
             Guard::Any(guards) => return any_holds(sim, guards) != negated,

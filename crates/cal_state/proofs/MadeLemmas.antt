@@ -1,15 +1,17 @@
 -- What is made of threads and their states: cells, guards and assignments; and that it goes on to show them where names are added.
 use Rattle.std.proofs.Common.{◌≡◌, ℕ, List, [], ◌∷◌, ◌++◌, map, Option, Some, None, false, codes, refl, sym, ap, ap₂, subst, ◌∙◌, append-nil, Vec, Global}
+use Rattle.std.specs.Global.{Box}
 use Rattle.std.specs.List.{AllZip}
 use Rattle.std.proofs.lemmas.List.{map-append}
 use Rattle.hw_names.specs.Name.{KeepsTexts, Text}
 use Rattle.hw_names.specs.declared.names.NameId.{NameId}
-use Rattle.net_core.specs.Guard.{GuardTree, Compares, guard_tree}
+use Rattle.net_core.specs.Guard.{GuardTree, Compares, guard_tree, source_tree}
 use Rattle.net_core.specs.declared.net.Cmp.{Cmp}
 use Rattle.net_core.specs.declared.net.Guard.{Guard}
 use Rattle.net_core.specs.declared.net.Guard.TheVariants as variants
+use Rattle.net_core.specs.declared.net.Src.{Src}
 use Rattle.net_core.specs.declared.net.Src.TheVariants.{Lit, Port}
-use Rattle.cal_ast.specs.Numbers.{CellHasNumbers, GuardHasNumbers, SetHasNumbers}
+use Rattle.cal_ast.specs.Numbers.{CellHasNumbers, GuardHasNumbers, SetHasNumbers, SourceHasNumbers}
 use Rattle.cal_ast.specs.Tree.{PortName, port_of, port_tree, assignment_tree, cell_tree}
 use Rattle.cal_ast.specs.declared.tree.Assign.{Assign}
 use Rattle.cal_ast.specs.declared.tree.CalCell.{CalCell}
@@ -104,12 +106,16 @@ module _ (names : List Text) where
   }
 
   -- a port is compared to a literal
-  pub compare_shown : (how : Cmp) (port : PortName) (made : CalPort) (width value w : ℕ) → ShowsPort names port made → w ≡ width
-      → ShowsGuard names (Compares how (Port port) (Lit width value)) (variants.Test how (Port made) (Lit w value))
-  compare_shown how port made width value w port_is w_is = record {
+  pub compare_shown : (how : Cmp) (port : PortName) (made : CalPort) (width value w : ℕ) (left right : Box (Src CalPort)) → left.value ≡ Port made → right.value ≡ Lit w value
+      → ShowsPort names port made → w ≡ width → ShowsGuard names (Compares how (Port port) (Lit width value)) (variants.Test how left right)
+  compare_shown how port made width value w left right left_is right_is port_is w_is = record {
     tree = λ later more.
-        ap₂ (λ (p : PortName) (a : ℕ). Compares how (Port p) (Lit a value)) (port_is.tree later more) w_is;
-    numbers = λ later more. (port_is.numbers later more, tt);
+        let seen : Src CalPort → Src PortName = source_tree (port_tree later) in
+        ap₂ (λ (a b : Src CalPort). Compares how (seen a) (seen b)) left_is right_is
+        ∙ ap₂ (λ (p : PortName) (a : ℕ). Compares how (Port p) (Lit a value)) (port_is.tree later more) w_is;
+    numbers = λ later more.
+        let N : Src CalPort → Type 0 = SourceHasNumbers later in
+        (subst N (sym left_is) (port_is.numbers later more), subst N (sym right_is) tt);
   }
 
 -- two guards, one after another

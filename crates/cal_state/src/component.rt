@@ -34,15 +34,16 @@ pub(crate) struct Sets {
 }
 
 /// One of the guards is true; of none, in no row.
-fn any_of(mut guards: Vec<Guard<CalPort>>) -> Guard<CalPort>
-    ensures { (names : List Text) (trees : List (GuardTree PortName)) → ShowsGuards names trees guards.items → ShowsGuard names (any_of trees) result }
+fn any_of(alloc: Global, mut guards: Vec<Guard<CalPort>>) -> Result<Guard<CalPort>, Memory>
+    ensures { (names : List Text) (trees : List (GuardTree PortName)) → ShowsGuards names trees guards.items
+        → IfOk result (ShowsGuard names (any_of trees)) }
 {
     if guards.len() >= 2 {
-        return Guard::Any(guards);
+        return Ok(Guard::Any(guards));
     }
     match guards.pop() {
-        Some(guard) => guard,
-        None => Guard::Read(Src::Lit { width: 1, value: 0 }),
+        Some(guard) => Ok(guard),
+        None => Ok(Guard::Read(Box::new(alloc, Src::Lit { width: 1, value: 0 })?)),
     }
 }
 
@@ -55,9 +56,10 @@ fn busy_guard(
     ensures { (names : List Text) (plan : Plan) → AreTexts names texts → ShowsGuards names (map is_on (threads plan)) on.items
         → IfOk result (ShowsGuard names (busy_guard plan)) }
 {
-    let over = Guard::Read(Src::Port(port_of(texts.over, texts.output)));
+    let over = Box::new(alloc, Src::Port(port_of(texts.over, texts.output)))?;
+    let over = Guard::Read(over);
     let mut both = Vec::new(alloc);
-    both.push(any_of(on))?;
+    both.push(any_of(alloc, on)?)?;
     both.push(Guard::Not(Box::new(alloc, over)?))?;
     Ok(Guard::All(both))
 }
@@ -133,7 +135,8 @@ impl Sets {
             → OnOk result (ShowsEncoding names
             (record { left = left; wires = wires ++ piece_sets (piece Wire p.name (is_in tree)); states = states ++ next_set tree p.guard ∷ [] }) self.new) }
     {
-        let drove = self.replace(state.is_in(texts))?;
+        let guard = state.is_in(*self.wires.allocator(), texts)?;
+        let drove = self.replace(guard)?;
         self.states.push(state.next(texts, drove))?;
         Ok(())
     }

@@ -101,7 +101,7 @@ impl Registers {
             → OnOk result (ShowsRegisters names (list ++ tree ∷ []) self.new) }
     {
         self.cells.push(thread.cell(alloc, self.texts)?)?;
-        self.on.push(thread.is_on(self.texts))?;
+        self.on.push(thread.is_on(alloc, self.texts)?)?;
         self.enables.push(thread.enable(self.texts))?;
         Ok(())
     }

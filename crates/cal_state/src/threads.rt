@@ -142,33 +142,40 @@ impl Thread {
     }
 
     /// How the register compares to the number of a state.
-    fn compare(self, texts: Texts, how: Cmp, number: u64) -> Guard<CalPort>
+    fn compare(
+        self,
+        alloc: Global,
+        texts: Texts,
+        how: Cmp,
+        number: u64,
+    ) -> Result<Guard<CalPort>, Memory>
         ensures { (names : List Text) (thread : threads.Thread) → AreTexts names texts → ShowsThread names thread self
-            → ShowsGuard names (Compares how (Port (shown (thread_name thread))) (Lit (width_of thread) number)) result }
+            → IfOk result (ShowsGuard names (Compares how (Port (shown (thread_name thread))) (Lit (width_of thread) number))) }
     {
         let state = Src::Lit {
             width: self.width,
             value: number as u128,
         };
-        Guard::Test(how, Src::Port(port_of(self.register, texts.output)), state)
+        let there = Src::Port(port_of(self.register, texts.output));
+        Ok(Guard::Test(how, Box::new(alloc, there)?, Box::new(alloc, state)?))
     }
 
     /// The thread is in another state than 0.
-    pub(crate) fn is_on(self, texts: Texts) -> Guard<CalPort>
+    pub(crate) fn is_on(self, alloc: Global, texts: Texts) -> Result<Guard<CalPort>, Memory>
         ensures { (names : List Text) (thread : threads.Thread) → AreTexts names texts → ShowsThread names thread self
-            → ShowsGuard names (is_on thread) result }
+            → IfOk result (ShowsGuard names (is_on thread)) }
     {
-        self.compare(texts, Cmp::Neq, 0)
+        self.compare(alloc, texts, Cmp::Neq, 0)
     }
 }
 
 impl State {
     /// The thread is in the state.
-    pub(crate) fn is_in(self, texts: Texts) -> Guard<CalPort>
+    pub(crate) fn is_in(self, alloc: Global, texts: Texts) -> Result<Guard<CalPort>, Memory>
         ensures { (names : List Text) (state : threads.State) → AreTexts names texts → ShowsState names state self
-            → ShowsGuard names (is_in state) result }
+            → IfOk result (ShowsGuard names (is_in state)) }
     {
-        self.thread.compare(texts, Cmp::Eq, self.number)
+        self.thread.compare(alloc, texts, Cmp::Eq, self.number)
     }
 
     /// The thread comes to the state where the guard is true.

@@ -36,12 +36,12 @@ impl Model for Callee {
 
 impl Callee {
     /// The signature, whose outputs can be looked up by name from then on.
-    pub fn make(alloc: Global, sig: TimeSig) -> Result<Callee, Memory>
+    pub fn make(names: &Names, sig: TimeSig) -> Result<Callee, Memory>
         requires outputs { AreDistinct (output_names (seen sig)) }
         requires times { HasGoodTimes (seen sig) }
         ensures { IfOk result (λ callee. callee ≡ seen sig) }
     {
-        let mut outs = Names::new(alloc);
+        let mut outs = names.beside();
         for port in &sig.outs {
             let _new = add_name(&mut outs, port.name.bytes())?;
         }

@@ -31,7 +31,7 @@ pub fn check_fil<'a>(alloc: Global, design: &'a FilDesign) -> Result<FilOk<'a>, 
     ensures refused { IfErr result (TellsFirst design.now) }
 {
     let mut earlier = Earlier {
-        names: Names::new(alloc),
+        names: design.names.beside(),
         callees: Vec::new(alloc),
     };
     let mut wired = Wired::Free(Vec::new(alloc));
@@ -89,7 +89,7 @@ pub fn add_component(
         → OnOk result (ShowsEarlier earlier.new (comps ++ component_tree names.now comp.now ∷ [])) }
 {
     let sig = component_signature(alloc, names, comp)?;
-    let callee = Callee::make(alloc, sig)?;
+    let callee = Callee::make(names, sig)?;
     let _new = add_name(&mut earlier.names, names.text(comp.name))?;
     earlier.callees.push(callee)?;
     Ok(())

@@ -37,8 +37,8 @@ pub fn judge_component(
     ensures broken { (comps : Design) → ShowsEarlier earlier.now comps
         → IfErr result (TellsItem comps (component_tree names.now comp.now)) }
 {
-    let mut events = Names::new(alloc);
-    let mut ports = Names::new(alloc);
+    let mut events = names.beside();
+    let mut ports = names.beside();
     let around = Around {
         names,
         earlier,
@@ -51,13 +51,13 @@ pub fn judge_component(
     let mut tables = Tables {
         events,
         ports,
-        instances: Names::new(alloc),
+        instances: names.beside(),
         made: Vec::new(alloc),
         invoked: Vec::new(alloc),
         times: Vec::new(alloc),
         calls: Vec::new(alloc),
         starts: Starts::new(alloc),
-        connected: Names::new(alloc),
+        connected: names.beside(),
     };
     judge_body(alloc, &around, &mut tables)?;
     Ok(tables)

@@ -133,7 +133,7 @@ fn primitive_made(
     ensures { (earlier : Earlier) → IfOk result (λ made. option_and_then (made_signature earlier) made ≡ primitive_signature name.now params.now) }
 {
     match used_signature(alloc, names, name, None, params) {
-        Ok(sig) => Ok(Some(Made::Primitive(Callee::make(alloc, sig)?))),
+        Ok(sig) => Ok(Some(Made::Primitive(Callee::make(names, sig)?))),
         Err(SigEnd::Refused { .. }) => Ok(None),
         Err(SigEnd::Memory) => Err(Memory),
     }

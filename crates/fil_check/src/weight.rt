@@ -267,7 +267,7 @@ fn weights_of(alloc: Global, ok: &FilOk, count: usize) -> Result<Vec<u128>, Memo
 {
     let design = ok.design();
     let mut earlier = Earlier {
-        names: Names::new(alloc),
+        names: design.names.beside(),
         callees: Vec::new(alloc),
     };
     let mut weights = Vec::new(alloc);

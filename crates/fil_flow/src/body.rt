@@ -47,9 +47,9 @@ impl Body {
         let places = inputs.len();
         Ok(Body {
             inputs,
-            instances: Names::new(alloc),
+            instances: names.beside(),
             made: Vec::new(alloc),
-            invocations: Names::new(alloc),
+            invocations: names.beside(),
             invoked: Vec::new(alloc),
             places,
         })

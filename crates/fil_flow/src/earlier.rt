@@ -24,12 +24,12 @@ pub(crate) struct Earlier {
 }
 
 impl Earlier {
-    /// No components.
-    pub(crate) fn new(alloc: Global) -> Earlier
+    /// No components, of those whose names are among these.
+    pub(crate) fn new(alloc: Global, names: &Names) -> Earlier
         ensures { IsEarlier [] result }
     {
         Earlier {
-            names: Names::new(alloc),
+            names: names.beside(),
             outs: Vec::new(alloc),
         }
     }
@@ -103,7 +103,7 @@ pub(crate) fn port_names(alloc: Global, names: &Names, ports: &[FilPort]) -> Res
     requires { All (PortHasNumbers names.now) ports.now }
     ensures { AreDistinct (data_names (map (port_tree names.now) ports.now)) → IfOk result (λ found. found ≡ data_names (map (port_tree names.now) ports.now)) }
 {
-    let mut found = Names::new(alloc);
+    let mut found = names.beside();
     for port in ports {
         let _new = add_name(&mut found, names.text(port.name))?;
     }

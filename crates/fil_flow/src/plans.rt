@@ -16,7 +16,7 @@ pub(crate) fn plans_of(alloc: Global, ok: &FilOk, count: usize) -> Result<Vec<Pl
     ensures { IfOk result (λ plans. ShowPlans (take count (design_of ok.now)) plans.items) }
 {
     let design = ok.design();
-    let mut earlier = Earlier::new(alloc);
+    let mut earlier = Earlier::new(alloc, &design.names);
     let mut plans = Vec::new(alloc);
     for comp in &design.comps[..count] {
         let plan = plan_of(alloc, &design.names, &earlier, comp)?;

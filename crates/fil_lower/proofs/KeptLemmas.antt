@@ -59,8 +59,8 @@ module _ (old new : List Text) (kept : KeepsTexts old new) where
 
   mutual
     guard_kept : (g : Guard CalPort) → GuardHasNumbers old g → guard_tree (port_tree new) g ≡ guard_tree (port_tree old) g
-    guard_kept (code.Read s) known = ap Reads (source_kept s known)
-    guard_kept (code.Test op a b) known = ap₂ (Compares op) (source_kept a known.0) (source_kept b known.1)
+    guard_kept (code.Read s) known = ap Reads (source_kept s.value known)
+    guard_kept (code.Test op a b) known = ap₂ (Compares op) (source_kept a.value known.0) (source_kept b.value known.1)
     guard_kept (code.Not' p g) known = ap Negates (guard_kept g known)
     guard_kept (code.All' shape gs) known = ap AllOf (row_kept gs known)
     guard_kept (code.Any' shape gs) known = ap AnyOf (row_kept gs known)
@@ -71,8 +71,8 @@ module _ (old new : List Text) (kept : KeepsTexts old new) where
 
   mutual
     guard_numbers : (g : Guard CalPort) → GuardHasNumbers old g → GuardHasNumbers new g
-    guard_numbers (code.Read s) known = source_numbers s known
-    guard_numbers (code.Test op a b) known = (source_numbers a known.0, source_numbers b known.1)
+    guard_numbers (code.Read s) known = source_numbers s.value known
+    guard_numbers (code.Test op a b) known = (source_numbers a.value known.0, source_numbers b.value known.1)
     guard_numbers (code.Not' p g) known = guard_numbers g known
     guard_numbers (code.All' shape gs) known = row_numbers gs known
     guard_numbers (code.Any' shape gs) known = row_numbers gs known

@@ -36,7 +36,7 @@ impl Calls {
         ensures { IfOk result (ShowsCalls names.now (flat_map invocations_at (component_tree names.now comp.now).body)) }
     {
         let mut calls = Calls {
-            names: Names::new(alloc),
+            names: names.beside(),
             insts: Vec::new(alloc),
         };
         for stmt in &comp.body {

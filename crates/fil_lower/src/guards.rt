@@ -1,9 +1,9 @@
 //! Guards that one of several bits is 1.
 ghost use Rattle.std.specs.Prelude.{◌≡◌, List, map, All, IfOk};
 ghost use Rattle.hw_names.specs.Name.{Text};
-ghost use Rattle.net_core.specs.Guard.{Reads, guard_tree};
+ghost use Rattle.net_core.specs.Guard.{Reads, guard_tree, source_tree};
 ghost use Rattle.net_core.specs.declared.net.Src.{Src};
-ghost use Rattle.cal_ast.specs.Numbers.{GuardHasNumbers, PortHasNumbers};
+ghost use Rattle.cal_ast.specs.Numbers.{GuardHasNumbers, PortHasNumbers, SourceHasNumbers};
 ghost use Rattle.cal_ast.specs.Tree.{port_tree};
 ghost use Rattle.fil_lower.specs.Lowering.{any_of};
 
@@ -12,6 +12,14 @@ use hw_bits::Memory;
 use net_core::{Guard, Src};
 use std::alloc::Global;
 
+/// The guard that the source is 1.
+fn read(alloc: Global, src: Src<CalPort>) -> Result<Guard<CalPort>, Memory>
+    ensures shown { (names : List Text) → IfOk result (λ guard. guard_tree (port_tree names) guard ≡ Reads (source_tree (port_tree names) src)) }
+    ensures numbers { (names : List Text) → SourceHasNumbers names src → IfOk result (GuardHasNumbers names) }
+{
+    Ok(Guard::Read(Box::new(alloc, src)?))
+}
+
 /// For each of the bits the guard that it is 1.
 fn reads(alloc: Global, bits: &[CalPort]) -> Result<Vec<Guard<CalPort>>, Memory>
     ensures shown { (names : List Text) → IfOk result (λ guards. map (guard_tree (port_tree names)) guards.items ≡ map (λ bit. Reads (Src.Port bit)) (map (port_tree names) bits.now)) }
@@ -19,7 +27,7 @@ fn reads(alloc: Global, bits: &[CalPort]) -> Result<Vec<Guard<CalPort>>, Memory>
 {
     let mut guards = Vec::new(alloc);
     for bit in bits {
-        guards.push(Guard::Read(Src::Port(*bit)))?;
+        guards.push(read(alloc, Src::Port(*bit))?)?;
     }
     Ok(guards)
 }
@@ -30,8 +38,8 @@ pub(crate) fn any_of(alloc: Global, bits: &[CalPort]) -> Result<Guard<CalPort>, 
     ensures numbers { (names : List Text) → All (PortHasNumbers names) bits.now → IfOk result (GuardHasNumbers names) }
 {
     match bits {
-        [] => Ok(Guard::Read(Src::Lit { width: 1, value: 0 })),
-        [bit] => Ok(Guard::Read(Src::Port(*bit))),
+        [] => read(alloc, Src::Lit { width: 1, value: 0 }),
+        [bit] => read(alloc, Src::Port(*bit)),
         _ => Ok(Guard::Any(reads(alloc, bits)?)),
     }
 }

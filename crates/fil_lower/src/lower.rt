@@ -23,7 +23,7 @@ pub fn lower_fil(alloc: Global, ok: &FilOk<'_>) -> Result<WireDesign, Memory>
 {
     let design = ok.design();
     let mut names = copy_names(alloc, &design.names)?;
-    let mut known = Names::new(alloc);
+    let mut known = names.beside();
     let mut comps = Vec::new(alloc);
     for number in 0..design.comps.len() {
         let body = Body::make(alloc, ok, &known, number)?;

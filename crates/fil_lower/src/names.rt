@@ -18,7 +18,7 @@ use std::alloc::Global;
 pub(crate) fn copy_names(alloc: Global, names: &Names) -> Result<Names, Memory>
     ensures { IfOk result (λ copy. copy ≡ names.now) }
 {
-    let mut copy = Names::new(alloc);
+    let mut copy = names.beside();
     for number in 0..names.len() {
         let _same = copy.intern(names.text(NameId(number as u32)))?;
     }

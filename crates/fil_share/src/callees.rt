@@ -35,7 +35,7 @@ pub(crate) fn component_names(
     requires distinct { AreDistinct (component_names (map (component_tree names.now) comps.now)) }
     ensures { IfOk result (λ known. known ≡ component_names (map (component_tree names.now) comps.now)) }
 {
-    let mut known = Names::new(alloc);
+    let mut known = names.beside();
     for comp in comps {
         add_component_name(names, &mut known, comp)?;
     }

@@ -59,7 +59,7 @@ impl Instances {
         ensures { IfOk result (λ instances. ShowsScope instances (whole_scope (map (component_tree names.now) earlier.now) (component_tree names.now comp.now))) }
     {
         let mut instances = Instances {
-            names: Names::new(alloc),
+            names: names.beside(),
             sigs: Vec::new(alloc),
         };
         for stmt in &comp.body {

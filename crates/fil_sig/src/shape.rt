@@ -56,7 +56,7 @@ fn are_apart(alloc: Global, names: &Names, gos: &[GoPort]) -> Result<bool, Memor
     requires { All (InterfaceHasNumbers names.now) gos.now }
     ensures { IfOk result (λ apart. IsTrue apart ↔ AreDistinct (map (event_of names.now) gos.now)) }
 {
-    let mut seen = Names::new(alloc);
+    let mut seen = names.beside();
     for go in gos {
         if !add_name(&mut seen, names.text(go.event))? {
             return Ok(false);

@@ -19,5 +19,5 @@
 mod names;
 mod word;
 
-pub use names::{NameId, Names};
+pub use names::{Keyed, NameId, Names};
 pub use word::Word;

@@ -5,16 +5,47 @@ ghost use Rattle.hw_names.specs.Name.{AreDistinct, KeepsTexts};
 use hw_bits::Memory;
 use indexmap::IndexSet;
 use std::alloc::Global;
+use std::hash::{BuildHasher, DefaultHasher, Hasher};
 use std::marker::Model;
 
 /// The number of a text in a list of names.
 #[derive(Clone, Copy, Debug, PartialEq, Eq, PartialOrd, Ord, Hash)]
 pub struct NameId(pub u32);
 
+/// Begins each hash from a state that has taken in some bytes, so that texts whose hashes meet can't be chosen without these.
+#[derive(Clone, Copy)]
+pub struct Keyed {
+    begun: DefaultHasher,
+}
+
+impl Keyed {
+    /// Begins each hash with no bytes.
+    pub fn new() -> Keyed {
+        Keyed {
+            begun: DefaultHasher::new(),
+        }
+    }
+
+    /// Begins each hash with these bytes too, after those before.
+    pub fn add(&mut self, bytes: &[u8]) {
+        self.begun.write(bytes);
+    }
+}
+
+impl BuildHasher for Keyed {
+    type Hasher = DefaultHasher;
+
+    ghost build_hasher = { λ keyed. keyed.begun };
+
+    fn build_hasher(&self) -> DefaultHasher {
+        self.begun
+    }
+}
+
 /// A list of distinct texts, in the order of their first appearance. A text's number is its place, from 0 on.
 #[derive(Debug, Drop)]
 pub struct Names {
-    texts: IndexSet<Vec<u8>>,
+    texts: IndexSet<Vec<u8>, Keyed>,
 }
 
 impl Model for Names {
@@ -35,8 +66,34 @@ impl Names {
     pub fn new(alloc: Global) -> Names
         ensures { result ≡ [] }
     {
+        Names::hashed_by(alloc, Keyed::new())
+    }
+
+    /// No names, for those of a source: hashed in a way that the whole source tells, so that it can't name things whose hashes
+    /// meet.
+    pub fn keyed_by(alloc: Global, source: &[u8]) -> Names
+        ensures { result ≡ [] }
+    {
+        let mut keyed = Keyed::new();
+        keyed.add(source);
+        Names::hashed_by(alloc, keyed)
+    }
+
+    /// No names, hashed in this way.
+    pub fn hashed_by(alloc: Global, keyed: Keyed) -> Names
+        ensures { result ≡ [] }
+    {
         Names {
-            texts: IndexSet::new(alloc),
+            texts: IndexSet::with_hasher(alloc, keyed),
+        }
+    }
+
+    /// No names, for some that are among these: hashed in the same way.
+    pub fn beside(&self) -> Names
+        ensures { result ≡ [] }
+    {
+        Names {
+            texts: IndexSet::with_hasher(*self.texts.allocator(), *self.texts.hasher()),
         }
     }
 

@@ -33,8 +33,8 @@ source_tree f (Lit width value) = Lit width value
 -- the tree of a guard, with each port seen by f
 abbrev mutual
   pub guard_tree : {P Q : Type 0} → (P → Q) → code.Guard P → GuardTree Q
-  guard_tree f (code.Read s) = Reads (source_tree f s)
-  guard_tree f (code.Test op a b) = Compares op (source_tree f a) (source_tree f b)
+  guard_tree f (code.Read s) = Reads (source_tree f s.value)
+  guard_tree f (code.Test op a b) = Compares op (source_tree f a.value) (source_tree f b.value)
   guard_tree f (code.Not' p g) = Negates (guard_tree f g)
   guard_tree f (code.All' shape gs) = AllOf (guard_trees f gs)
   guard_tree f (code.Any' shape gs) = AnyOf (guard_trees f gs)

@@ -20,8 +20,8 @@ SourceHasNumbers names (Lit width value) = Unit {0}
 
 abbrev mutual
   pub GuardHasNumbers : List Text → code.Guard NameId → Type 0
-  GuardHasNumbers names (code.Read s) = SourceHasNumbers names s
-  GuardHasNumbers names (code.Test op a b) = SourceHasNumbers names a × SourceHasNumbers names b
+  GuardHasNumbers names (code.Read s) = SourceHasNumbers names s.value
+  GuardHasNumbers names (code.Test op a b) = SourceHasNumbers names a.value × SourceHasNumbers names b.value
   GuardHasNumbers names (code.Not' p g) = GuardHasNumbers names g
   GuardHasNumbers names (code.All' shape gs) = GuardsHaveNumbers names gs
   GuardHasNumbers names (code.Any' shape gs) = GuardsHaveNumbers names gs

@@ -19,10 +19,11 @@ pub enum Cmp {
     Ge,
 }
 
-/// When an assignment drives its destination. `All` and `Any` have two guards or more.
+/// When an assignment drives its destination. `All` and `Any` have two guards or more. Sources are boxed, so that a `!` costs no
+/// more than it has to.
 pub enum Guard<P> {
-    Read(Src<P>),
-    Test(Cmp, Src<P>, Src<P>),
+    Read(Box<Src<P>>),
+    Test(Cmp, Box<Src<P>>, Box<Src<P>>),
     Not(Box<Guard<P>>),
     All(Vec<Guard<P>>),
     Any(Vec<Guard<P>>),

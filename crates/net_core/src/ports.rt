@@ -87,12 +87,12 @@ impl Model for Ports {
 }
 
 impl Ports {
-    /// No ports.
-    pub fn new(alloc: Global) -> Ports
+    /// No ports, of those whose names are made of these.
+    pub fn new(alloc: Global, names: &Names) -> Ports
         ensures { result ≡ [] }
     {
         Ports {
-            names: Names::new(alloc),
+            names: names.beside(),
             ports: Vec::new(alloc),
         }
     }

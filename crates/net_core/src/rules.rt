@@ -54,8 +54,8 @@ fn judge(alloc: Global, net: &Net) -> Result<Ports, NetEnd>
     ensures judged { Tells result (first_broken (ports_of (netlist_of net.now)) [] [] 1 (lines_of (netlist_of net.now))) }
     ensures ports { IfOk result (λ ports. ports ≡ ports_of (netlist_of net.now)) }
 {
-    let mut ports = Ports::new(alloc);
-    let mut cells = Names::new(alloc);
+    let mut ports = Ports::new(alloc, &net.names);
+    let mut cells = net.names.beside();
     let mut full = Vec::new(alloc);
     take_lines(&mut ports, &mut cells, &mut full, net)?;
     Ok(ports)

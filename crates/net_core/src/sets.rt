@@ -150,10 +150,10 @@ fn guard_kept(ports: &Ports, names: &Names, guard: &Guard<NameId>) -> Kept
         match inner {
             Guard::Not(negated) => inner = negated,
             Guard::All(guards) | Guard::Any(guards) => return guards_kept(ports, names, guards),
-            Guard::Read(src) => return judge_source(ports, names, *src).alone(),
+            Guard::Read(src) => return judge_source(ports, names, **src).alone(),
             Guard::Test(_, left, right) => {
-                let left = judge_source(ports, names, *left);
-                let right = judge_source(ports, names, *right);
+                let left = judge_source(ports, names, **left);
+                let right = judge_source(ports, names, **right);
                 return left.compared(right);
             }
         }

@@ -9,7 +9,7 @@ use Rattle.hw_names.specs.declared.names.NameId.{NameId}
 use Rattle.cal_ast.specs.Numbers as cal
 use Rattle.cal_ast.specs.declared.tree.CalPort.{CalPort}
 use Rattle.net_core.proofs.GuardLemmas.{guard_tree-All, guard_tree-Any, numbers_from_list}
-use Rattle.net_core.specs.Guard.{GuardTree, Compares, Negates, AllOf, AnyOf, guards_of, guard_tree, source_tree}
+use Rattle.net_core.specs.Guard.{GuardTree, Reads, Compares, Negates, AllOf, AnyOf, guards_of, guard_tree, source_tree}
 use Rattle.net_core.specs.Numbers.{GuardHasNumbers, SourceHasNumbers}
 use Rattle.net_core.specs.declared.net.Cmp.{Cmp}
 use Rattle.net_core.specs.declared.net.Src.{Src}
@@ -64,11 +64,22 @@ pub negated_whole : {E : Type 0} (names : List Text) (f : CalPort → Text) (who
     → negations count (guard_tree f inner) ≡ guard_tree f whole → IfOk r (IsGuard names (negations count (guard_tree f inner))) → IfOk r (IsGuard names (guard_tree f whole))
 negated_whole names f whole inner count r e h = subst (λ (tree : GuardTree Text). IfOk r (IsGuard names tree)) e h
 
+-- a source that was read in a box, and is in a box again
+pub boxed : (names : List Text) (f : CalPort → Text) (old seen : Src CalPort) (found new : Src NameId) → seen ≡ old → new ≡ found → IsSource names (source_tree f seen) found → IsSource names (source_tree f old) new
+boxed names f old seen found new is made h =
+    let S : Src CalPort → Type 0 = λ s. IsSource names (source_tree f s) found in
+    let T : Src NameId → Type 0 = λ s. IsSource names (source_tree f old) s in
+    subst T (sym made) (subst S is h)
+
+-- a source alone
+pub is_read : (names : List Text) (f : CalPort → Text) (a : Box (Src CalPort)) (src : Box (Src NameId)) → IsSource names (source_tree f a.value) src.value → IsGuard names (guard_tree f (variants.Read a)) (variants.Read src)
+is_read names f a src h = record { numbers = h.numbers; tree = ap Reads h.tree }
+
 -- a comparison, whose second source was named after the first
-pub is_test : (before names : List Text) (f : CalPort → Text) (op : Cmp) (a b : Src CalPort) (left right : Src NameId) → KeepsTexts before names
-    → IsSource before (source_tree f a) left → IsSource names (source_tree f b) right → IsGuard names (guard_tree f (variants.Test op a b)) (variants.Test op left right)
+pub is_test : (before names : List Text) (f : CalPort → Text) (op : Cmp) (a b : Box (Src CalPort)) (left right : Box (Src NameId)) → KeepsTexts before names
+    → IsSource before (source_tree f a.value) left.value → IsSource names (source_tree f b.value) right.value → IsGuard names (guard_tree f (variants.Test op a b)) (variants.Test op left right)
 is_test before names f op a b left right kept first second =
-    let first' = one_kept SourceHasNumbers net_source stable_source before names (source_tree f a) left kept first in
+    let first' = one_kept SourceHasNumbers net_source stable_source before names (source_tree f a.value) left.value kept first in
     record { numbers = (first'.numbers, second.numbers); tree = ap₂ (Compares op) first'.tree second.tree }
 
 -- one more `!`

@@ -53,8 +53,8 @@ module _ {P Q R : Type 0} (f : Q → R) (g : P → Q) (h : P → R) (same : (p :
 
   mutual
     pub guard_then : (x : Guard P) → map_guard f (guard_tree g x) ≡ guard_tree h x
-    guard_then (code.Read s) = ap Reads (source_then s)
-    guard_then (code.Test op a b) = ap₂ (Compares op) (source_then a) (source_then b)
+    guard_then (code.Read s) = ap Reads (source_then s.value)
+    guard_then (code.Test op a b) = ap₂ (Compares op) (source_then a.value) (source_then b.value)
     guard_then (code.Not' p x) = ap Negates (guard_then x)
     guard_then (code.All' shape xs) = ap AllOf (guards_then xs)
     guard_then (code.Any' shape xs) = ap AnyOf (guards_then xs)

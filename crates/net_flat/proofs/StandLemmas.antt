@@ -38,10 +38,10 @@ stable_source old new (Lit width value) kept within = (tt, refl)
 
 mutual
   pub stable_guard : IsStable GuardHasNumbers net_guard
-  stable_guard old new (code.Read s) kept h = let s' = stable_source old new s kept h in (s'.0, ap Reads s'.1)
+  stable_guard old new (code.Read s) kept h = let s' = stable_source old new s.value kept h in (s'.0, ap Reads s'.1)
   stable_guard old new (code.Test op a b) kept h =
-      let a' = stable_source old new a kept h.0 in
-      let b' = stable_source old new b kept h.1 in
+      let a' = stable_source old new a.value kept h.0 in
+      let b' = stable_source old new b.value kept h.1 in
       ((a'.0, b'.0), ap₂ (Compares op) a'.1 b'.1)
   stable_guard old new (code.Not' p g) kept h = let g' = stable_guard old new g kept h in (g'.0, ap Negates g'.1)
   stable_guard old new (code.All' shape gs) kept h = let gs' = stable_guards old new gs kept h in (gs'.0, ap AllOf gs'.1)

@@ -67,12 +67,14 @@ pub(crate) fn guard_at(
                 inner = operand;
             }
             Guard::Read(src) => {
-                let src = source_at(alloc, names, source, prefix, *src)?;
-                return negate(alloc, Guard::Read(src), count);
+                let src = source_at(alloc, names, source, prefix, **src)?;
+                return negate(alloc, Guard::Read(Box::new(alloc, src)?), count);
             }
             Guard::Test(op, left, right) => {
-                let left = source_at(alloc, names, source, prefix, *left)?;
-                let right = source_at(alloc, names, source, prefix, *right)?;
+                let left = source_at(alloc, names, source, prefix, **left)?;
+                let right = source_at(alloc, names, source, prefix, **right)?;
+                let left = Box::new(alloc, left)?;
+                let right = Box::new(alloc, right)?;
                 return negate(alloc, Guard::Test(*op, left, right), count);
             }
             Guard::All(guards) => {

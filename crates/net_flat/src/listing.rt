@@ -138,7 +138,7 @@ pub(crate) fn list_design(alloc: Global, design: &CalDesign) -> Result<Net, Memo
     let source = &design.names;
     let top = &design.comps[top_of(design)];
     let all = instances(alloc, design, top)?;
-    let mut names = Names::new(alloc);
+    let mut names = source.beside();
     let name = number_of(&mut names, source.text(top.name))?;
     let ins = pins_at(alloc, &mut names, source, &[], &top.ins)?;
     let outs = pins_at(alloc, &mut names, source, &[], &top.outs)?;

@@ -46,6 +46,20 @@ test_folds names op a b p q is first second =
 
 -- ---- tops as guards
 
+pub read_guard : (names : List Text) (s : Src NameId) (b : Box (Src NameId)) → b.value ≡ s → SourceHasNumbers names s → IsGuardOf names (Reads (source_tree (text_of names) s)) (variants.Read b)
+read_guard names s b same has =
+    let N : Src NameId → Type 0 = SourceHasNumbers names in
+    record { numbers = subst N (sym same) has; tree = ap (λ (x : Src NameId). Reads (source_tree (text_of names) x)) same }
+
+pub test_guard : (names : List Text) (op : Cmp) (s u : Src NameId) (a b : Box (Src NameId)) → a.value ≡ s → b.value ≡ u → SourceHasNumbers names s × SourceHasNumbers names u
+    → IsGuardOf names (Compares op (source_tree (text_of names) s) (source_tree (text_of names) u)) (variants.Test op a b)
+test_guard names op s u a b first second has =
+    let N : Src NameId → Type 0 = SourceHasNumbers names in
+    record {
+      numbers = (subst N (sym first) has.0, subst N (sym second) has.1);
+      tree = ap₂ (λ (x y : Src NameId). Compares op (source_tree (text_of names) x) (source_tree (text_of names) y)) first second;
+    }
+
 pub list_guard : (names : List Text) (kind : Joint) (list : List (Guard NameId)) (gs : Vec (Guard NameId) Global) (g : Guard NameId) → gs.items ≡ list
     → ((kind ≡ joints.All) × (g ≡ variants.All gs)) ⊎ ((kind ≡ joints.Any) × (g ≡ variants.Any gs)) → All (GuardHasNumbers names) list → IsGuardOf names (joint_tree kind (trees_of names list)) g
 list_guard names kind list gs g same (inl (all, is)) numbers =

@@ -120,9 +120,9 @@ pub(crate) fn fold(alloc: Global, guard: &Guard<NameId>) -> Result<Folded, Memor
                 negated = !negated;
                 inner = operand;
             }
-            Guard::Read(src) => return Ok(negate(fold_source(*src), negated)),
+            Guard::Read(src) => return Ok(negate(fold_source(**src), negated)),
             Guard::Test(op, left, right) => {
-                return Ok(negate(fold_test(*op, *left, *right), negated));
+                return Ok(negate(fold_test(*op, **left, **right), negated));
             }
             Guard::All(guards) => {
                 let folded = fold_list(alloc, Joint::All, guards)?;

@@ -63,8 +63,12 @@ fn core_guard(alloc: Global, core: Core) -> Result<Guard<NameId>, Memory>
     ensures { (names : List Text) → CoreHasNumbers names core → IfOk result (IsGuardOf names (core_tree names core)) }
 {
     match core {
-        Core::Read(src) => Ok(Guard::Read(src)),
-        Core::Test(op, left, right) => Ok(Guard::Test(op, left, right)),
+        Core::Read(src) => Ok(Guard::Read(Box::new(alloc, src)?)),
+        Core::Test(op, left, right) => {
+            let left = Box::new(alloc, left)?;
+            let right = Box::new(alloc, right)?;
+            Ok(Guard::Test(op, left, right))
+        }
         Core::List(Joint::All, guards) => Ok(Guard::All(into_vec(alloc, guards)?)),
         Core::List(Joint::Any, guards) => Ok(Guard::Any(into_vec(alloc, guards)?)),
     }

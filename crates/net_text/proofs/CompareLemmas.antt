@@ -6,6 +6,7 @@ use Rattle.net_core.specs.Guard.{GuardTree, Reads, source_tree, guard_tree}
 use Rattle.net_core.specs.declared.net.Guard.{Guard}
 use Rattle.net_core.specs.declared.net.Guard as code
 use Rattle.net_core.specs.declared.net.Src.{Src}
+use Rattle.std.specs.Global.{Box}
 use Rattle.std.proofs.lemmas.List.{nil_from_length}
 use Rattle.net_text.specs.inside.ReadWords.{◌>>=◌}
 use Rattle.net_text.specs.inside.ReadLines.{guarded_of_text, value_from, value_of_text}
@@ -13,14 +14,14 @@ use Rattle.net_text.specs.inside.ReadGuards.{test_from, guard_at}
 use Rattle.net_text.specs.inside.ReadResults.{Extends}
 use Rattle.net_text.proofs.NameLemmas.{Extends-itself}
 
-pub no_source : (names : List Text) (g : Guard NameId) (text : Text) → ((s : Src NameId) → g ≡ code.Read s → ⊥) → test_from (guard_tree (text_of names) g) text ≡ None
+pub no_source : (names : List Text) (g : Guard NameId) (text : Text) → ((s : _) → g ≡ code.Read s → ⊥) → test_from (guard_tree (text_of names) g) text ≡ None
 no_source names (code.Read s) text other = absurd (other s refl)
 no_source names (code.Test op a b) text other = refl
 no_source names (code.Not' p g) text other = refl
 no_source names (code.All' shape gs) text other = refl
 no_source names (code.Any' shape gs) text other = refl
 
-pub no_value : (names : List Text) (g : Guard NameId) → ((s : Src NameId) → g ≡ code.Read s → ⊥) → value_from [] (guard_tree (text_of names) g) ≡ None
+pub no_value : (names : List Text) (g : Guard NameId) → ((s : _) → g ≡ code.Read s → ⊥) → value_from [] (guard_tree (text_of names) g) ≡ None
 unfolding value_from
 no_value names (code.Read s) other = absurd (other s refl)
 no_value names (code.Test op a b) other = refl
@@ -42,8 +43,8 @@ reads_is : (a b : Src Text) → ◌≡◌ {A = GuardTree Text} (Reads a) (Reads 
 reads_is a b e = cc
 
 -- a source that stays what it is as names are added
-pub source_stays : (names : List Text) (first : Guard NameId) (left : Src NameId) (tree : GuardTree Text) → first ≡ code.Read left → ((later : List Text) → Extends names later → guard_tree (text_of later) first ≡ tree)
-    → (later : List Text) → Extends names later → source_tree (text_of later) left ≡ source_tree (text_of names) left
+pub source_stays : (names : List Text) (first : Guard NameId) (left : Box (Src NameId)) (tree : GuardTree Text) → first ≡ code.Read left → ((later : List Text) → Extends names later → guard_tree (text_of later) first ≡ tree)
+    → (later : List Text) → Extends names later → source_tree (text_of later) left.value ≡ source_tree (text_of names) left.value
 source_stays names first left tree e stays later ext =
-    reads_is (source_tree (text_of later) left) (source_tree (text_of names) left)
+    reads_is (source_tree (text_of later) left.value) (source_tree (text_of names) left.value)
     (ap (guard_tree (text_of later)) (sym e) ∙ stays later ext ∙ sym (stays names (Extends-itself names)) ∙ ap (guard_tree (text_of names)) e)

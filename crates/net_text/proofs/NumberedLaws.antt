@@ -33,10 +33,10 @@ source_below names (Lit width value) h = tt
 
 mutual
   guard_below : (names : List Text) (g : Guard NameId) → guard_has_text (guard_tree (text_of names) g) ≡ true → GuardHasNumbers names g
-  guard_below names (code.Read s) h = source_below names s h
+  guard_below names (code.Read s) h = source_below names s.value h
   guard_below names (code.Test op a b) h =
-      let k = both_true (source_has_text (source_tree (text_of names) a)) (source_has_text (source_tree (text_of names) b)) h in
-      (source_below names a k.0, source_below names b k.1)
+      let k = both_true (source_has_text (source_tree (text_of names) a.value)) (source_has_text (source_tree (text_of names) b.value)) h in
+      (source_below names a.value k.0, source_below names b.value k.1)
   guard_below names (code.Not' p g) h = guard_below names g h
   guard_below names (code.All' shape gs) h = row_below names gs (both_true (leb 2 (count_guards (guard_trees (text_of names) gs))) (guards_have_text (guard_trees (text_of names) gs)) h).1
   guard_below names (code.Any' shape gs) h = row_below names gs (both_true (leb 2 (count_guards (guard_trees (text_of names) gs))) (guards_have_text (guard_trees (text_of names) gs)) h).1

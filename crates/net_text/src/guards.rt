@@ -41,6 +41,7 @@ fn operator(text: &[u8]) -> Result<(Cmp, &[u8]), LineEnd>
 /// A comparison in brackets, from its operator on, and what follows.
 #[tactic(auto, unfolding(crate::specs::inside::ReadGuards::test_at))]
 fn test<'a>(
+    alloc: Global,
     names: &mut Names,
     left: Src<NameId>,
     text: &'a [u8],
@@ -53,11 +54,14 @@ fn test<'a>(
     let (op, rest) = operator(text)?;
     let (right, rest) = source(names, rest)?;
     let rest = expect(rest, b")")?;
+    let left = Box::new(alloc, left)?;
+    let right = Box::new(alloc, right)?;
     Ok((Guard::Test(op, left, right), rest))
 }
 
 /// A comparison of this guard, which has to be a source, from the operator on.
 fn compared<'a>(
+    alloc: Global,
     names: &mut Names,
     first: &Guard<NameId>,
     text: &'a [u8],
@@ -68,7 +72,7 @@ fn compared<'a>(
     ensures grows { IfOk result (λ x. Grows names.old names.new text.now x.1.now) }
 {
     match first {
-        Guard::Read(left) => test(names, *left, text),
+        Guard::Read(left) => test(alloc, names, **left, text),
         _ => Err(LineEnd::Grammar),
     }
 }
@@ -137,7 +141,7 @@ fn unit<'a>(
         return bracket(alloc, names, rest);
     }
     let (source, rest) = source(names, text)?;
-    Ok((Guard::Read(source), rest))
+    Ok((Guard::Read(Box::new(alloc, source)?), rest))
 }
 
 /// A guard in brackets, after the first bracket, and what follows.
@@ -160,7 +164,7 @@ fn bracket<'a>(
         let (guards, rest) = list(alloc, names, first, b" | ", more)?;
         return Ok((Guard::Any(guards), rest));
     }
-    compared(names, &first, rest)
+    compared(alloc, names, &first, rest)
 }
 
 /// The guards of a list in brackets, after the first one and the first mark, and what follows the last bracket.

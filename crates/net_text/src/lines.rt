@@ -160,7 +160,7 @@ fn unguarded(guard: &Guard<NameId>) -> Result<(Option<Guard<NameId>>, Src<NameId
     ensures { (names : List Text) → Gives (λ x. (guard_option (text_of names) x.0, source_tree (text_of names) x.1)) result (value_from [] (guard_tree (text_of names) guard.now)) }
 {
     match guard {
-        Guard::Read(src) => Ok((None, *src)),
+        Guard::Read(src) => Ok((None, **src)),
         _ => Err(LineEnd::Grammar),
     }
 }

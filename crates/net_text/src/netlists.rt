@@ -37,9 +37,9 @@ pub fn split_line(text: &[u8]) -> Option<(&[u8], &[u8])>
     Some((&text[..at], &text[at + 1..]))
 }
 
-/// The netlist of a first line, without its line feed.
+/// The netlist of a first line, without its line feed, of this source.
 #[tactic(auto, unfolding(crate::specs::inside::ReadTexts::first_net))]
-pub fn first(alloc: Global, text: &[u8]) -> Result<Net, LineEnd>
+pub fn first(alloc: Global, source: &[u8], text: &[u8]) -> Result<Net, LineEnd>
     requires { HasRoom [] text.now }
     ensures read { Gives (λ net. netlist_of net) result (first_net text.now) }
     ensures settled { IfOk result IsSettled }
@@ -49,7 +49,7 @@ pub fn first(alloc: Global, text: &[u8]) -> Result<Net, LineEnd>
     if !rest.is_empty() {
         return Err(LineEnd::Grammar);
     }
-    let mut names = Names::new(alloc);
+    let mut names = Names::keyed_by(alloc, source);
     let name = numbered(&mut names, name)?;
     Ok(Net {
         names,

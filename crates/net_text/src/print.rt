@@ -136,8 +136,8 @@ fn put_guard(out: &mut Vec<u8>, names: &Names, guard: &Guard<NameId>) -> Result<
                 put(out, b"!")?;
                 rest = operand;
             }
-            Guard::Read(source) => return put_source(out, names, *source),
-            Guard::Test(op, left, right) => return put_test(out, names, *op, *left, *right),
+            Guard::Read(source) => return put_source(out, names, **source),
+            Guard::Test(op, left, right) => return put_test(out, names, *op, **left, **right),
             Guard::All(guards) => return put_guards(out, names, b" & ", guards),
             Guard::Any(guards) => return put_guards(out, names, b" | ", guards),
         }

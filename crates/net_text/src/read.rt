@@ -58,7 +58,7 @@ pub fn read_net(alloc: Global, bytes: &[u8]) -> Result<Net, NetTextEnd>
     let Some((line, rest)) = split_line(bytes) else {
         return Err(NetTextEnd::Grammar { at: 0 });
     };
-    match first(alloc, line) {
+    match first(alloc, bytes, line) {
         Ok(net) => read_lines(alloc, bytes, net, rest),
         Err(LineEnd::Memory) => Err(NetTextEnd::Memory),
         Err(LineEnd::Grammar) => Err(NetTextEnd::Grammar { at: 0 }),

@@ -6,16 +6,34 @@ ghost use Rattle.stim_read.specs.CycleRules.{input_targets, memory_targets, plac
 
 use fil_sig::add_name;
 use hw_bits::Memory;
-use hw_names::Names;
+use hw_names::{Keyed, Names};
 use net_core::{InputShape, MemShape};
 use std::alloc::Global;
+
+/// Hashing that the names of all inputs tell.
+fn keyed_by_inputs(ins: &[InputShape]) -> Keyed {
+    let mut keyed = Keyed::new();
+    for port in ins {
+        keyed.add(port.name.bytes());
+    }
+    keyed
+}
+
+/// Hashing that the names of all memories tell.
+fn keyed_by_memories(mems: &[MemShape]) -> Keyed {
+    let mut keyed = Keyed::new();
+    for shape in mems {
+        keyed.add(shape.name.bytes());
+    }
+    keyed
+}
 
 /// The names of inputs, which differ.
 pub(crate) fn input_names(alloc: Global, ins: &[InputShape]) -> Result<Names, Memory>
     requires { AreDistinct (input_targets ins.now).names }
     ensures { IfOk result (λ names. names ≡ (input_targets ins.now).names) }
 {
-    let mut names = Names::new(alloc);
+    let mut names = Names::hashed_by(alloc, keyed_by_inputs(ins));
     for port in ins {
         let new = add_name(&mut names, port.name.bytes())?;
         prove!(new);
@@ -28,7 +46,7 @@ pub(crate) fn memory_names(alloc: Global, mems: &[MemShape]) -> Result<Names, Me
     requires { AreDistinct (memory_targets mems.now).names }
     ensures { IfOk result (λ names. names ≡ (memory_targets mems.now).names) }
 {
-    let mut names = Names::new(alloc);
+    let mut names = Names::hashed_by(alloc, keyed_by_memories(mems));
     for shape in mems {
         let new = add_name(&mut names, shape.name.bytes())?;
         prove!(new);

@@ -76,11 +76,11 @@ pub(crate) fn put_guard(
                 inner = operand;
             }
             Guard::Read(source) => {
-                put_source(out, names, *source)?;
+                put_source(out, names, **source)?;
                 return put_closed(out, count);
             }
             Guard::Test(op, left, right) => {
-                put_test(out, names, *op, *left, *right)?;
+                put_test(out, names, *op, **left, **right)?;
                 return put_closed(out, count);
             }
             Guard::All(guards) => {

@@ -128,7 +128,7 @@ impl<'a> Ports<'a> {
     {
         Ports {
             alloc,
-            texts: Texts::new(alloc, instances),
+            texts: Texts::new(instances),
             set: IndexSet::new(alloc),
         }
     }
@@ -201,7 +201,7 @@ impl<'a> Ports<'a> {
     pub fn full_names(&self) -> Result<Names, Memory>
         ensures { IfOk result (λ names. names ≡ self.now.names) }
     {
-        let mut names = Names::new(self.alloc);
+        let mut names = self.texts.beside();
         for place in 0..self.len() {
             let name = self.full_name(place)?;
             let _number = names.intern(&name)?;

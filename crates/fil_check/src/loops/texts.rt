@@ -1,5 +1,5 @@
 //! Texts by numbers: the names of a component's instances, and after them others.
-ghost use Rattle.std.specs.Prelude.{◌≡◌, ◌<◌, ◌++◌, ℕ, Some, Contains, length, slice_get, IfNone, IfOk, IfSome};
+ghost use Rattle.std.specs.Prelude.{◌≡◌, ◌<◌, ◌++◌, [], ℕ, Some, Contains, length, slice_get, IfNone, IfOk, IfSome};
 ghost use Rattle.hw_names.specs.Name.{AreDistinct, KeepsTexts};
 ghost use Rattle.fil_check.specs.inside.Ports.{TextList};
 
@@ -38,15 +38,22 @@ impl<'a> Model for Texts<'a> {
 
 impl<'a> Texts<'a> {
     /// The names of instances alone.
-    pub fn new(alloc: Global, instances: &'a Names) -> Texts<'a>
+    pub fn new(instances: &'a Names) -> Texts<'a>
         ensures { result ≡ record { instances = instances.now; all = instances.now } }
     {
         // They are distinct.
         let _count = instances.len();
         Texts {
             instances,
-            others: Names::new(alloc),
+            others: instances.beside(),
         }
+    }
+
+    /// No names, for some that are made of these.
+    pub fn beside(&self) -> Names
+        ensures { result ≡ [] }
+    {
+        self.instances.beside()
     }
 
     /// The number of a text; one that has none goes last.

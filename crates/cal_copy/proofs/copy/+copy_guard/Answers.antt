@@ -7,7 +7,7 @@ use Rattle.net_core.specs.declared.net.Guard.{Guard, the_lemmas}
 use Rattle.net_core.specs.declared.net.Guard.TheVariants as variants
 use Rattle.cal_copy.specs.Copies.{IsGuardCopy, port_guard}
 use Rattle.cal_copy.specs.inside.Negations.{negations}
-use Rattle.cal_copy.proofs.CopyLemmas.{copy_all, copy_any, copy_itself, copy_whole, negations-inside}
+use Rattle.cal_copy.proofs.CopyLemmas.{copy_all, copy_any, copy_read, copy_test, copy_whole, negations-inside}
 use Rattle.cal_copy.proofs.copy.+copy_guard.Goals as goal
 
 pub copy_guard-loop-inner-preserved : goal.copy_guard-loop-inner-preserved
@@ -30,24 +30,27 @@ copy_guard-loop-inner-preserved t c =
 
 pub copy_guard-returns-in-Read : goal.copy_guard-returns-in-Read
 copy_guard-returns-in-Read t c =
-    let shape : Guard CalPort = variants.Read c.in-Read.src in
-    let C : Guard CalPort → Type 0 = λ g. IsGuardCopy g shape in
-    copy_whole c.args.guard.now c.loop-inner.inner.now shape c.loop-inner.count c.negate.result c.loop-inner.invariant.rest c.loop-inner.invariant.numbers
-    (subst C (sym c.in-Read.is) (copy_itself shape)) c.negate.ensures.numbers c.negate.ensures.tree
+    let made : Guard CalPort = variants.Read c.in_ok-src-in-Read.src in
+    let C : Guard CalPort → Type 0 = λ g. IsGuardCopy g made in
+    let copy = copy_read c.in-Read.src c.in_ok-src-in-Read.src (c.in_ok-src-in-Read.ensures.ok ∙ c.deref.ensures) in
+    copy_whole c.args.guard.now c.loop-inner.inner.now made c.loop-inner.count c.negate.result c.loop-inner.invariant.rest c.loop-inner.invariant.numbers
+    (subst C (sym c.in-Read.is) copy) c.negate.ensures.numbers c.negate.ensures.tree
 
 pub copy_guard-returns-in-Test : goal.copy_guard-returns-in-Test
 copy_guard-returns-in-Test t c =
-    let shape : Guard CalPort = variants.Test c.in-Test.op c.in-Test.left c.in-Test.right in
-    let C : Guard CalPort → Type 0 = λ g. IsGuardCopy g shape in
-    copy_whole c.args.guard.now c.loop-inner.inner.now shape c.loop-inner.count c.negate-in-Test.result c.loop-inner.invariant.rest c.loop-inner.invariant.numbers
-    (subst C (sym c.in-Test.is) (copy_itself shape)) c.negate-in-Test.ensures.numbers c.negate-in-Test.ensures.tree
+    let made : Guard CalPort = variants.Test c.in-Test.op c.in_ok-left-in-Test.left c.in_ok-right-in-Test.right in
+    let C : Guard CalPort → Type 0 = λ g. IsGuardCopy g made in
+    let copy = copy_test c.in-Test.op c.in-Test.left c.in-Test.right c.in_ok-left-in-Test.left c.in_ok-right-in-Test.right
+    (c.in_ok-left-in-Test.ensures.ok ∙ c.deref-in-Test.ensures) (c.in_ok-right-in-Test.ensures.ok ∙ c.deref-in-Test-2.ensures) in
+    copy_whole c.args.guard.now c.loop-inner.inner.now made c.loop-inner.count c.negate-in-Test.result c.loop-inner.invariant.rest c.loop-inner.invariant.numbers
+    (subst C (sym c.in-Test.is) copy) c.negate-in-Test.ensures.numbers c.negate-in-Test.ensures.tree
 
 pub copy_guard-returns-in-All : goal.copy_guard-returns-in-All
 copy_guard-returns-in-All t c =
     let made : Guard CalPort = variants.All c.in_ok-guards-in-All.guards in
     let C : Guard CalPort → Type 0 = λ g. IsGuardCopy g made in
     let Z : List (Guard CalPort) → Type 0 = λ gs. AllZip IsGuardCopy gs c.in_ok-guards-in-All.guards.items in
-    let copies = copy_all c.in-All.guards c.in_ok-guards-in-All.guards (subst Z c.deref.ensures.value c.in_ok-guards-in-All.ensures) in
+    let copies = copy_all c.in-All.guards c.in_ok-guards-in-All.guards (subst Z c.deref-in-All.ensures.value c.in_ok-guards-in-All.ensures) in
     copy_whole c.args.guard.now c.loop-inner.inner.now made c.loop-inner.count c.negate-in-All.result c.loop-inner.invariant.rest c.loop-inner.invariant.numbers
     (subst C (sym c.in-All.is) copies) c.negate-in-All.ensures.numbers c.negate-in-All.ensures.tree
 

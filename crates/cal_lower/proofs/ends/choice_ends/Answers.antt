@@ -1,4 +1,4 @@
-use Rattle.std.proofs.Common.{[], ◌∷◌, ◌++◌, subst}
+use Rattle.std.proofs.Common.{IfOk, [], ◌∷◌, ◌++◌, subst}
 use Rattle.net_core.specs.Guard.{GuardTree}
 use Rattle.cal_ast.specs.Tree.{PortName}
 use Rattle.cal_lower.specs.inside.Making.{by_group, off_plan, on_plan}
@@ -22,7 +22,7 @@ returns-clause-guard c = λ source item other k begin tested is begin_is tested_
     let second = first ++ none_if_over off (part_ends choice.off.number ∷ []) in
     let first_is = c.in_ok-push_part_ends.ensures.pushed source item none (c.in_ok-guards.ensures names begin tested begin_is tested_is) in
     let second_is = c.in_ok-push_part_ends-2.ensures.pushed source other first first_is in
-    let G : GuardTree PortName → Type 0 = λ t. ShowsGuard new t c.any_of.result in
+    let G : GuardTree PortName → Type 0 = λ t. IfOk c.any_of.result (ShowsGuard new t) in
     subst G
     (choice_guard k tested (by_group names choice.test.by) on off (reads begin) on_over off_over choice.on.number choice.off.number (c.is_over-on_over.ensures source item) (c.is_over-off_over.ensures source other) is.on is.off)
     (c.any_of.ensures new second second_is)

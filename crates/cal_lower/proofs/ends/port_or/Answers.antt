@@ -11,4 +11,4 @@ returns-clause-guard c = λ tree at.
     let new = c.port.new.self in
     let name = label_text old.names c.args.label in
     let port = shows_kept PortHasNumbers port_tree old.names new.names tree c.args.port c.port.ensures.kept.names at in
-    c.either.ensures new.names (reads tree) (reads (shown name)) (c.reads.ensures new.names tree port) (c.reads-2.ensures new.names (shown name) c.in_ok-other.ensures.port)
+    c.either.ensures new.names (reads tree) (reads (shown name)) (c.in_ok-reads.ensures new.names tree port) (c.in_ok-reads-2.ensures new.names (shown name) c.in_ok-other.ensures.port)

@@ -14,5 +14,5 @@ returns-clause-pushed c = λ source item start list are.
     let ps = plans source item c.args.statements.now in
     let trees = ended_guards (c.args.number + 1) ps in
     let P : ℕ → Type 0 = λ n. ShowsGuards mid (ended_guards n ps) guards in
-    let all = c.all_of.ensures mid trees (subst P c.in_ok-after.ensures (c.in_ok-guards.ensures.guards source item)) in
+    let all = c.in_ok-all_of.ensures mid trees (subst P c.in_ok-after.ensures (c.in_ok-guards.ensures.guards source item)) in
     c.push.ensures.pushed list (one_when (all_of trees)) (pieces_kept old mid list c.args.pieces.now c.all_ended.ensures.kept.names are) (c.one_when.ensures mid (all_of trees) all)

@@ -33,7 +33,7 @@ returns-clause-made c = λ source item other begin tested made begin_is tested_i
     let ends = c.one_when-ends.ensures mid (ends_guard k p start) (c.in_ok-choice_ends.ensures.guard source item other k begin tested is begin_is tested_is) in
     let pieces_are = c.in_ok-push.ensures.pushed made.pieces (one_when (ends_guard k p start)) (pieces_kept old mid made.pieces parts.pieces c.choice_ends.ensures.kept.names are.pieces) ends in
     let before = acts_kept old new made.enabled made.tested parts.acts kept are.acts in
-    let guard = c.reads.ensures new begin (port_later old new kept begin c.args.at.start begin_is) in
+    let guard = c.in_ok-reads.ensures new begin (port_later old new kept begin c.args.at.start begin_is) in
     let B : Option Actor → Type 0 = λ by. ShowsActs new made.enabled (λ group. made.tested group ++ tests_group by start group) acts in
     let more = λ (m : B (by_group new choice.test.by)).
     own_shown new made pieces acts (ends_wire k p start ∷ []) (by_group old choice.test.by) start pieces_are (subst B (by_kept old new kept choice.test.by c.requires.by) m) in

@@ -29,7 +29,7 @@ returns-then-group-clause-guard c = λ source plan can.
     let P : List (Guard CalPort) → Type 0 = ShowsGuards names trees in
     let source_shown = subst P (sym c.deref.ensures.value) wanted.tested in
     let copied = copies_shown GuardHasNumbers seen_guard names trees c.deref.result.now c.in_ok-copy_guards.field-0.items c.in_ok-copy_guards.ensures source_shown in
-    let G : GuardTree PortName → Type 0 = λ t. ShowsGuard names t c.any_of.result in
+    let G : GuardTree PortName → Type 0 = λ t. IfOk c.any_of.result (ShowsGuard names t) in
     subst G (acts_in_tests source names plan acts group can text c.text.ensures c.if-group.true) (c.any_of.ensures names trees copied)
 
 pub port-requires-clause-number : goal.port-requires-clause-number
@@ -49,7 +49,7 @@ returns-clause-guard c = λ source plan can.
     let P : List (Guard CalPort) → Type 0 = ShowsGuards old trees in
     let source_shown = subst P (sym c.deref-2.ensures.value) wanted.enabled in
     let copied = copies_shown GuardHasNumbers seen_guard old trees c.deref-2.result.now c.in_ok-copy_guards-2.field-0.items c.in_ok-copy_guards-2.ensures source_shown in
-    let enabled = shows_kept GuardHasNumbers seen_guard old names (any_of trees) c.any_of-enabled.result c.port.ensures.kept.names (c.any_of-enabled.ensures old trees copied) in
+    let enabled = shows_kept GuardHasNumbers seen_guard old names (any_of trees) c.in_ok-enabled.enabled c.port.ensures.kept.names (c.in_ok-enabled.ensures old trees copied) in
     let G : GuardTree PortName → Type 0 = λ t. IfOk c.unless.result (ShowsGuard names t) in
     subst G (acts_unless_done source old plan acts group can text c.text.ensures c.if-group.false)
     (c.unless.ensures names (any_of trees) (shown (done_name (text_of old group.name))) enabled c.in_ok-done.ensures.port)

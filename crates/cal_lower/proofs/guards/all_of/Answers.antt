@@ -17,4 +17,4 @@ returns-in-Some c = λ names trees shown.
 pub returns : goal.returns
 returns c = λ names trees shown.
     let none : length c.args.guards.items ≡ 0 = omega (arith, c.in-None.ensures.cases.0, c.args.guards.ok.0) in
-    none_shown names trees c.args.guards.items shown all_of 1 (none_left c.args.guards.items none) refl
+    none_shown names trees c.args.guards.items shown all_of 1 c.in_ok-new-in-None.field-0 c.in_ok-new-in-None.ensures.ok (none_left c.args.guards.items none) refl

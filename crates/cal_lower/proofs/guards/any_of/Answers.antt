@@ -1,4 +1,4 @@
-use Rattle.std.proofs.Common.{◌≡◌, ◌<◌, ◌≤◌, length, refl, ap, subst, arith}
+use Rattle.std.proofs.Common.{◌≡◌, ◌<◌, ◌≤◌, length, IfOk, refl, ap, subst, arith}
 use Rattle.net_core.specs.Guard.{GuardTree}
 use Rattle.cal_ast.specs.Tree.{PortName}
 use Rattle.cal_lower.specs.Pieces.{any_of}
@@ -21,5 +21,5 @@ pub returns : goal.returns
 returns c = λ names trees shown.
     let none : length c.args.guards.items ≡ 0 = omega (arith, c.in-None.ensures.cases.0, c.args.guards.ok.0) in
     let no = no_trees names trees c.args.guards.items shown (none_left c.args.guards.items none) in
-    let P : GuardTree PortName → Type 0 = λ tree. ShowsGuard names tree c.never.result in
+    let P : GuardTree PortName → Type 0 = λ tree. IfOk c.never.result (ShowsGuard names tree) in
     subst P (ap any_of no) (c.never.ensures names)

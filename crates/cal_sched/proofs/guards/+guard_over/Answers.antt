@@ -5,8 +5,9 @@ use Rattle.cal_ast.specs.declared.tree.CalPort.{CalPort}
 use Rattle.net_core.specs.Guard.{GuardTree, guard_tree}
 use Rattle.net_core.specs.declared.net.Guard.{Guard, the_lemmas}
 use Rattle.net_core.specs.declared.net.Guard.TheVariants as variants
+use Rattle.net_core.specs.declared.net.Src.{Src}
 use Rattle.cal_sched.specs.Watching.{AreGuardsOver, HasPorts, guard_reads, negations, source_reads, top_port}
-use Rattle.cal_sched.proofs.GuardLemmas.{all_item, all_left, all_right, list_numbers, list_reads, negations-inside, over_all, over_any, over_negated, over_read, over_test}
+use Rattle.cal_sched.proofs.GuardLemmas.{all_item, all_left, all_right, list_numbers, list_reads, negations-inside, over_all, over_any, over_boxed, over_negated, over_read, over_test}
 use Rattle.cal_sched.proofs.guards.+guard_over.Goals as goal
 
 pub guard_over-loop-inner-preserved : goal.guard_over-loop-inner-preserved
@@ -32,30 +33,39 @@ pub guard_over-returns-in-Read : goal.guard_over-returns-in-Read
 guard_over-returns-in-Read t c =
     let names = c.args.names.now in
     let ports = c.args.ports.now in
-    over_negated names ports c.args.guard.now c.loop-inner.inner.now (variants.Read c.in-Read.src) (variants.Read c.in_ok-src-in-Read.src) c.loop-inner.count c.negate.result
-    c.loop-inner.invariant.rest c.in-Read.is (over_read names ports c.in-Read.src c.in_ok-src-in-Read.src c.in_ok-src-in-Read.ensures) (c.negate.ensures.tree ports) c.negate.ensures.ports
+    let made = c.in_ok-new-in-Read.field-0 in
+    let over = over_boxed names ports c.in-Read.src made c.deref.result.now c.in_ok-src-in-Read.src c.deref.ensures c.in_ok-new-in-Read.ensures.ok c.in_ok-src-in-Read.ensures in
+    over_negated names ports c.args.guard.now c.loop-inner.inner.now (variants.Read c.in-Read.src) (variants.Read made) c.loop-inner.count c.negate.result c.loop-inner.invariant.rest
+    c.in-Read.is (over_read names ports c.in-Read.src made over) (c.negate.ensures.tree ports) c.negate.ensures.ports
 
 pub guard_over-source_over-requires-in-Test-clause-there : goal.guard_over-source_over-requires-in-Test-clause-there
 guard_over-source_over-requires-in-Test-clause-there t c =
     let names = c.args.names.now in
     let T : Guard CalPort → Type 0 = λ g. HasPorts c.args.ports.now (guard_reads names g) in
-    all_left (Contains c.args.ports.now) (source_reads names c.in-Test.left) (source_reads names c.in-Test.right) (subst T c.in-Test.is c.loop-inner.invariant.there)
+    let S : Src CalPort → Type 0 = λ s. HasPorts c.args.ports.now (source_reads names s) in
+    subst S (sym c.deref-in-Test.ensures)
+    (all_left (Contains c.args.ports.now) (source_reads names c.in-Test.left.value) (source_reads names c.in-Test.right.value) (subst T c.in-Test.is c.loop-inner.invariant.there))
 
 pub guard_over-source_over-requires-in-Test-2-clause-there : goal.guard_over-source_over-requires-in-Test-2-clause-there
 guard_over-source_over-requires-in-Test-2-clause-there t c =
     let names = c.args.names.now in
     let T : Guard CalPort → Type 0 = λ g. HasPorts c.args.ports.now (guard_reads names g) in
-    all_right (Contains c.args.ports.now) (source_reads names c.in-Test.left) (source_reads names c.in-Test.right) (subst T c.in-Test.is c.loop-inner.invariant.there)
+    let S : Src CalPort → Type 0 = λ s. HasPorts c.args.ports.now (source_reads names s) in
+    subst S (sym c.deref-in-Test-2.ensures)
+    (all_right (Contains c.args.ports.now) (source_reads names c.in-Test.left.value) (source_reads names c.in-Test.right.value) (subst T c.in-Test.is c.loop-inner.invariant.there))
 
 pub guard_over-returns-in-Test : goal.guard_over-returns-in-Test
 guard_over-returns-in-Test t c =
     let names = c.args.names.now in
     let ports = c.args.ports.now in
-    let left = c.in_ok-left-in-Test.left in
-    let right = c.in_ok-right-in-Test.right in
+    let left = c.in_ok-left-in-Test-2.left in
+    let right = c.in_ok-right-in-Test-2.right in
+    let first = over_boxed names ports c.in-Test.left left c.deref-in-Test.result.now c.in_ok-left-in-Test.left c.deref-in-Test.ensures c.in_ok-left-in-Test-2.ensures.ok c.in_ok-left-in-Test.ensures in
+    let second =
+    over_boxed names ports c.in-Test.right right c.deref-in-Test-2.result.now c.in_ok-right-in-Test.right c.deref-in-Test-2.ensures c.in_ok-right-in-Test-2.ensures.ok c.in_ok-right-in-Test.ensures in
     over_negated names ports c.args.guard.now c.loop-inner.inner.now (variants.Test c.in-Test.op c.in-Test.left c.in-Test.right) (variants.Test c.in-Test.op left right) c.loop-inner.count
     c.negate-in-Test.result c.loop-inner.invariant.rest c.in-Test.is
-    (over_test names ports c.in-Test.op c.in-Test.left c.in-Test.right left right c.in_ok-left-in-Test.ensures c.in_ok-right-in-Test.ensures)
+    (over_test names ports c.in-Test.op c.in-Test.left c.in-Test.right left right first second)
     (c.negate-in-Test.ensures.tree ports) c.negate-in-Test.ensures.ports
 
 pub guard_over-guards_over-requires : goal.guard_over-guards_over-requires
@@ -67,8 +77,8 @@ guard_over-guards_over-requires t c =
     let inner = c.loop-inner.inner.now in (
       search (rules, the_lemmas),
       (
-        subst N (sym c.deref.ensures.value) (list_numbers names inner c.in-All.guards (inl c.in-All.is) c.loop-inner.invariant.numbers),
-        subst T (sym c.deref.ensures.value) (list_reads (top_port names) (Contains ports) inner c.in-All.guards (inl c.in-All.is) c.loop-inner.invariant.there),
+        subst N (sym c.deref-in-All.ensures.value) (list_numbers names inner c.in-All.guards (inl c.in-All.is) c.loop-inner.invariant.numbers),
+        subst T (sym c.deref-in-All.ensures.value) (list_reads (top_port names) (Contains ports) inner c.in-All.guards (inl c.in-All.is) c.loop-inner.invariant.there),
       ),
     )
 
@@ -79,7 +89,7 @@ guard_over-returns-in-All t c =
     let found = c.in_ok-guards-in-All.guards in
     let O : List (Guard CalPort) → Type 0 = λ gs. AreGuardsOver names ports gs found.items in
     over_negated names ports c.args.guard.now c.loop-inner.inner.now (variants.All c.in-All.guards) (variants.All found) c.loop-inner.count c.negate-in-All.result c.loop-inner.invariant.rest
-    c.in-All.is (over_all names ports c.in-All.guards found (subst O c.deref.ensures.value c.in_ok-guards-in-All.ensures)) (c.negate-in-All.ensures.tree ports) c.negate-in-All.ensures.ports
+    c.in-All.is (over_all names ports c.in-All.guards found (subst O c.deref-in-All.ensures.value c.in_ok-guards-in-All.ensures)) (c.negate-in-All.ensures.tree ports) c.negate-in-All.ensures.ports
 
 pub guard_over-guards_over-requires-in-Any : goal.guard_over-guards_over-requires-in-Any
 guard_over-guards_over-requires-in-Any t c =

@@ -35,14 +35,14 @@ holds-all_hold-requires t c =
     let values = c.args.sim.now.values in
     let W : List (Guard ℕ) → Type 0 = All (λ g. AreWithin values (guard_ports (guard_tree numbers_only g))) in (
       search (rules, the_lemmas),
-      subst W (sym c.deref.ensures.value) (list_reads numbers_only (λ k. k < length values) c.loop-inner.inner.now c.in-All.guards (inl c.in-All.is) c.loop-inner.invariant.within),
+      subst W (sym c.deref-in-All.ensures.value) (list_reads numbers_only (λ k. k < length values) c.loop-inner.inner.now c.in-All.guards (inl c.in-All.is) c.loop-inner.invariant.within),
     )
 
 pub holds-returns-in-All : goal.holds-returns-in-All
 holds-returns-in-All t c =
     let look = value_at c.args.sim.now.values in
     negated_whole c.all_hold.result c.loop-inner.negated _ _ c.loop-inner.invariant.value
-    (holds_all look c.loop-inner.inner.now c.in-All.guards c.deref.result.now c.all_hold.result c.deref.ensures.value c.in-All.is c.all_hold.ensures)
+    (holds_all look c.loop-inner.inner.now c.in-All.guards c.deref-in-All.result.now c.all_hold.result c.deref-in-All.ensures.value c.in-All.is c.all_hold.ensures)
 
 pub holds-any_holds-requires : goal.holds-any_holds-requires
 holds-any_holds-requires t c =

@@ -14,7 +14,7 @@ use Rattle.fil_check.proofs.weight.weights_of.Goals as goal
 
 pub loop-comp-init : goal.loop-comp-init
 loop-comp-init c = record {
-  shown = record { names = c.new.ensures; callees = c.new-2.ensures.items };
+  shown = record { names = c.beside.ensures; callees = c.new.ensures.items };
   weights = c.new-weights.ensures.items;
 }
 

@@ -7,7 +7,7 @@ use Rattle.fil_flow.proofs.PortLemmas.{port_more}
 use Rattle.fil_flow.proofs.earlier.port_names.Goals as goal
 
 pub loop-port-init : goal.loop-port-init
-loop-port-init c distinct = c.new-found.ensures
+loop-port-init c distinct = c.beside-found.ensures
 
 pub loop-port-preserved : goal.loop-port-preserved
 loop-port-preserved c distinct =

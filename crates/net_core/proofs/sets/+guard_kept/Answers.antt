@@ -2,7 +2,7 @@ use Rattle.std.proofs.Common.{All, List, [], ◌∷◌, ◌++◌, ap₂, map, ta
 use Rattle.std.proofs.lemmas.List.{take_more, map-append}
 use Rattle.hw_names.specs.Name.{text_of}
 use Rattle.hw_names.specs.declared.names.NameId.{NameId}
-use Rattle.net_core.specs.Guard.{guards_of, guard_tree, source_tree}
+use Rattle.net_core.specs.Guard.{Reads, Compares, guards_of, guard_tree, source_tree}
 use Rattle.net_core.specs.inside.Kept.{both_kept, kept_by_guard, kept_by_guards}
 use Rattle.net_core.specs.Numbers.{GuardHasNumbers}
 use Rattle.net_core.proofs.GuardLemmas.{list_numbers}
@@ -27,8 +27,10 @@ guard_kept-returns-in-Read t c =
     let ports = c.args.ports.now in
     let texts = text_of c.args.names.now in
     let found = c.judge_source.ensures in
+    let src = c.deref.result.now in
     c.alone.ensures
-    ∙ kept_by_guard-Reads ports (source_tree texts c.in-Read.src) c.judge_source.result (record { known = found.known; fits = found.fits; readable = found.readable; width = found.width })
+    ∙ kept_by_guard-Reads ports (source_tree texts src) c.judge_source.result (record { known = found.known; fits = found.fits; readable = found.readable; width = found.width })
+    ∙ ap (λ s. kept_by_guard ports (Reads (source_tree texts s))) c.deref.ensures
     ∙ ap (λ g. kept_by_guard ports (guard_tree texts g)) (sym c.in-Read.is) ∙ c.loop-inner.invariant.0
 
 pub guard_kept-returns-in-Test : goal.guard_kept-returns-in-Test
@@ -37,23 +39,27 @@ guard_kept-returns-in-Test t c =
     let texts = text_of c.args.names.now in
     let left = c.judge_source-left.ensures in
     let right = c.judge_source-right.ensures in
+    let one = c.deref-in-Test.result.now in
+    let other = c.deref-in-Test-2.result.now in
     c.compared.ensures
-    ∙ kept_by_guard-Compares ports c.in-Test.field-0 (source_tree texts c.in-Test.left) (source_tree texts c.in-Test.right) c.judge_source-left.result c.judge_source-right.result
+    ∙ kept_by_guard-Compares ports c.in-Test.field-0 (source_tree texts one) (source_tree texts other) c.judge_source-left.result c.judge_source-right.result
     (record { known = left.known; fits = left.fits; readable = left.readable; width = left.width }) (record { known = right.known; fits = right.fits; readable = right.readable; width = right.width })
+    ∙ ap (λ s. kept_by_guard ports (Compares c.in-Test.field-0 (source_tree texts s) (source_tree texts other))) c.deref-in-Test.ensures
+    ∙ ap (λ s. kept_by_guard ports (Compares c.in-Test.field-0 (source_tree texts c.in-Test.left.value) (source_tree texts s))) c.deref-in-Test-2.ensures
     ∙ ap (λ g. kept_by_guard ports (guard_tree texts g)) (sym c.in-Test.is) ∙ c.loop-inner.invariant.0
 
 pub guard_kept-guards_kept-requires : goal.guard_kept-guards_kept-requires
 guard_kept-guards_kept-requires t c =
     let P : List (Guard NameId) → Type 0 = All (GuardHasNumbers c.args.names.now) in (
       search (rules, the_lemmas),
-      subst P (sym c.deref.ensures.value) (list_numbers c.args.names.now c.loop-inner.inner.now c.in-All.guards c.in-All.is c.loop-inner.invariant.1),
+      subst P (sym c.deref-in-All.ensures.value) (list_numbers c.args.names.now c.loop-inner.inner.now c.in-All.guards c.in-All.is c.loop-inner.invariant.1),
     )
 
 pub guard_kept-returns-in-All : goal.guard_kept-returns-in-All
 guard_kept-returns-in-All t c =
     let ports = c.args.ports.now in
     let texts = text_of c.args.names.now in
-    c.guards_kept.ensures ∙ ap (λ (gs : List (Guard NameId)). kept_by_guards ports (guards_of (map (guard_tree texts) gs))) c.deref.ensures.value
+    c.guards_kept.ensures ∙ ap (λ (gs : List (Guard NameId)). kept_by_guards ports (guards_of (map (guard_tree texts) gs))) c.deref-in-All.ensures.value
     ∙ sym (kept_by_guard-list c.loop-inner.inner.now c.in-All.guards ports texts c.in-All.is) ∙ c.loop-inner.invariant.0
 
 pub guards_kept-loop-guard-init : goal.guards_kept-loop-guard-init

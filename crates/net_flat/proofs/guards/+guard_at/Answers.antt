@@ -8,7 +8,7 @@ use Rattle.net_core.specs.declared.net.Guard.{Guard, the_lemmas}
 use Rattle.net_core.specs.declared.net.Guard.TheVariants as variants
 use Rattle.net_flat.specs.inside.Placed.{port_text}
 use Rattle.net_flat.specs.inside.StandFor.{AreGuards, negations, net_guard}
-use Rattle.net_flat.proofs.GuardLemmas.{is_all, is_any, is_test, list_numbers, negated_whole, negations-inside}
+use Rattle.net_flat.proofs.GuardLemmas.{boxed, is_all, is_any, is_read, is_test, list_numbers, negated_whole, negations-inside}
 use Rattle.net_flat.proofs.StandLemmas.{Keeps-then, stable_guard, stand_push}
 use Rattle.net_flat.proofs.TakeLemmas.{map_one}
 use Rattle.net_flat.proofs.guards.+guard_at.Goals as goal
@@ -31,14 +31,29 @@ guard_at-loop-inner-preserved t c =
       depth = search (rules, the_lemmas);
     }
 
+pub guard_at-returns-in-Read-clause-guard : goal.guard_at-returns-in-Read-clause-guard
+guard_at-returns-in-Read-clause-guard t c =
+    let f = port_text c.args.source.now c.args.prefix.now in
+    let shape : Guard CalPort = variants.Read c.in-Read.src in
+    let whole = ap (λ (g : Guard CalPort). negations c.loop-inner.count (guard_tree f g)) (sym c.in-Read.is) ∙ c.loop-inner.invariant.rest in
+    let names = c.source_at.new.names in
+    let src = c.in_ok-new-in-Read.field-0 in
+    let source = boxed names f c.in-Read.src.value c.deref.result.now c.in_ok-src-in-Read.src src.value c.deref.ensures c.in_ok-new-in-Read.ensures.ok c.in_ok-src-in-Read.ensures.source in
+    let here = is_read names f c.in-Read.src src source in
+    negated_whole names f c.args.guard.now shape c.loop-inner.count c.negate.result whole (c.negate.ensures names (guard_tree f shape) here)
+
 pub guard_at-returns-in-Test-clause-guard : goal.guard_at-returns-in-Test-clause-guard
 guard_at-returns-in-Test-clause-guard t c =
     let f = port_text c.args.source.now c.args.prefix.now in
     let shape : Guard CalPort = variants.Test c.in-Test.op c.in-Test.left c.in-Test.right in
     let whole = ap (λ (g : Guard CalPort). negations c.loop-inner.count (guard_tree f g)) (sym c.in-Test.is) ∙ c.loop-inner.invariant.rest in
+    let before = c.source_at-in-Test.new.names in
     let names = c.source_at-in-Test-2.new.names in
-    let here = is_test c.source_at-in-Test.new.names names f c.in-Test.op c.in-Test.left c.in-Test.right c.in_ok-left-in-Test.left c.in_ok-right-in-Test.right
-    c.source_at-in-Test-2.ensures.kept c.in_ok-left-in-Test.ensures.source c.in_ok-right-in-Test.ensures.source in
+    let left = c.in_ok-left-in-Test-2.left in
+    let right = c.in_ok-right-in-Test-2.right in
+    let first = boxed before f c.in-Test.left.value c.deref-in-Test.result.now c.in_ok-left-in-Test.left left.value c.deref-in-Test.ensures c.in_ok-left-in-Test-2.ensures.ok c.in_ok-left-in-Test.ensures.source in
+    let second = boxed names f c.in-Test.right.value c.deref-in-Test-2.result.now c.in_ok-right-in-Test.right right.value c.deref-in-Test-2.ensures c.in_ok-right-in-Test-2.ensures.ok c.in_ok-right-in-Test.ensures.source in
+    let here = is_test before names f c.in-Test.op c.in-Test.left c.in-Test.right left right c.source_at-in-Test-2.ensures.kept first second in
     negated_whole names f c.args.guard.now shape c.loop-inner.count c.negate-in-Test.result whole (c.negate-in-Test.ensures names (guard_tree f shape) here)
 
 pub guard_at-guards_at-requires : goal.guard_at-guards_at-requires
@@ -46,7 +61,7 @@ guard_at-guards_at-requires t c =
     let source = c.args.source.now in
     let P : List (Guard CalPort) → Type 0 = All (cal.GuardHasNumbers source) in (
       search (rules, the_lemmas),
-      subst P (sym c.deref.ensures.value) (list_numbers source c.loop-inner.inner.now c.in-All.guards (inl c.in-All.is) c.loop-inner.invariant.numbers),
+      subst P (sym c.deref-in-All.ensures.value) (list_numbers source c.loop-inner.inner.now c.in-All.guards (inl c.in-All.is) c.loop-inner.invariant.numbers),
     )
 
 pub guard_at-guards_at-requires-in-Any : goal.guard_at-guards_at-requires-in-Any
@@ -63,7 +78,7 @@ guard_at-returns-in-All-clause-guard t c =
     let shape : Guard CalPort = variants.All c.in-All.guards in
     let whole = ap (λ (g : Guard CalPort). negations c.loop-inner.count (guard_tree f g)) (sym c.in-All.is) ∙ c.loop-inner.invariant.rest in
     let names = c.guards_at.new.names in
-    let found = subst (λ (gs : List (Guard CalPort)). AreGuards names (map (guard_tree f) gs) c.in_ok-guards-in-All.guards.items) c.deref.ensures.value c.in_ok-guards-in-All.ensures.guards in
+    let found = subst (λ (gs : List (Guard CalPort)). AreGuards names (map (guard_tree f) gs) c.in_ok-guards-in-All.guards.items) c.deref-in-All.ensures.value c.in_ok-guards-in-All.ensures.guards in
     let here = is_all names f c.in-All.guards c.in_ok-guards-in-All.guards found in
     negated_whole names f c.args.guard.now shape c.loop-inner.count c.negate-in-All.result whole (c.negate-in-All.ensures names (guard_tree f shape) here)
 

@@ -1,11 +1,12 @@
-use Rattle.std.proofs.Common.{◌≡◌, ℕ, Bool, not, List, All, length, map, take, rules, arith, ap, sym, subst, inl, inr, ◌∙◌}
+use Rattle.std.proofs.Common.{◌≡◌, ℕ, Bool, not, List, All, length, map, take, rules, arith, ap, ap₂, sym, subst, inl, inr, ◌∙◌}
 use Rattle.std.proofs.Math.Seq.{take-length}
 use Rattle.hw_names.specs.Name.{Text, text_of}
 use Rattle.hw_names.specs.declared.names.NameId.{NameId}
 use Rattle.net_core.proofs.GuardLemmas.{guard_tree-All, guard_tree-Any, list_numbers}
 use Rattle.net_core.specs.Guard.{AllOf, AnyOf, Compares, GuardTree, Reads, guards_of, source_tree}
-use Rattle.net_core.specs.Numbers.{GuardHasNumbers}
+use Rattle.net_core.specs.Numbers.{GuardHasNumbers, SourceHasNumbers}
 use Rattle.net_core.specs.declared.net.Guard.{Guard, the_lemmas}
+use Rattle.net_core.specs.declared.net.Src.{Src}
 use Rattle.net_guard.proofs.FoldLemmas.{folds_whole, negation_inside, same_reduced}
 use Rattle.net_guard.proofs.GatherLemmas.{decided_list, no_list, trees_next}
 use Rattle.net_guard.specs.inside.Folding.{FoldsTo, IsListFoldOf, IsReduced, joint_tree, negated_tree, tree_of}
@@ -41,10 +42,12 @@ fold-returns-in-Read t c = λ names numbers.
     let negated = c.loop-inner.negated in
     let N : Guard NameId → Type 0 = GuardHasNumbers names in
     let has = subst N c.in-Read.is (c.loop-inner.invariant.numbers names numbers) in
-    let tree : GuardTree Text = Reads (source_tree (text_of names) c.in-Read.src) in
+    let seen : SourceHasNumbers names c.deref.result.now = subst (SourceHasNumbers names) (sym c.deref.ensures) has in
+    let tree : GuardTree Text = Reads (source_tree (text_of names) c.deref.result.now) in
+    let same : tree_of names c.loop-inner.inner.now ≡ tree = ap (tree_of names) c.in-Read.is ∙ ap (λ (s : Src NameId). Reads (source_tree (text_of names) s)) (sym c.deref.ensures) in
     folds_whole names (tree_of names whole) (negated_tree negated tree) c.negate.result
-    (subst (Left names whole negated) c.in-Read.is (c.loop-inner.invariant.reduced names))
-    (c.negate.ensures names tree (c.fold_source.ensures names has))
+    (subst (λ (g : GuardTree Text). IsReduced (tree_of names whole) (negated_tree negated g)) same (c.loop-inner.invariant.reduced names))
+    (c.negate.ensures names tree (c.fold_source.ensures names seen))
 
 pub fold-returns-in-Test : goal.fold-returns-in-Test
 fold-returns-in-Test t c = λ names numbers.
@@ -52,10 +55,14 @@ fold-returns-in-Test t c = λ names numbers.
     let negated = c.loop-inner.negated in
     let N : Guard NameId → Type 0 = GuardHasNumbers names in
     let has = subst N c.in-Test.is (c.loop-inner.invariant.numbers names numbers) in
-    let tree : GuardTree Text = Compares c.in-Test.op (source_tree (text_of names) c.in-Test.left) (source_tree (text_of names) c.in-Test.right) in
+    let first : SourceHasNumbers names c.deref-in-Test.result.now = subst (SourceHasNumbers names) (sym c.deref-in-Test.ensures) has.0 in
+    let second : SourceHasNumbers names c.deref-in-Test-2.result.now = subst (SourceHasNumbers names) (sym c.deref-in-Test-2.ensures) has.1 in
+    let tests : Src NameId → Src NameId → GuardTree Text = λ a b. Compares c.in-Test.op (source_tree (text_of names) a) (source_tree (text_of names) b) in
+    let tree : GuardTree Text = tests c.deref-in-Test.result.now c.deref-in-Test-2.result.now in
+    let same : tree_of names c.loop-inner.inner.now ≡ tree = ap (tree_of names) c.in-Test.is ∙ ap₂ tests (sym c.deref-in-Test.ensures) (sym c.deref-in-Test-2.ensures) in
     folds_whole names (tree_of names whole) (negated_tree negated tree) c.negate-in-Test.result
-    (subst (Left names whole negated) c.in-Test.is (c.loop-inner.invariant.reduced names))
-    (c.negate-in-Test.ensures names tree (c.fold_test.ensures names has.0 has.1))
+    (subst (λ (g : GuardTree Text). IsReduced (tree_of names whole) (negated_tree negated g)) same (c.loop-inner.invariant.reduced names))
+    (c.negate-in-Test.ensures names tree (c.fold_test.ensures names first second))
 
 pub fold-returns-in-All : goal.fold-returns-in-All
 fold-returns-in-All t c = λ names numbers.
@@ -65,7 +72,7 @@ fold-returns-in-All t c = λ names numbers.
     let each = list_numbers names c.loop-inner.inner.now gs (inl c.in-All.is) (c.loop-inner.invariant.numbers names numbers) in
     let A : List (Guard NameId) → Type 0 = All (GuardHasNumbers names) in
     let F : List (Guard NameId) → Type 0 = λ xs. FoldsTo names (AllOf (guards_of (map (tree_of names) xs))) c.in_ok-folded-in-All.folded in
-    let found = subst F c.deref.ensures.value (c.in_ok-folded-in-All.ensures names (subst A (sym c.deref.ensures.value) each)) in
+    let found = subst F c.deref-in-All.ensures.value (c.in_ok-folded-in-All.ensures names (subst A (sym c.deref-in-All.ensures.value) each)) in
     let tree : GuardTree Text = AllOf (guards_of (map (tree_of names) gs.items)) in
     let same : tree_of names c.loop-inner.inner.now ≡ tree = ap (tree_of names) c.in-All.is ∙ guard_tree-All (text_of names) gs in
     folds_whole names (tree_of names whole) (negated_tree negated tree) c.negate-in-All.result

@@ -1,21 +1,25 @@
 use Rattle.std.proofs.Common.{refl, sym, subst, inl, inr}
 use Rattle.net_core.specs.declared.net.Guard.TheVariants as variants
-use Rattle.net_guard.proofs.TopLemmas.{list_guard}
+use Rattle.net_guard.proofs.TopLemmas.{list_guard, read_guard, test_guard}
 use Rattle.net_guard.specs.inside.Folding.{CoreHasNumbers, IsGuardOf, core_tree}
 use Rattle.net_guard.specs.declared.tops.Core.{Core}
 use Rattle.net_guard.proofs.tops.core_guard.Goals as goal
 
-pub returns-in-Read : goal.returns-in-Read
-returns-in-Read c = λ names has.
+pub returns-in_ok-new-in-Read : goal.returns-in_ok-new-in-Read
+returns-in_ok-new-in-Read c = λ names has.
     let N : Core → Type 0 = CoreHasNumbers names in
-    let G : Core → Type 0 = λ core. IsGuardOf names (core_tree names core) (variants.Read c.in-Read.src) in
-    subst G (sym c.in-Read.is) (record { numbers = subst N c.in-Read.is has; tree = refl })
+    let made = c.in_ok-new-in-Read in
+    let G : Core → Type 0 = λ core. IsGuardOf names (core_tree names core) (variants.Read made.field-0) in
+    subst G (sym c.in-Read.is) (read_guard names c.in-Read.src made.field-0 made.ensures.ok (subst N c.in-Read.is has))
 
-pub returns-in-Test : goal.returns-in-Test
-returns-in-Test c = λ names has.
+pub returns-in_ok-right-in-Test : goal.returns-in_ok-right-in-Test
+returns-in_ok-right-in-Test c = λ names has.
     let N : Core → Type 0 = CoreHasNumbers names in
-    let G : Core → Type 0 = λ core. IsGuardOf names (core_tree names core) (variants.Test c.in-Test.op c.in-Test.left c.in-Test.right) in
-    subst G (sym c.in-Test.is) (record { numbers = subst N c.in-Test.is has; tree = refl })
+    let arm = c.in-Test in
+    let left = c.in_ok-left-in-Test in
+    let right = c.in_ok-right-in-Test in
+    let G : Core → Type 0 = λ core. IsGuardOf names (core_tree names core) (variants.Test arm.op left.left right.right) in
+    subst G (sym arm.is) (test_guard names arm.op arm.left arm.right left.left right.right left.ensures.ok right.ensures.ok (subst N arm.is has))
 
 pub returns-in_ok-into_vec-in-List-All-default : goal.returns-in_ok-into_vec-in-List-All-default
 returns-in_ok-into_vec-in-List-All-default c = λ names has.

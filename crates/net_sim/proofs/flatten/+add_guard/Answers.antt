@@ -1,4 +1,4 @@
-use Rattle.std.proofs.Common.{◌≡◌, ◌+◌, ◌-◌, ◌<◌, [], ◌∷◌, ◌++◌, List, length, map, drop, All, ap, sym, subst, ◌∙◌, inl, inr, rules, arith}
+use Rattle.std.proofs.Common.{◌≡◌, ◌+◌, ◌-◌, ◌<◌, [], ◌∷◌, ◌++◌, List, length, map, drop, All, ap, ap₂, sym, subst, ◌∙◌, inl, inr, rules, arith}
 use Rattle.std.proofs.lemmas.List.{drop_all}
 use Rattle.hw_names.specs.Name.{Text, text_of}
 use Rattle.hw_names.specs.declared.names.NameId.{NameId}
@@ -8,6 +8,7 @@ use Rattle.net_core.specs.Guard.{GuardTree, GuardTrees, MoreGuards, Negates, Rea
 use Rattle.net_core.specs.Numbers.{GuardHasNumbers}
 use Rattle.net_core.specs.declared.net.Cmp.TheVariants.{Eq}
 use Rattle.net_core.specs.declared.net.Guard.{Guard, the_lemmas}
+use Rattle.net_core.specs.declared.net.Src.{Src}
 use Rattle.net_sim.proofs.FlattenLemmas.{if_ok, if_both_ok, finish, all_truth, any_truth, all_sources, any_sources, source_in, adds_leaf, read_truth, compare_truth, negated_exit, exits_negated, exits_there, listed_none, listed_more, drop_trees}
 use Rattle.net_sim.proofs.TestLemmas.{source_within}
 use Rattle.net_sim.specs.inside.Flattening.{IsKnownSource, EachSource, AreExits, AddsTests, joined, exit_of}
@@ -76,7 +77,7 @@ add_guard-returns-in-Read t c =
     let texts = text_of c.args.names.now in
     let inv = c.loop-inner.invariant in
     let ports = c.args.ports.now in
-    let src = source_tree texts c.in-Read.src in
+    let src = source_tree texts c.deref-in-Read.result.now in
     let truth = λ (row : Row). holds row (Reads src) in
     let whole = λ (row : Row). holds row (guard_tree texts c.args.guard.now) in
     let old = c.loop-inner.tests.items in
@@ -88,7 +89,9 @@ add_guard-returns-in-Read t c =
     if_both_ok c.add_test.result (λ number. new ≡ old ++ c.test.result ∷ []) (λ number. number ≡ length old + 2) (AddsTests ports c.args.tests.now.items new c.args.exits whole)
     (λ number items is.
     finish ports c.args.tests.now.items old new c.args.exits c.loop-inner.ways truth whole number inv.tests
-    (λ row. ap (λ (g : Guard NameId). exit_of c.loop-inner.ways (holds row (guard_tree texts g))) (sym c.in-Read.is) ∙ inv.same row)
+    (λ row.
+    ap (λ (s : Src NameId). exit_of c.loop-inner.ways (holds row (Reads (source_tree texts s)))) c.deref-in-Read.ensures
+    ∙ ap (λ (g : Guard NameId). exit_of c.loop-inner.ways (holds row (guard_tree texts g))) (sym c.in-Read.is) ∙ inv.same row)
     (rw (items, is) added))
     c.add_test.ensures.items c.add_test.ensures.number
 
@@ -97,8 +100,8 @@ add_guard-returns-in-Test t c =
     let texts = text_of c.args.names.now in
     let inv = c.loop-inner.invariant in
     let ports = c.args.ports.now in
-    let a = source_tree texts c.in-Test.left in
-    let b = source_tree texts c.in-Test.right in
+    let a = source_tree texts c.deref-in-Test.result.now in
+    let b = source_tree texts c.deref-in-Test-2.result.now in
     let truth = λ (row : Row). holds row (Compares c.in-Test.op a b) in
     let whole = λ (row : Row). holds row (guard_tree texts c.args.guard.now) in
     let old = c.loop-inner.tests.items in
@@ -110,7 +113,9 @@ add_guard-returns-in-Test t c =
     if_both_ok c.add_test-in-Test.result (λ number. new ≡ old ++ c.test-in-Test.result ∷ []) (λ number. number ≡ length old + 2) (AddsTests ports c.args.tests.now.items new c.args.exits whole)
     (λ number items is.
     finish ports c.args.tests.now.items old new c.args.exits c.loop-inner.ways truth whole number inv.tests
-    (λ row. ap (λ (g : Guard NameId). exit_of c.loop-inner.ways (holds row (guard_tree texts g))) (sym c.in-Test.is) ∙ inv.same row)
+    (λ row.
+    ap₂ (λ (s u : Src NameId). exit_of c.loop-inner.ways (holds row (Compares c.in-Test.op (source_tree texts s) (source_tree texts u)))) c.deref-in-Test.ensures c.deref-in-Test-2.ensures
+    ∙ ap (λ (g : Guard NameId). exit_of c.loop-inner.ways (holds row (guard_tree texts g))) (sym c.in-Test.is) ∙ inv.same row)
     (rw (items, is) added))
     c.add_test-in-Test.ensures.items c.add_test-in-Test.ensures.number
 

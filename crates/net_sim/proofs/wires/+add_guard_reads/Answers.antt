@@ -1,4 +1,4 @@
-use Rattle.std.proofs.Common.{◌≡◌, ◌<◌, ◌∙◌, ◌++◌, List, [], Some, map, length, get_or, sym, ap, subst, subst₂, rules, arith}
+use Rattle.std.proofs.Common.{◌≡◌, ◌<◌, ◌∙◌, ◌++◌, List, [], Some, map, length, get_or, sym, ap, ap₂, subst, subst₂, rules, arith}
 use Rattle.std.specs.Prelude.{All, Contains, IfOk, slice_get}
 use Rattle.std.proofs.lemmas.List.{map-append}
 use Rattle.std.proofs.lemmas.Option.{slice_get-get_or}
@@ -9,6 +9,7 @@ use Rattle.net_core.specs.Graph.{guard_ports, guards_ports, source_ports}
 use Rattle.net_core.specs.Guard.{guards_of, guard_tree, source_tree}
 use Rattle.net_core.specs.Numbers.{GuardHasNumbers}
 use Rattle.net_core.specs.declared.net.Guard.{Guard, the_lemmas}
+use Rattle.net_core.specs.declared.net.Src.{Src}
 use Rattle.net_sim.proofs.GuardReadLemmas.{guard_readings, guard_ports-list, readings-list, all_of_one, all_right, if_ok}
 use Rattle.net_sim.proofs.WireLemmas.{add_more, add_next, add_all}
 use Rattle.net_sim.specs.inside.Wires.{reading, AddReadings}
@@ -20,24 +21,28 @@ add_guard_reads-returns-in-Read t c =
     let ports = c.args.ports.now in
     let tree = guard_tree (text_of c.args.names.now) in
     let port = reading (get_or ports c.args.port []) in
-    let same = ap (λ g. guard_ports (tree g)) (sym c.in-Read.is) ∙ c.loop-inner.invariant.reads in
+    let same =
+    ap (λ (s : Src NameId). source_ports (source_tree (text_of c.args.names.now) s)) c.deref.ensures ∙ ap (λ g. guard_ports (tree g)) (sym c.in-Read.is)
+    ∙ c.loop-inner.invariant.reads in
     subst₂ (λ (l : List Text) (x : List Entry). IfOk c.add_source_read.result (λ _. AddReadings ports (map port l) x c.add_source_read.new.entries.items)) same c.loop-inner.invariant.entries c.add_source_read.ensures
 
 pub add_guard_reads-add_source_read-requires-in-Test-2-clause-there : goal.add_guard_reads-add_source_read-requires-in-Test-2-clause-there
 add_guard_reads-add_source_read-requires-in-Test-2-clause-there t c =
     let texts = text_of c.args.names.now in
     let same = sym c.loop-inner.invariant.reads ∙ ap (λ g. guard_ports (guard_tree texts g)) c.in-Test.is in
-    all_right (Contains c.args.ports.now) (source_ports (source_tree texts c.in-Test.left)) (source_ports (source_tree texts c.in-Test.right)) (subst (All (Contains c.args.ports.now)) same c.requires.there)
+    subst (λ (s : Src NameId). All (Contains c.args.ports.now) (source_ports (source_tree texts s))) (sym c.deref-in-Test-2.ensures)
+    (all_right (Contains c.args.ports.now) (source_ports (source_tree texts c.in-Test.left.value)) (source_ports (source_tree texts c.in-Test.right.value)) (subst (All (Contains c.args.ports.now)) same c.requires.there))
 
 pub add_guard_reads-returns-in-Test : goal.add_guard_reads-returns-in-Test
 add_guard_reads-returns-in-Test t c =
     let ports = c.args.ports.now in
     let texts = text_of c.args.names.now in
     let port = reading (get_or ports c.args.port []) in
-    let left = source_ports (source_tree texts c.in-Test.left) in
-    let right = source_ports (source_tree texts c.in-Test.right) in
+    let left = source_ports (source_tree texts c.deref-in-Test.result.now) in
+    let right = source_ports (source_tree texts c.deref-in-Test-2.result.now) in
+    let here = ap₂ (λ (a b : Src NameId). source_ports (source_tree texts a) ++ source_ports (source_tree texts b)) c.deref-in-Test.ensures c.deref-in-Test-2.ensures in
     let new = c.add_source_read-in-Test-2.new.entries.items in
-    let same = sym (map-append port left right) ∙ ap (map port) (ap (λ g. guard_ports (guard_tree texts g)) (sym c.in-Test.is) ∙ c.loop-inner.invariant.reads) in
+    let same = sym (map-append port left right) ∙ ap (map port) (here ∙ ap (λ g. guard_ports (guard_tree texts g)) (sym c.in-Test.is) ∙ c.loop-inner.invariant.reads) in
     let both = if_ok c.add_source_read-in-Test-2.result (AddReadings ports (map port right) c.add_source_read-in-Test.new.entries.items new) (AddReadings ports (map port left ++ map port right) c.loop-inner.entries.items new)
     (add_more ports (map port left) (map port right) c.loop-inner.entries.items c.add_source_read-in-Test.new.entries.items new c.in_ok-add_source_read-in-Test.ensures) c.add_source_read-in-Test-2.ensures in
     subst₂ (λ l (x : List Entry). IfOk c.add_source_read-in-Test-2.result (λ _. AddReadings ports l x new)) same c.loop-inner.invariant.entries both
@@ -52,8 +57,8 @@ add_guard_reads-add_guards_reads-requires t c =
       (
         c.requires.port,
         (
-          subst (All (GuardHasNumbers names)) (sym c.deref.ensures.value) (list_numbers names c.loop-inner.inner.now c.in-All.guards c.in-All.is c.loop-inner.invariant.numbers),
-          subst (λ (gs : List (Guard NameId)). All (Contains ports) (guards_ports (guards_of (map tree gs)))) (sym c.deref.ensures.value) (subst (All (Contains ports)) listed c.requires.there),
+          subst (All (GuardHasNumbers names)) (sym c.deref-in-All.ensures.value) (list_numbers names c.loop-inner.inner.now c.in-All.guards c.in-All.is c.loop-inner.invariant.numbers),
+          subst (λ (gs : List (Guard NameId)). All (Contains ports) (guards_ports (guards_of (map tree gs)))) (sym c.deref-in-All.ensures.value) (subst (All (Contains ports)) listed c.requires.there),
         ),
       ),
     )
@@ -63,7 +68,7 @@ add_guard_reads-returns-in-All t c =
     let ports = c.args.ports.now in
     let texts = text_of c.args.names.now in
     let port = reading (get_or ports c.args.port []) in
-    let same = ap (λ (gs : List (Guard NameId)). guards_ports (guards_of (map (guard_tree texts) gs))) c.deref.ensures.value ∙ sym (guard_ports-list texts c.loop-inner.inner.now c.in-All.guards c.in-All.is) ∙ c.loop-inner.invariant.reads in
+    let same = ap (λ (gs : List (Guard NameId)). guards_ports (guards_of (map (guard_tree texts) gs))) c.deref-in-All.ensures.value ∙ sym (guard_ports-list texts c.loop-inner.inner.now c.in-All.guards c.in-All.is) ∙ c.loop-inner.invariant.reads in
     subst₂ (λ (l : List Text) (x : List Entry). IfOk c.add_guards_reads.result (λ _. AddReadings ports (map port l) x c.add_guards_reads.new.entries.items)) same c.loop-inner.invariant.entries c.add_guards_reads.ensures
 
 pub add_guards_reads-add_guard_reads-requires : goal.add_guards_reads-add_guard_reads-requires

@@ -151,4 +151,4 @@ unit-returns-in_err-source-clause-read t c =
 
 pub unit-returns-clause-read : goal.unit-returns-clause-read
 unit-returns-clause-read t c = λ later ext.
-    plain_source c.args.text.now c.requires.plain (sym c.in_default.ensures.read) ∙ rw (c.in_ok-source.ensures.read later ext) refl
+    plain_source c.args.text.now c.requires.plain (sym c.in_default.ensures.read) ∙ rw (c.in_ok-source.ensures.read later ext) (rw c.in_ok-new.ensures.ok refl)

@@ -16,7 +16,7 @@ pub put_guard-put_guards-requires : goal.put_guard-put_guards-requires
 put_guard-put_guards-requires t c =
     let names = c.args.names.now in (
       search (rules, the_lemmas),
-      subst (λ (gs : List (Guard NameId)). All (GuardHasNumbers names) gs) (sym c.deref.ensures.value)
+      subst (λ (gs : List (Guard NameId)). All (GuardHasNumbers names) gs) (sym c.deref-in-All.ensures.value)
           (all_numbers names c.in-All.guards (subst (λ (g : Guard NameId). GuardHasNumbers names g) c.in-All.is c.loop-rest.invariant.1)),
     )
 
@@ -33,7 +33,7 @@ put_guard-returns-in-All t c =
     let names = c.args.names.now in
     let out = c.loop-rest.out.items in
     OnOk-is c.put_guards.result c.put_guards.new.out.items _ _ c.put_guards.ensures
-    (ap (λ (gs : List (Guard NameId)). out ++ guard_text (AllOf (guards_of names gs))) c.deref.ensures.value
+    (ap (λ (gs : List (Guard NameId)). out ++ guard_text (AllOf (guards_of names gs))) c.deref-in-All.ensures.value
     ∙ ap (λ (tree : GuardTree Text). out ++ guard_text tree) (sym (all_tree names c.in-All.guards) ∙ ap (guard_tree (text_of names)) (sym c.in-All.is))
     ∙ c.loop-rest.invariant.2)
 

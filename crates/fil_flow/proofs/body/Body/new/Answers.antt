@@ -13,4 +13,4 @@ returns c earlier before known new_names =
     let I : List FilPort → Type 0 = λ ports. AreDistinct (data_names (map (port_tree c.args.names.now) ports)) → c.in_ok-inputs.inputs ≡ data_names (map (port_tree c.args.names.now) ports) in
     let inputs = subst I c.deref.ensures.value c.in_ok-inputs.ensures in
     body_start earlier before comp _ known (inputs (inputs_differ before comp new_names))
-    c.new.ensures c.new-2.ensures.items c.new-3.ensures c.new-4.ensures.items c.len-places.ensures.len c.len-places.ensures.small
+    c.beside.ensures c.new.ensures.items c.beside-2.ensures c.new-2.ensures.items c.len-places.ensures.len c.len-places.ensures.small
