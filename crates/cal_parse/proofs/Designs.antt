@@ -82,8 +82,8 @@ module _ (names : List Text) where
 
   mutual
     guard_numbers : (g : Guard CalPort) → GuardIsWritten (guard_tree (port_tree names) g) → GuardHasNumbers names g
-    guard_numbers (guards.Read s) w = source_numbers s w
-    guard_numbers (guards.Test op a b) w = (source_numbers a w.0, source_numbers b w.1)
+    guard_numbers (guards.Read s) w = source_numbers s.value w
+    guard_numbers (guards.Test op a b) w = (source_numbers a.value w.0, source_numbers b.value w.1)
     guard_numbers (guards.Not' p g) w = guard_numbers g w
     guard_numbers (guards.All' shape gs) w = guards_numbers gs w.1
     guard_numbers (guards.Any' shape gs) w = guards_numbers gs w.1

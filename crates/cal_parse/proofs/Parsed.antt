@@ -7,6 +7,7 @@ use Rattle.hw_lex.specs.declared.token.Dialect.TheVariants.{Cal}
 use Rattle.hw_lex.specs.declared.token.Token.{Token}
 use Rattle.hw_lex.specs.Cut.{AreTokens, token_texts}
 use Rattle.hw_lex.specs.Nesting.{nesting_of}
+use Rattle.hw_lex.proofs.Cuts.{tokens_unique}
 use Rattle.hw_grammar.specs.declared.terminal.Terminal.{Terminal}
 use Rattle.hw_grammar.specs.Sort.{has}
 use Rattle.hw_grammar.specs.Place.{Place}
@@ -23,6 +24,7 @@ use Rattle.cal_parse.specs.declared.parse.CalTextEnd.{CalTextEnd}
 use Rattle.cal_parse.specs.declared.parse.CalTextEnd.TheVariants as ends
 use Rattle.cal_parse.specs.Grammar.{IsFile}
 use Rattle.cal_parse.specs.inside.Reading.{file_at}
+use Rattle.cal_parse.specs.inside.Refusal.{IsRefusedFrom}
 use Rattle.cal_parse.specs.Spelling.{SpellsDesign, IsRefusedAt, left_out, is_left_out, KeepsNesting, GrammarEnds, EndsBy}
 use Rattle.cal_parse.proofs.Exactness.{file_judged}
 
@@ -46,11 +48,6 @@ module _ (dialect : Dialect) (names : List Text) (source : List ℕ) (tokens : L
   pub read_spelled : (design : Design) → whole (file_at names us) ≡ Ok design → SpellsDesign source design
   read_spelled design e = (names, text_spelled Cal (IsFile names) names source tokens ts design lexed (judged_as names ts us (Ok design) same e).0)
 
-  pub read_within : (bad : List Terminal) → whole (file_at names us) ≡ Err bad → length bad ≤ length tokens
-  read_within bad e =
-      let r = judged_as names ts us (Err bad) same e in
-      omega (arith, Begins-length r.begun.3, length-AreTerminals dialect names source tokens ts are)
-
   refusal_of : (bad : List Terminal) → Place (IsFile names) ts (length tokens - length bad) → IsRefusedAt source (byte_of source tokens (length tokens - length bad))
   refusal_of bad place = record {
     names = names;
@@ -62,18 +59,29 @@ module _ (dialect : Dialect) (names : List Text) (source : List ℕ) (tokens : L
     byte = refl;
   }
 
-  pub read_refused : (bad : List Terminal) → whole (file_at names us) ≡ Err bad → (refusal : IsRefusedAt source (byte_of source tokens (length tokens - length bad))) × (is_left_out refusal ≡ has left_out bad)
+  pub read_refused : (bad : List Terminal) → whole (file_at names us) ≡ Err bad → IsRefusedFrom source bad
   unfolding refusal_of
   read_refused bad e =
       let r = judged_as names ts us (Err bad) same e in
       let n : length ts ≡ length tokens = length-AreTerminals dialect names source tokens ts are in
       let place : Place (IsFile names) ts (length tokens - length bad) = subst (λ (x : ℕ). Place (IsFile names) ts (x - length bad)) n (place_of (IsFile names) ts bad r) in
       let rest : drop (length tokens - length bad) ts ≡ bad = subst (λ (x : ℕ). drop (x - length bad) ts ≡ bad) n (begun_rest r.begun.3) in
-      (refusal_of bad place, ap (has left_out) rest)
+      (tokens, cut, omega (arith, Begins-length r.begun.3, n), refusal_of bad place, ap (has left_out) rest)
 
--- at the same byte
-pub refused_at : (source : List ℕ) (at place : ℕ) (left : Bool) → at ≡ place → (refusal : IsRefusedAt source place) × (is_left_out refusal ≡ left) → (refusal : IsRefusedAt source at) × (is_left_out refusal ≡ left)
-refused_at source at place left e r = subst (λ (x : ℕ). (refusal : IsRefusedAt source x) × (is_left_out refusal ≡ left)) (sym e) r
+-- the text is refused at this byte, at a word that is left out or not
+abbrev pub IsRefusedSo : List ℕ → ℕ → Bool → Type 0
+IsRefusedSo source at left = (refusal : IsRefusedAt source at) × (is_left_out refusal ≡ left)
+
+-- by the tokens of a text that is cut once more
+pub refused_again : (text source : List ℕ) (tokens : List Token) (rest : List Terminal) → source ≡ text → AreTokens Cal text tokens → IsRefusedFrom text rest
+    → (length rest ≤ length tokens) × IsRefusedSo text (byte_of source tokens (length tokens - length rest)) (has left_out rest)
+refused_again text source tokens rest same cut (first, of, within, refusal, word) =
+    subst (λ (s : List ℕ). (length rest ≤ length tokens) × IsRefusedSo text (byte_of s tokens (length tokens - length rest)) (has left_out rest)) (sym same)
+    (subst (λ (ts : List Token). (length rest ≤ length ts) × IsRefusedSo text (byte_of text ts (length ts - length rest)) (has left_out rest)) (tokens_unique Cal text first tokens of cut) (within, (refusal, word)))
+
+-- at the same byte, by the same answer
+pub refused_at : (text : List ℕ) (at place : ℕ) (left word : Bool) → at ≡ place → left ≡ word → IsRefusedSo text place word → IsRefusedSo text at left
+refused_at text at place left word e f r = subst (λ (x : ℕ). IsRefusedSo text x left) (sym e) (subst (IsRefusedSo text place) (sym f) r)
 
 pub keeps_nesting : (text source : List ℕ) (tokens : List Token) (count : ℕ) → source ≡ text → AreTokens Cal text tokens → count ≡ nesting_of (token_texts source tokens) → count ≤ MOST_NESTING → KeepsNesting text
 keeps_nesting text source tokens count same cut e le = (count, (tokens, cut, subst (λ (s : List ℕ). count ≡ nesting_of (token_texts s tokens)) same e), le)

@@ -2,3 +2,4 @@
 pub mod Lines
 pub mod Pins
 pub mod Reading
+pub mod Refusal

@@ -61,16 +61,18 @@ fn read_operator(ts: &[Terminal]) -> Result<(Cmp, &[Terminal]), ReadEnd<'_>>
 
 /// `source [op source]`
 #[tactic(auto, unfolding(crate::specs::inside::Reading::test_at))]
-fn read_test(ts: &[Terminal]) -> Result<(Guard<CalPort>, &[Terminal]), ReadEnd<'_>>
+fn read_test(alloc: Global, ts: &[Terminal]) -> Result<(Guard<CalPort>, &[Terminal]), ReadEnd<'_>>
     ensures { GivesNamed (λ names x. (guard_tree (port_tree names) x.0, x.1.now)) result (λ names. test_at names ts.now) }
 {
     let (left, rest) = read_source(ts)?;
     if starts_operator(rest) {
         let (op, rest) = read_operator(rest)?;
         let (right, rest) = read_source(rest)?;
+        let left = Box::new(alloc, left)?;
+        let right = Box::new(alloc, right)?;
         Ok((Guard::Test(op, left, right), rest))
     } else {
-        Ok((Guard::Read(left), rest))
+        Ok((Guard::Read(Box::new(alloc, left)?), rest))
     }
 }
 
@@ -159,7 +161,7 @@ fn read_operand(
         read_parentheses(alloc, depth, ts)
     } else {
         let (source, rest) = read_source(ts)?;
-        Ok((Guard::Read(source), rest))
+        Ok((Guard::Read(Box::new(alloc, source)?), rest))
     }
 }
 
@@ -193,7 +195,7 @@ fn read_unit(
     } else if starts(ts, Sort::LeftParen) {
         read_parentheses(alloc, depth, ts)
     } else {
-        read_test(ts)
+        read_test(alloc, ts)
     }
 }
 

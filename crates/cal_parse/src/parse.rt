@@ -3,6 +3,7 @@ ghost use Rattle.std.specs.Prelude.{◌≡◌, ℕ, List, [], ◌∷◌, IfOk, I
 ghost use Rattle.cal_ast.specs.Numbers.{HasNumbers};
 ghost use Rattle.cal_ast.specs.Tree.{Design, design_of};
 ghost use Rattle.cal_parse.specs.inside.Reading.{file_at};
+ghost use Rattle.cal_parse.specs.inside.Refusal.{IsRefusedFrom};
 ghost use Rattle.cal_parse.specs.Spelling.{SpellsDesign, KeepsNesting, GrammarEnds, EndsBy, left_out};
 ghost use Rattle.cal_parse.specs.Written.{DesignIsWritten};
 ghost use Rattle.hw_grammar.specs.Reading.{Gives, whole};
@@ -74,27 +75,44 @@ fn starts_left_out(ts: &[Terminal]) -> bool
     )
 }
 
-/// The design that the tokens spell.
-fn read_tokens(alloc: Global, tokens: &Tokens<'_>) -> Result<CalDesign, CalTextEnd>
-    requires dialect { tokens.now.dialect ≡ Cal }
-    requires tokens { AreTokens Cal tokens.now.source tokens.now.tokens }
-    ensures spelled { IfOk result (λ design. SpellsDesign tokens.now.source (design_of design)) }
-    ensures plain { IfOk result (λ design. HasPlainNames design.names) }
-    ensures refused { IfErr result (GrammarEnds tokens.now.source) }
+/// Where the grammar refuses a text, whose terminals from the refused one on are `bad`. Its tokens, which have the places of
+/// terminals, were let go, so it is cut once more.
+fn refusal(alloc: Global, source: &[u8], bad: &[Terminal]) -> CalTextEnd
+    requires { IsRefusedFrom source.now bad.now }
+    ensures { GrammarEnds source.now result }
 {
-    let mut names = Names::new(alloc);
-    let ts = terminals_of(alloc, tokens, &mut names)?;
+    match lex(alloc, source, Dialect::Cal) {
+        Ok(tokens) => {
+            let at = refused_byte(&tokens, bad);
+            if starts_left_out(bad) {
+                CalTextEnd::LeftOut { at }
+            } else {
+                CalTextEnd::Grammar { at }
+            }
+        }
+        // It has tokens, so this is never met.
+        Err(LexEnd::Fault { at }) => CalTextEnd::Token { at },
+        Err(LexEnd::Memory) => CalTextEnd::Memory,
+    }
+}
+
+/// The design that the tokens spell. They are let go before it is read, so that they don't take memory beside its terminals
+/// and the design.
+fn read_tokens(alloc: Global, tokens: Tokens<'_>) -> Result<CalDesign, CalTextEnd>
+    requires dialect { tokens.dialect ≡ Cal }
+    requires tokens { AreTokens Cal tokens.source tokens.tokens }
+    ensures spelled { IfOk result (λ design. SpellsDesign tokens.entry.source (design_of design)) }
+    ensures plain { IfOk result (λ design. HasPlainNames design.names) }
+    ensures refused { IfErr result (GrammarEnds tokens.entry.source) }
+{
+    let source = tokens.source();
+    let mut names = Names::keyed_by(alloc, source);
+    let ts = terminals_of(alloc, &tokens, &mut names)?;
+    drop(tokens);
     match file_of(alloc, names, &ts) {
         Ok(design) => Ok(design),
         Err(ReadEnd::Memory) => Err(CalTextEnd::Memory),
-        Err(ReadEnd::Refused(bad)) => {
-            let at = refused_byte(tokens, bad);
-            if starts_left_out(bad) {
-                Err(CalTextEnd::LeftOut { at })
-            } else {
-                Err(CalTextEnd::Grammar { at })
-            }
-        }
+        Err(ReadEnd::Refused(bad)) => Err(refusal(alloc, source, bad)),
     }
 }
 
@@ -119,7 +137,7 @@ pub fn parse_calyx(alloc: Global, text: &[u8]) -> Result<CalDesign, CalTextEnd>
     if count > MOST_NESTING {
         return Err(CalTextEnd::Nesting { count });
     }
-    read_tokens(alloc, &tokens)
+    read_tokens(alloc, tokens)
 }
 
 /// A text spells at most one design.

@@ -44,7 +44,7 @@ fn read_behind(
             let (_, rest) = read_one(ts, Sort::Semicolon)?;
             let setting = Setting {
                 guard: None,
-                src: *src,
+                src: **src,
             };
             return Ok((setting, rest));
         }

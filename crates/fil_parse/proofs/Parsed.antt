@@ -1,11 +1,12 @@
 -- What reading the terminals of a text tells of the text.
-use Rattle.std.proofs.Common.{◌≡◌, ℕ, ◌-◌, ◌≤◌, List, length, Result, Ok, Err, subst, arith}
+use Rattle.std.proofs.Common.{◌≡◌, ℕ, ◌-◌, ◌≤◌, List, length, Result, Ok, Err, sym, subst, arith}
 use Rattle.hw_names.specs.Name.{Text}
 use Rattle.hw_lex.specs.declared.token.Dialect.{Dialect}
 use Rattle.hw_lex.specs.declared.token.Dialect.TheVariants.{Fil}
 use Rattle.hw_lex.specs.declared.token.Token.{Token}
 use Rattle.hw_lex.specs.Cut.{AreTokens, token_texts}
 use Rattle.hw_lex.specs.Nesting.{nesting_of}
+use Rattle.hw_lex.proofs.Cuts.{tokens_unique}
 use Rattle.hw_grammar.specs.declared.terminal.Terminal.{Terminal}
 use Rattle.hw_grammar.specs.Reading.{whole}
 use Rattle.hw_grammar.specs.Terminals.{AreTerminals}
@@ -19,6 +20,7 @@ use Rattle.fil_parse.specs.declared.parse.FilTextEnd.{FilTextEnd}
 use Rattle.fil_parse.specs.declared.parse.FilTextEnd.TheVariants as ends
 use Rattle.fil_parse.specs.Grammar.{IsFile}
 use Rattle.fil_parse.specs.inside.Reading.{file_at}
+use Rattle.fil_parse.specs.inside.Refusal.{IsRefusedFrom}
 use Rattle.fil_parse.specs.Spelling.{SpellsDesign, IsRefusedAt, KeepsNesting, GrammarEnds, EndsBy}
 use Rattle.fil_parse.proofs.Exactness.{file_judged}
 
@@ -34,15 +36,21 @@ module _ (dialect : Dialect) (names : List Text) (source : List ℕ) (tokens : L
   pub read_spelled : (design : Design) → whole (file_at names us) ≡ Ok design → SpellsDesign source design
   read_spelled design e = (names, text_spelled Fil (IsFile names) names source tokens ts design lexed (judged_as names ts us (Ok design) same e).0)
 
-  pub read_within : (bad : List Terminal) → whole (file_at names us) ≡ Err bad → length bad ≤ length tokens
-  read_within bad e =
-      let r = judged_as names ts us (Err bad) same e in
-      omega (arith, Begins-length r.begun.3, length-AreTerminals dialect names source tokens ts are)
-
-  pub read_refused : (bad : List Terminal) → whole (file_at names us) ≡ Err bad → IsRefusedAt source (byte_of source tokens (length tokens - length bad))
+  pub read_refused : (bad : List Terminal) → whole (file_at names us) ≡ Err bad → IsRefusedFrom source bad
   read_refused bad e =
-      let r = judged_as names ts us (Err bad) same e in
-      (names, text_refused Fil (IsFile names) names source tokens ts bad lexed (place_of (IsFile names) ts bad r))
+      let r = judged_as names ts us (Err bad) same e in (
+        tokens,
+        cut,
+        omega (arith, Begins-length r.begun.3, length-AreTerminals dialect names source tokens ts are),
+        (names, text_refused Fil (IsFile names) names source tokens ts bad lexed (place_of (IsFile names) ts bad r)),
+      )
+
+-- by the tokens of a text that is cut once more
+pub refused_again : (text source : List ℕ) (tokens : List Token) (rest : List Terminal) → source ≡ text → AreTokens Fil text tokens → IsRefusedFrom text rest
+    → (length rest ≤ length tokens) × IsRefusedAt text (byte_of source tokens (length tokens - length rest))
+refused_again text source tokens rest same cut (first, of, within, refused) =
+    subst (λ (s : List ℕ). (length rest ≤ length tokens) × IsRefusedAt text (byte_of s tokens (length tokens - length rest))) (sym same)
+    (subst (λ (ts : List Token). (length rest ≤ length ts) × IsRefusedAt text (byte_of text ts (length ts - length rest))) (tokens_unique Fil text first tokens of cut) (within, refused))
 
 pub keeps_nesting : (text source : List ℕ) (tokens : List Token) (count : ℕ) → source ≡ text → AreTokens Fil text tokens → count ≡ nesting_of (token_texts source tokens) → count ≤ MOST_NESTING → KeepsNesting text
 keeps_nesting text source tokens count same cut e le = (count, (tokens, cut, subst (λ (s : List ℕ). count ≡ nesting_of (token_texts s tokens)) same e), le)

@@ -2,3 +2,4 @@
 pub mod Inputs
 pub mod Offsets
 pub mod Reading
+pub mod Refusal

@@ -8,6 +8,7 @@ ghost use Rattle.fil_ast.specs.Limits.{HasSmallOffsets};
 ghost use Rattle.fil_ast.specs.Numbers.{HasNumbers};
 ghost use Rattle.fil_ast.specs.Tree.{Design, design_of};
 ghost use Rattle.fil_parse.specs.inside.Reading.{file_at};
+ghost use Rattle.fil_parse.specs.inside.Refusal.{IsRefusedFrom};
 ghost use Rattle.fil_parse.specs.Spelling.{SpellsDesign, KeepsNesting, GrammarEnds, EndsBy, first_large};
 ghost use Rattle.fil_parse.specs.Written.{DesignIsWritten};
 
@@ -57,21 +58,38 @@ fn file_of<'a>(alloc: Global, names: Names, ts: &'a [Terminal]) -> Result<FilDes
     Ok(FilDesign { names, comps })
 }
 
-/// The design that the tokens spell.
-fn read_tokens(alloc: Global, tokens: &Tokens<'_>) -> Result<FilDesign, FilTextEnd>
-    requires dialect { tokens.now.dialect ≡ Fil }
-    requires tokens { AreTokens Fil tokens.now.source tokens.now.tokens }
-    ensures spelled { IfOk result (λ design. SpellsDesign tokens.now.source (design_of design)) }
-    ensures refused { IfErr result (GrammarEnds tokens.now.source) }
+/// Where the grammar refuses a text, whose terminals from the refused one on are `bad`. Its tokens, which have the places of
+/// terminals, were let go, so it is cut once more.
+fn refusal(alloc: Global, source: &[u8], bad: &[Terminal]) -> FilTextEnd
+    requires { IsRefusedFrom source.now bad.now }
+    ensures { GrammarEnds source.now result }
 {
-    let mut names = Names::new(alloc);
-    let ts = terminals_of(alloc, tokens, &mut names)?;
+    match lex(alloc, source, Dialect::Fil) {
+        Ok(tokens) => FilTextEnd::Grammar {
+            at: refused_byte(&tokens, bad),
+        },
+        // It has tokens, so this is never met.
+        Err(LexEnd::Fault { at }) => FilTextEnd::Token { at },
+        Err(LexEnd::Memory) => FilTextEnd::Memory,
+    }
+}
+
+/// The design that the tokens spell. They are let go before it is read, so that they don't take memory beside its terminals
+/// and the design.
+fn read_tokens(alloc: Global, tokens: Tokens<'_>) -> Result<FilDesign, FilTextEnd>
+    requires dialect { tokens.dialect ≡ Fil }
+    requires tokens { AreTokens Fil tokens.source tokens.tokens }
+    ensures spelled { IfOk result (λ design. SpellsDesign tokens.entry.source (design_of design)) }
+    ensures refused { IfErr result (GrammarEnds tokens.entry.source) }
+{
+    let source = tokens.source();
+    let mut names = Names::keyed_by(alloc, source);
+    let ts = terminals_of(alloc, &tokens, &mut names)?;
+    drop(tokens);
     match file_of(alloc, names, &ts) {
         Ok(design) => Ok(design),
         Err(ReadEnd::Memory) => Err(FilTextEnd::Memory),
-        Err(ReadEnd::Refused(bad)) => Err(FilTextEnd::Grammar {
-            at: refused_byte(tokens, bad),
-        }),
+        Err(ReadEnd::Refused(bad)) => Err(refusal(alloc, source, bad)),
     }
 }
 
@@ -98,7 +116,7 @@ pub fn parse_fil(alloc: Global, text: &[u8]) -> Result<FilDesign, FilTextEnd>
     if count > MOST_NESTING {
         return Err(FilTextEnd::Nesting { count });
     }
-    let design = read_tokens(alloc, &tokens)?;
+    let design = read_tokens(alloc, tokens)?;
     match first_large(&design) {
         Some(count) => Err(FilTextEnd::Offset { count }),
         None => Ok(design),

@@ -29,8 +29,8 @@ read_parentheses-returns-in_err-rest-2 t c = λ names.
 pub read_operand-returns-then-starts : goal.read_operand-returns-then-starts
 read_operand-returns-then-starts t c = λ names. rw (operand_parentheses names (guard_to names c.args.depth) c.args.ts.now (sym c.if-starts.ensures)) (c.read_parentheses.ensures names)
 
-pub read_operand-returns-in_ok-source : goal.read_operand-returns-in_ok-source
-read_operand-returns-in_ok-source t c = λ names. operand_source names (guard_to names c.args.depth) c.args.ts.now _ _ (sym c.if-starts.ensures) (c.in_ok-source.ensures names)
+pub read_operand-returns-in_ok-new : goal.read_operand-returns-in_ok-new
+read_operand-returns-in_ok-new t c = λ names. rw c.in_ok-new.ensures.ok (operand_source names (guard_to names c.args.depth) c.args.ts.now _ _ (sym c.if-starts.ensures) (c.in_ok-source.ensures names))
 
 pub read_operand-returns-in_err-source : goal.read_operand-returns-in_err-source
 read_operand-returns-in_err-source t c = λ names.

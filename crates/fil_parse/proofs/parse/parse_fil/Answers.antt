@@ -19,11 +19,11 @@ returns-in-Some-clause-refused c =
     let s : SpellsDesign c.args.text.now (design_of c.in_ok-design.design) = subst (λ (s : List ℕ). SpellsDesign s (design_of c.in_ok-design.design)) c.in-Ok.ensures.text.1 c.in_ok-design.ensures.spelled in
     (k, (design_of c.in_ok-design.design, s, sym c.in-Some.ensures))
 
-pub returns-clause-written : goal.returns-clause-written
-returns-clause-written c = tree_written c.in-Ok.tokens.source (design_of c.in_ok-design.design) c.in_ok-design.ensures.spelled
+pub returns-in-None-clause-written : goal.returns-in-None-clause-written
+returns-in-None-clause-written c = tree_written c.in-Ok.tokens.source (design_of c.in_ok-design.design) c.in_ok-design.ensures.spelled
 
-pub returns-clause-numbers : goal.returns-clause-numbers
-returns-clause-numbers c = design_numbers c.in_ok-design.design (tree_written c.in-Ok.tokens.source (design_of c.in_ok-design.design) c.in_ok-design.ensures.spelled)
+pub returns-in-None-clause-numbers : goal.returns-in-None-clause-numbers
+returns-in-None-clause-numbers c = design_numbers c.in_ok-design.design (tree_written c.in-Ok.tokens.source (design_of c.in_ok-design.design) c.in_ok-design.ensures.spelled)
 
-pub returns-clause-small : goal.returns-clause-small
-returns-clause-small c = small_offsets c.in_ok-design.design (sym c.in-None.ensures)
+pub returns-in-None-clause-small : goal.returns-in-None-clause-small
+returns-in-None-clause-small c = small_offsets c.in_ok-design.design (sym c.in-None.ensures)
