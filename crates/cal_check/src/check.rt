@@ -136,8 +136,8 @@ fn no_wires(alloc: Global, count: usize) -> Result<Vec<Wires>, Memory>
 {
     let mut wires = Vec::new(alloc);
     for _ in 0..count {
-        let inputs = Vec::new(alloc);
-        wires.push(Wires { inputs })?;
+        let feeds = Vec::new(alloc);
+        wires.push(Wires { feeds })?;
     }
     Ok(wires)
 }

@@ -165,7 +165,7 @@ fn bind_once(alloc: Global, place: &Place, ins: &[InBind]) -> Result<bool, Memor
     requires { All (InHasNumbers (names_at place.now)) ins.now }
     ensures { IfOk result (λ once. IsTrue once ↔ AreDistinct (map (λ (b : InBinding). b.pin) (map (in_tree (names_at place.now)) ins.now))) }
 {
-    let mut bound = FirstPlaces::new(alloc);
+    let mut bound = FirstPlaces::new(alloc, place.names());
     for (number, bind) in ins.iter().enumerate() {
         bound.add(place.text(bind.port), number)?;
     }

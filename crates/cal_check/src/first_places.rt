@@ -19,12 +19,12 @@ pub struct FirstPlaces {
 }
 
 impl FirstPlaces {
-    /// Those of the empty list.
-    pub fn new(alloc: Global) -> FirstPlaces
+    /// Those of the empty list, for names that are among these.
+    pub fn new(alloc: Global, names: &Names) -> FirstPlaces
         ensures { ShowsFirsts result [] }
     {
         FirstPlaces {
-            names: Names::new(alloc),
+            names: names.beside(),
             places: Vec::new(alloc),
             distinct: true,
         }

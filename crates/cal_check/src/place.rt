@@ -61,7 +61,7 @@ fn cells_of(alloc: Global, names: &Names, cells: &[CalCell]) -> Result<FirstPlac
     requires { All (CellHasNumbers names.now) cells.now }
     ensures { IfOk result (λ firsts. ShowsFirsts firsts (cell_names (map (cell_tree names.now) cells.now))) }
 {
-    let mut firsts = FirstPlaces::new(alloc);
+    let mut firsts = FirstPlaces::new(alloc, names);
     for (place, cell) in cells.iter().enumerate() {
         firsts.add(names.text(cell.name), place)?;
     }
@@ -73,7 +73,7 @@ fn groups_of(alloc: Global, names: &Names, groups: &[Group]) -> Result<FirstPlac
     requires { All (GroupHasNumbers names.now) groups.now }
     ensures { IfOk result (λ firsts. ShowsFirsts firsts (group_names (map (group_tree names.now) groups.now))) }
 {
-    let mut firsts = FirstPlaces::new(alloc);
+    let mut firsts = FirstPlaces::new(alloc, names);
     for (place, group) in groups.iter().enumerate() {
         firsts.add(names.text(group.name), place)?;
     }

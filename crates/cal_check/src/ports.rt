@@ -88,7 +88,7 @@ impl<'a> Ports<'a> {
     {
         Ports {
             alloc,
-            texts: Texts::new(alloc, names),
+            texts: Texts::new(names),
             set: IndexSet::new(alloc),
         }
     }
@@ -157,7 +157,7 @@ impl<'a> Ports<'a> {
     fn keys(&self) -> Result<Names, Memory>
         ensures { IfOk result (λ keys. keys ≡ self.now.keys) }
     {
-        let mut keys = Names::new(self.alloc);
+        let mut keys = self.texts.beside();
         for place in 0..self.len() {
             let key = self.key_at(place)?;
             let _number = keys.intern(&key)?;

@@ -37,10 +37,10 @@ fn add_guard(ports: &mut Vec<CalPort>, guard: &Guard<CalPort>) -> Result<(), Mem
         match inner {
             Guard::Not(negated) => inner = negated,
             Guard::All(guards) | Guard::Any(guards) => return add_guards(ports, guards),
-            Guard::Read(src) => return add_source(ports, *src),
+            Guard::Read(src) => return add_source(ports, **src),
             Guard::Test(_, left, right) => {
-                add_source(ports, *left)?;
-                return add_source(ports, *right);
+                add_source(ports, **left)?;
+                return add_source(ports, **right);
             }
         }
     }

@@ -144,7 +144,7 @@ impl Signature {
     {
         let mut signature = Signature {
             bare: is_bare(names, comp),
-            names: FirstPlaces::new(alloc),
+            names: FirstPlaces::new(alloc, names),
             pins: Vec::new(alloc),
             inputs: 0,
         };

@@ -29,7 +29,7 @@ fn comps_of(alloc: Global, design: &CalDesign) -> Result<FirstPlaces, Memory>
     requires { HasNumbers design.now }
     ensures { IfOk result (λ comps. ShowsFirsts comps (component_names (design_of design.now))) }
 {
-    let mut comps = FirstPlaces::new(alloc);
+    let mut comps = FirstPlaces::new(alloc, &design.names);
     for (number, comp) in design.comps.iter().enumerate() {
         comps.add(design.names.text(comp.name), number)?;
     }

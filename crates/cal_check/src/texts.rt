@@ -1,5 +1,5 @@
 //! Texts by numbers: the design's names, and after them others.
-ghost use Rattle.std.specs.Prelude.{◌≡◌, ◌+◌, ◌<◌, ◌++◌, ℕ, List, Some, Contains, length, slice_get, IfNone, IfOk, IfSome};
+ghost use Rattle.std.specs.Prelude.{◌≡◌, ◌+◌, ◌<◌, ◌++◌, ℕ, List, [], Some, Contains, length, slice_get, IfNone, IfOk, IfSome};
 ghost use Rattle.hw_names.specs.Name.{AreDistinct, KeepsTexts, text_of};
 ghost use Rattle.net_core.specs.Numbers.{IsNumberOf};
 ghost use Rattle.hw_names.specs.declared.names.NameId.{NameId};
@@ -47,15 +47,22 @@ impl<'a> Model for Texts<'a> {
 
 impl<'a> Texts<'a> {
     /// The design's names alone.
-    pub fn new(alloc: Global, names: &'a Names) -> Texts<'a>
+    pub fn new(names: &'a Names) -> Texts<'a>
         ensures { result ≡ record { names = names.now; all = names.now } }
     {
         // They are distinct.
         let _count = names.len();
         Texts {
             names,
-            others: Names::new(alloc),
+            others: names.beside(),
         }
+    }
+
+    /// No names, for some that are made of these.
+    pub fn beside(&self) -> Names
+        ensures { result ≡ [] }
+    {
+        self.names.beside()
     }
 
     /// The number of a name; a text that has none goes last.

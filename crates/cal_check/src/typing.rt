@@ -156,8 +156,8 @@ fn guard_agrees(place: &Place, guard: &Guard<CalPort>) -> bool
         match inner {
             Guard::Not(negated) => inner = negated,
             Guard::All(guards) | Guard::Any(guards) => return guards_agree(place, guards),
-            Guard::Read(src) => return is_bit(place, *src),
-            Guard::Test(_, left, right) => return can_compare(place, *left, *right),
+            Guard::Read(src) => return is_bit(place, **src),
+            Guard::Test(_, left, right) => return can_compare(place, **left, **right),
         }
     }
 }

@@ -16,7 +16,7 @@ ghost use Rattle.cal_check.specs.inside.Nodes.{AreNumbers, Node, PinHasNumber, i
 ghost use Rattle.cal_check.specs.inside.Readings.{AddsGroups, ReadsDones, ReadsEach, ReadsGo, ReadsInCell, ReadsInCells, ReadsInPart, ReadsInPrimitive, ReadsNumbers, ReadsOutput, ReadsSet, ReadsSets, ReadsThrough, group_invoked, groups_invoked};
 ghost use Rattle.cal_check.specs.inside.Walks.{statements_from};
 ghost use Rattle.cal_check.specs.inside.WireGraphs.{Adds, Grows, HasHole, HasNumber, IsGraphOf, LeadsTo, NoPair};
-ghost use Rattle.cal_check.specs.inside.Wiring.{DependsOn, ShowsParts, TellsLoop};
+ghost use Rattle.cal_check.specs.inside.Wiring.{DependsOn, ShowsParts, TellsLoop, feeds_of};
 ghost use Rattle.cal_check.specs.declared.wire_graph.Hole.{Hole};
 
 use crate::loops::least_loop;
@@ -34,11 +34,18 @@ use hw_prims::Prim;
 use net_core::Src;
 use std::alloc::Global;
 
+/// An output of a component and the inputs that it reaches within a row, by their numbers among the outputs and inputs.
+#[derive(Drop)]
+pub struct Feeds {
+    pub output: usize,
+    pub inputs: Vec<usize>,
+}
+
 /// On which inputs the outputs of a component depend within a row.
 #[derive(Drop)]
 pub struct Wires {
-    /// For each output the numbers of the inputs.
-    pub inputs: Vec<Vec<usize>>,
+    /// The outputs that reach an input, in their order.
+    pub feeds: Vec<Feeds>,
 }
 
 /// What is known of C12 for a component.
@@ -468,9 +475,6 @@ fn add_part_output(
     ensures { (c : Component) → slice_get (design_at place.now) cell.part ≡ Some c
         → OnOk result (Grows (ReadsNumbers (text_of (names_at place.now) cell.name) (ports_in c) output inputs.now) graph.old graph.new) }
 {
-    if inputs.is_empty() {
-        return Ok(());
-    }
     let number = graph.port(cell_port(cell.name, place.pin_of(cell.part, output)))?;
     for input in inputs {
         let other = graph.port(cell_port(cell.name, place.pin_of(cell.part, *input)))?;
@@ -494,9 +498,9 @@ fn add_part(
         → OnOk result (Grows (ReadsInPart (design_at place.now) (text_of (names_at place.now) cell.name) c) graph.old graph.new) }
 {
     let inputs = place.signature_of(cell.part).inputs;
-    for (output, reached) in wires.inputs.iter().enumerate() {
-        let number = inputs + output;
-        add_part_output(graph, place, cell, number, reached)?;
+    for feeds in &wires.feeds {
+        let number = inputs + feeds.output;
+        add_part_output(graph, place, cell, number, &feeds.inputs)?;
     }
     Ok(())
 }
@@ -619,7 +623,18 @@ fn inputs_of(
     }
 }
 
-/// For each output of the component the inputs that it reaches.
+/// Puts an output last with the inputs that it reaches, if it reaches any.
+fn add_feeds(feeds: &mut Vec<Feeds>, output: usize, inputs: Vec<usize>) -> Result<(), Memory>
+    ensures { OnOk result (feeds.new.items ≡ feeds.old.items ++ feeds_of output inputs) }
+{
+    if inputs.is_empty() {
+        return Ok(());
+    }
+    feeds.push(Feeds { output, inputs })?;
+    Ok(())
+}
+
+/// The outputs of the component that reach an input, with all that they reach.
 fn wires_of(place: &Place, graph: &WireGraph, reads: &Groups) -> Result<Wires, Memory>
     requires kept { KeepsRules (design_at place.now) }
     requires graph { IsGraphOf (design_at place.now) (comp_at place.now) graph.now }
@@ -631,12 +646,13 @@ fn wires_of(place: &Place, graph: &WireGraph, reads: &Groups) -> Result<Wires, M
     let ports = port_names(place);
     let count = place.signature().inputs;
     let mut reach = Reach::new(graph.alloc, reads)?;
-    let mut inputs = Vec::new(graph.alloc);
-    for output in count..ports.len() {
-        let pin = text_at(ports, output);
-        inputs.push(inputs_of(graph, reads, &mut reach, pin, count)?)?;
+    let mut feeds = Vec::new(graph.alloc);
+    for port in count..ports.len() {
+        let pin = text_at(ports, port);
+        let inputs = inputs_of(graph, reads, &mut reach, pin, count)?;
+        add_feeds(&mut feeds, port - count, inputs)?;
     }
-    Ok(Wires { inputs })
+    Ok(Wires { feeds })
 }
 
 /// What the outputs of the component depend on, where it is a part; nothing is looked for where it is none.
@@ -656,8 +672,8 @@ fn part_wires(
     if is_part {
         return wires_of(place, graph, reads);
     }
-    let inputs = Vec::new(graph.alloc);
-    Ok(Wires { inputs })
+    let feeds = Vec::new(graph.alloc);
+    Ok(Wires { feeds })
 }
 
 /// Judges a component of a design that keeps C1 to C11 by C12, where `wires` are those of its parts, by the numbers of

@@ -1,11 +1,12 @@
-use Rattle.std.proofs.Common.{◌↔◌, List, All, map, rules, subst, sym, arith}
+use Rattle.std.proofs.Common.{◌↔◌, List, All, map, rules, subst, subst₂, sym, arith}
 use Rattle.std.specs.Bool.{IsTrue}
 use Rattle.std.proofs.lemmas.Bool.Decides.{not_from_Decides}
 use Rattle.std.proofs.lemmas.List.{take_all}
 use Rattle.std.proofs.lemmas.List.Elements.{All-more}
-use Rattle.net_core.specs.Guard.{guard_tree, guards_of}
+use Rattle.net_core.specs.Guard.{Reads, Compares, guard_tree, guards_of, source_tree}
 use Rattle.net_core.specs.declared.net.Guard.{Guard, the_lemmas}
-use Rattle.cal_ast.specs.Numbers.{GuardHasNumbers}
+use Rattle.net_core.specs.declared.net.Src.{Src}
+use Rattle.cal_ast.specs.Numbers.{GuardHasNumbers, SourceHasNumbers}
 use Rattle.cal_ast.specs.Tree.{port_tree}
 use Rattle.cal_ast.specs.Typing.{GuardAgrees, GuardsAgree}
 use Rattle.cal_ast.specs.declared.tree.CalPort.{CalPort}
@@ -35,38 +36,43 @@ guard_agrees-loop-inner-preserved t c =
 pub guard_agrees-is_bit-requires : goal.guard_agrees-is_bit-requires
 guard_agrees-is_bit-requires t c =
     let N : Guard CalPort → Type 0 = GuardHasNumbers (names_at c.args.place.now) in
-    subst N c.in-Read.is c.loop-inner.invariant.numbers
+    subst (λ (s : Src CalPort). SourceHasNumbers (names_at c.args.place.now) s) (sym c.deref.ensures) (subst N c.in-Read.is c.loop-inner.invariant.numbers)
 
 pub guard_agrees-returns-in-Read : goal.guard_agrees-returns-in-Read
 guard_agrees-returns-in-Read t c =
     let p = c.args.place.now in
     let A : Guard CalPort → Type 0 = λ g. GuardAgrees (design_at p) (comp_at p) (guard_tree (port_tree (names_at p)) g) in
     let whole = A c.args.guard.now in
-    both_ways c.is_bit.ensures (subst (λ (g : Guard CalPort). A g ↔ whole) c.in-Read.is c.loop-inner.invariant.same)
+    let R : Src CalPort → Type 0 = λ s. IsTrue c.is_bit.result ↔ GuardAgrees (design_at p) (comp_at p) (Reads (source_tree (port_tree (names_at p)) s)) in
+    both_ways (subst R c.deref.ensures c.is_bit.ensures) (subst (λ (g : Guard CalPort). A g ↔ whole) c.in-Read.is c.loop-inner.invariant.same)
 
 pub guard_agrees-can_compare-requires-clause-left : goal.guard_agrees-can_compare-requires-clause-left
 guard_agrees-can_compare-requires-clause-left t c =
     let N : Guard CalPort → Type 0 = GuardHasNumbers (names_at c.args.place.now) in
-    (subst N c.in-Test.is c.loop-inner.invariant.numbers).0
+    subst (λ (s : Src CalPort). SourceHasNumbers (names_at c.args.place.now) s) (sym c.deref-in-Test.ensures) (subst N c.in-Test.is c.loop-inner.invariant.numbers).0
 
 pub guard_agrees-can_compare-requires-clause-right : goal.guard_agrees-can_compare-requires-clause-right
 guard_agrees-can_compare-requires-clause-right t c =
     let N : Guard CalPort → Type 0 = GuardHasNumbers (names_at c.args.place.now) in
-    (subst N c.in-Test.is c.loop-inner.invariant.numbers).1
+    subst (λ (s : Src CalPort). SourceHasNumbers (names_at c.args.place.now) s) (sym c.deref-in-Test-2.ensures) (subst N c.in-Test.is c.loop-inner.invariant.numbers).1
 
 pub guard_agrees-returns-in-Test : goal.guard_agrees-returns-in-Test
 guard_agrees-returns-in-Test t c =
     let p = c.args.place.now in
     let A : Guard CalPort → Type 0 = λ g. GuardAgrees (design_at p) (comp_at p) (guard_tree (port_tree (names_at p)) g) in
     let whole = A c.args.guard.now in
-    both_ways (c.can_compare.ensures c.in-Test.field-0) (subst (λ (g : Guard CalPort). A g ↔ whole) c.in-Test.is c.loop-inner.invariant.same)
+    let op = c.in-Test.field-0 in
+    let tree = port_tree (names_at p) in
+    let R : Src CalPort → Src CalPort → Type 0 =
+    λ left right. IsTrue c.can_compare.result ↔ GuardAgrees (design_at p) (comp_at p) (Compares op (source_tree tree left) (source_tree tree right)) in
+    both_ways (subst₂ R c.deref-in-Test.ensures c.deref-in-Test-2.ensures (c.can_compare.ensures op)) (subst (λ (g : Guard CalPort). A g ↔ whole) c.in-Test.is c.loop-inner.invariant.same)
 
 pub guard_agrees-guards_agree-requires : goal.guard_agrees-guards_agree-requires
 guard_agrees-guards_agree-requires t c =
     let names = names_at c.args.place.now in
     let P : List (Guard CalPort) → Type 0 = All (GuardHasNumbers names) in (
       search (rules, the_lemmas),
-      subst P (sym c.deref.ensures.value) (list_numbers names c.loop-inner.inner.now c.in-All.guards c.in-All.is c.loop-inner.invariant.numbers),
+      subst P (sym c.deref-in-All.ensures.value) (list_numbers names c.loop-inner.inner.now c.in-All.guards c.in-All.is c.loop-inner.invariant.numbers),
     )
 
 pub guard_agrees-returns-in-All : goal.guard_agrees-returns-in-All
@@ -74,7 +80,7 @@ guard_agrees-returns-in-All t c =
     let p = c.args.place.now in
     let tree = guard_tree (port_tree (names_at p)) in
     let L : List (Guard CalPort) → Type 0 = λ gs. IsTrue c.guards_agree.result ↔ GuardsAgree (design_at p) (comp_at p) (guards_of (map tree gs)) in
-    both_ways (subst L c.deref.ensures.value c.guards_agree.ensures)
+    both_ways (subst L c.deref-in-All.ensures.value c.guards_agree.ensures)
     (both_ways (list_agrees (design_at p) (comp_at p) (port_tree (names_at p)) c.loop-inner.inner.now c.in-All.guards c.in-All.is) c.loop-inner.invariant.same)
 
 pub guards_agree-guard_agrees-requires : goal.guards_agree-guard_agrees-requires

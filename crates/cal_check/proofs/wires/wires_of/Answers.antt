@@ -1,10 +1,9 @@
-use Rattle.std.proofs.Common.{ℕ, List, Vec, Global, length, ap, sym, subst, ◌∙◌, arith}
-use Rattle.std.proofs.lemmas.List.{length_push}
+use Rattle.std.proofs.Common.{◌-◌, length, ap, ◌∙◌, arith}
 use Rattle.hw_graph.proofs.ComponentLemmas.{gathered_in_range}
 use Rattle.cal_ast.specs.Ports.{inputs_in, outputs_in}
 use Rattle.cal_check.specs.Around.{comp_at, design_at}
 use Rattle.cal_check.proofs.NumberLemmas.{leads_to_input}
-use Rattle.cal_check.proofs.DependLemmas.{AreLed, depends_on, led_more, led_none, ports_counted}
+use Rattle.cal_check.proofs.DependLemmas.{depends_on, led_more, led_none, ports_counted}
 use Rattle.cal_check.proofs.wires.wires_of.Goals as goal
 
 pub inputs_of-requires : goal.inputs_of-requires
@@ -13,35 +12,27 @@ inputs_of-requires c =
     let gathered = c.requires.reads in
     record {
       in_range = gathered_in_range g.entries.items (length g.ports.keys) c.args.reads.now g.in_range gathered;
-      size = c.loop-output.invariant.size;
+      size = c.loop-port.invariant.size;
       keys = gathered.all;
       distinct = c.requires.distinct;
     }
 
-pub loop-output-init : goal.loop-output-init
-loop-output-init c =
-    let none = c.new-inputs.ensures.items in
-    let g = c.args.graph.now in
-    let count = c.signature.result.now.inputs in
-    record {
-      size = c.in_ok-reach.ensures;
-      all = omega (arith, ap length none);
-      led = subst (λ (l : List (Vec ℕ Global)). AreLed g c.args.reads.now count c.port_names-ports.result.now l) (sym none) (led_none g c.args.reads.now count c.port_names-ports.result.now);
-    }
+pub loop-port-init : goal.loop-port-init
+loop-port-init c = record {
+  size = c.in_ok-reach.ensures;
+  start = omega arith;
+  led = led_none c.args.graph.now c.args.reads.now c.signature.result.now.inputs c.port_names-ports.result.now c.new-feeds.result.items c.new-feeds.ensures.items;
+}
 
-pub loop-output-preserved : goal.loop-output-preserved
-loop-output-preserved c =
-    let g = c.args.graph.now in
-    let reads = c.args.reads.now in
+pub loop-port-preserved : goal.loop-port-preserved
+loop-port-preserved c =
     let count = c.signature.result.now.inputs in
-    let ports = c.port_names-ports.result.now in
-    let listed = c.loop-output.inputs.items in
-    let numbers = c.in_ok-inputs_of.field-0 in
+    let port = c.loop-port.port in
     record {
-      size = c.in_ok-inputs_of.ensures.size ∙ c.loop-output.invariant.size;
-      all = omega (arith, ap length c.in_ok-push.ensures.items, length_push listed numbers, c.loop-output.invariant.all);
-      led = subst (λ (l : List (Vec ℕ Global)). AreLed g reads count ports l) (sym c.in_ok-push.ensures.items)
-          (led_more g reads count ports listed c.text_at-pin.result.now numbers c.loop-output.output c.loop-output.invariant.all c.text_at-pin.ensures c.in_ok-inputs_of.ensures.reached c.loop-output.invariant.led);
+      size = c.in_ok-inputs.ensures.size ∙ c.loop-port.invariant.size;
+      start = omega (arith, c.loop-port.invariant.start);
+      led = led_more c.args.graph.now c.args.reads.now count c.port_names-ports.result.now port c.loop-port.feeds.items c.text_at-pin.result.now c.in_ok-inputs.inputs (port - count)
+          (omega (arith, c.loop-port.invariant.start)) c.text_at-pin.ensures c.in_ok-inputs.ensures.reached c.loop-port.invariant.led c.add_feeds.new.feeds.items c.in_ok-add_feeds.ensures;
     }
 
 pub returns : goal.returns
@@ -54,6 +45,6 @@ returns c =
     let ports = c.port_names-ports.result.now in
     let shows = c.signature.ensures in
     let are = c.port_names-ports.ensures.names in
-    depends_on d (comp_at p) g reads ports (record { inputs = c.loop-output.inputs }) count c.loop-output.output shows.inputs are
+    depends_on d (comp_at p) g reads ports (record { feeds = c.loop-port.feeds }) count c.loop-port.port shows.inputs are
     (leads_to_input d (comp_at p) g c.requires.graph c.requires.distinct reads c.requires.reads c.requires.inputs)
-    c.loop-output.invariant.all (omega (arith, c.loop-output-test.false, c.loop-output.auto.output-end, c.len-output-end.ensures.len, shows.inputs, ap length are, ports_counted (inputs_in (comp_at p)) (outputs_in (comp_at p)))) c.loop-output.invariant.led
+    (omega (arith, c.loop-port-test.false, c.loop-port.auto.port-end, c.len-port-end.ensures.len, shows.inputs, ap length are, ports_counted (inputs_in (comp_at p)) (outputs_in (comp_at p)))) c.loop-port.invariant.led

@@ -3,4 +3,4 @@ use Rattle.cal_check.proofs.FirstLemmas.{firsts_none}
 use Rattle.cal_check.proofs.first_places.FirstPlaces.new.Goals as goal
 
 pub returns : goal.returns
-returns c = firsts_none _ c.new.ensures c.new-2.ensures.items refl
+returns c = firsts_none _ c.beside.ensures c.new.ensures.items refl
