@@ -118,19 +118,19 @@ TABLE = [
     Row(shapes.fil_long_names, 4_000, "check f.fil", accepted),
     Row(shapes.long_name_loop, 4_000, "check f.futil", ends("refused C12 main item 0 loop w.in w.out")),
     Row(shapes.many_instances, 14_000, "check f.fil", begins("limit weight ")),
+    Row(shapes.bottomless, 480, "check f.net", ends("limit weight 15913920 over 1000000")),
+    Row(shapes.cal_many_nots, 12_000, "check f.futil", accepted),
+    Row(shapes.many_cells, 20_000, "check f.futil", begins("limit weight ")),
+    Row(shapes.meeting_wires, 50_000, "check f.net", accepted),
 ]
 
 # What the program does not keep, as is known.
 KNOWN = [
-    Row(shapes.bottomless, 480, "check f.net", ends("limit weight 15913920 over 1000000")),
-    Row(shapes.cal_many_nots, 12_000, "check f.futil", accepted),
     Row(shapes.enables, 300_000, "check f.futil", accepted),
     Row(shapes.enables, 500_000, "net f.futil", done, makes=True),
-    Row(shapes.many_cells, 20_000, "check f.futil", begins("limit weight ")),
     Row(shapes.cal_reach, 8_000, "check f.futil", accepted),
     Row(shapes.cal_reach_cells, 400, "check f.futil", accepted),
     Row(shapes.fil_reach, 8_000, "check f.fil", accepted),
-    Row(shapes.meeting_wires, 50_000, "check f.net", accepted),
     Row(shapes.meeting_instances, 40_000, "check f.fil", accepted),
 ]
 
@@ -201,18 +201,24 @@ def try_row(program, folder, row):
             yield f"{row.shape.__name__} {row.size}, {command}: {wrong or short}"
 
 
+def tried(rows):
+    """The rows that can be tried; names whose hashes meet are made by a C program."""
+    for row in rows:
+        if shapes.MEETING or row.shape not in (shapes.meeting_wires, shapes.meeting_instances):
+            yield row
+        else:
+            print(f"skipped: {row.shape.__name__}, since there are no such names")
+
+
 def main():
     program, folder = (pathlib.Path(word).resolve() for word in sys.argv[1:3])
     shapes.MEETING[:] = pathlib.Path(sys.argv[3]).read_text().split() if len(sys.argv) > 3 else []
     (folder / "counter.net").write_text(shapes.COUNTER)
     faults = []
-    for row in TABLE:
+    for row in tried(TABLE):
         faults += [*try_row(program, folder, row), *(try_over(program, folder, row) if row.over else ())]
     print("what is known not to be kept:")
-    for row in KNOWN:
-        if row.shape in (shapes.meeting_wires, shapes.meeting_instances) and not shapes.MEETING:
-            print(f"skipped: {row.shape.__name__}, since there are no such names")
-            continue
+    for row in tried(KNOWN):
         wrong = [*try_row(program, folder, row)]
         print(*[f"known: {it}" for it in wrong] or [f"kept by now: {row.shape.__name__} {row.size}, {row.commands}"], sep="\n", flush=True)
     print(*[f"fault: {it}" for it in faults], f"faults: {len(faults)}", sep="\n")
