@@ -17,6 +17,7 @@
 #![tactic(auto)]
 
 mod names;
+mod text;
 mod word;
 
 pub use names::{Keyed, NameId, Names};

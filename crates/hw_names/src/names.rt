@@ -2,42 +2,46 @@
 ghost use Rattle.std.specs.Prelude.{◌≡◌, ◌-◌, ◌+◌, ◌^◌, ◌<◌, ◌≤◌, ◌↔◌, ◌⊎◌, [], ◌∷◌, ◌++◌, Some, length, slice_get, Contains, IsSome, IsOk, IfSome, IfOk, OnErr};
 ghost use Rattle.hw_names.specs.Name.{AreDistinct, KeepsTexts};
 
+use crate::text::{Sought, Text};
 use hw_bits::Memory;
 use indexmap::IndexSet;
 use std::alloc::Global;
-use std::hash::{BuildHasher, DefaultHasher, Hasher};
+use std::hash::{BuildHasher, DefaultHasher, FoldHasher, Hasher};
 use std::marker::Model;
 
 /// The number of a text in a list of names.
 #[derive(Clone, Copy, Debug, PartialEq, Eq, PartialOrd, Ord, Hash)]
 pub struct NameId(pub u32);
 
-/// Begins each hash from a state that has taken in some bytes, so that texts whose hashes meet can't be chosen without these.
+/// Begins each hash with a key that is made of some bytes, so that texts whose hashes meet can't be chosen without these. The key
+/// is made by SipHash, and texts are hashed by a quicker function from it on.
 #[derive(Clone, Copy)]
 pub struct Keyed {
-    begun: DefaultHasher,
+    begun: FoldHasher,
 }
 
 impl Keyed {
-    /// Begins each hash with no bytes.
+    /// Begins each hash with no key.
     pub fn new() -> Keyed {
         Keyed {
-            begun: DefaultHasher::new(),
+            begun: FoldHasher::default(),
         }
     }
 
-    /// Begins each hash with these bytes too, after those before.
+    /// Begins each hash with a key of these bytes too, after those before.
     pub fn add(&mut self, bytes: &[u8]) {
-        self.begun.write(bytes);
+        let mut key = DefaultHasher::new();
+        key.write(bytes);
+        self.begun.write_u64(key.finish());
     }
 }
 
 impl BuildHasher for Keyed {
-    type Hasher = DefaultHasher;
+    type Hasher = FoldHasher;
 
     ghost build_hasher = { λ keyed. keyed.begun };
 
-    fn build_hasher(&self) -> DefaultHasher {
+    fn build_hasher(&self) -> FoldHasher {
         self.begun
     }
 }
@@ -45,7 +49,7 @@ impl BuildHasher for Keyed {
 /// A list of distinct texts, in the order of their first appearance. A text's number is its place, from 0 on.
 #[derive(Debug, Drop)]
 pub struct Names {
-    texts: IndexSet<Vec<u8>, Keyed>,
+    texts: IndexSet<Text, Keyed>,
 }
 
 impl Model for Names {
@@ -54,11 +58,11 @@ impl Model for Names {
 
     ghost Value = { List Text };
 
-    ghost view = { λ names. map (λ text. text.items) names.texts.keys };
+    ghost view = { λ names. map (λ text. text.bytes.items) names.texts.keys };
 
     ghost invariant = { λ names.
         (length names.texts.keys < 2 ^ 32)
-        × AreDistinct (map (λ text. text.items) names.texts.keys) };
+        × AreDistinct (map (λ text. text.bytes.items) names.texts.keys) };
 }
 
 impl Names {
@@ -119,8 +123,8 @@ impl Names {
         if let Some(id) = self.find(text) {
             return Ok(id);
         }
-        let owned = Vec::from_slice(*self.texts.allocator(), text)?;
-        let (index, _) = self.texts.insert_full(owned)?;
+        let bytes = Vec::from_slice(*self.texts.allocator(), text)?;
+        let (index, _) = self.texts.insert_full(Text { bytes })?;
         Ok(NameId(index as u32))
     }
 
@@ -130,7 +134,7 @@ impl Names {
         ensures present { IsSome result ↔ Contains self.now text.now }
         ensures distinct { AreDistinct self.now }
     {
-        let index = self.texts.get_index_of(text)?;
+        let index = self.texts.get_index_of(Sought { bytes: text })?;
         Some(NameId(index as u32))
     }
 
@@ -139,7 +143,7 @@ impl Names {
         requires { id.0 < length self.now }
         ensures { slice_get self.now id.0 ≡ Some result.now }
     {
-        self.texts.as_slice()[id.0 as usize].as_slice()
+        self.texts.as_slice()[id.0 as usize].bytes.as_slice()
     }
 
     /// How many names there are.

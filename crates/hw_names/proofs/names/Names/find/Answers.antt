@@ -6,12 +6,12 @@ use Rattle.hw_names.proofs.names.Names.find.Goals as goal
 
 text_there : (c : goal.In_ok-index) → slice_get c.args.self.now c.in_ok-index.index ≡ Some c.args.text.now
 text_there c =
-    rw (← c.self.view_is) (slice_get-position (λ owned. owned.items) c.args.text.now c.self.inside.texts.keys c.in_ok-index.index (sym c.in_ok-index.ensures.index))
+    rw (← c.self.view_is) (slice_get-position (λ owned. owned.bytes.items) c.args.text.now c.self.inside.texts.keys c.in_ok-index.index (sym c.in_ok-index.ensures.index))
 
 not_there : (c : goal.After-from_residual) → ¬ Contains c.args.self.now c.args.text.now
 not_there c there =
     let in_set = subst (λ names. Contains names c.args.text.now) (sym c.self.view_is) there in
-    let found = list_any-Contains (λ owned. owned.items) c.args.text.now c.self.inside.texts.keys in_set in
+    let found = list_any-Contains (λ owned. owned.bytes.items) c.args.text.now c.self.inside.texts.keys in_set in
     cc (found, c.in_err-index.ensures.found)
 
 none : IsSome {T = NameId} None → ⊥

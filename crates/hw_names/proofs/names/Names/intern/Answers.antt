@@ -10,14 +10,14 @@ absent : (c : goal.In_ok-index) → ¬ Contains c.args.self.now c.args.text.now
 absent c there = let some : IsSome {T = NameId} None = c.in_default.ensures.present.1 there in cc
 
 -- the text was not there, so it goes last
-added : (c : goal.In_ok-index) → (map (λ text. text.items) c.insert_full.new.self.keys ≡ c.args.self.now ++ c.args.text.now ∷ []) × (c.in_ok-index.index ≡ length c.args.self.now)
+added : (c : goal.In_ok-index) → (map (λ text. text.bytes.items) c.insert_full.new.self.keys ≡ c.args.self.now ++ c.args.text.now ∷ []) × (c.in_ok-index.index ≡ length c.args.self.now)
 added c =
-    let last = insert_key-absent (λ owned. owned.items) c.self.inside.texts.keys c.in_ok-owned.owned c.args.self.now c.args.text.now c.self.view_is c.in_ok-owned.ensures.items (absent c) in
-    (ap (map (λ owned. owned.items)) c.in_ok-index.ensures.keys ∙ last.0, c.in_ok-index.ensures.index ∙ last.1)
+    let last = insert_key-absent (λ owned. owned.bytes.items) c.self.inside.texts.keys (record { bytes = c.in_ok-bytes.bytes }) c.args.self.now c.args.text.now c.self.view_is c.in_ok-bytes.ensures.items (absent c) in
+    (ap (map (λ owned. owned.bytes.items)) c.in_ok-index.ensures.keys ∙ last.0, c.in_ok-index.ensures.index ∙ last.1)
 
 fits : (c : goal.In_ok-index) → length c.insert_full.new.self.keys < 2 ^ 32
 fits c =
-    let held = length-map c.insert_full.new.self.keys (λ owned. owned.items) in
+    let held = length-map c.insert_full.new.self.keys (λ owned. owned.bytes.items) in
     let longer = length-append c.args.self.now (c.args.text.now ∷ []) in
     omega (arith, held, ap length (added c).0, longer, c.requires)
 
