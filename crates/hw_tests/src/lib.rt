@@ -16,6 +16,8 @@ mod files;
 #[cfg(test)]
 mod graphs;
 #[cfg(test)]
+mod levels;
+#[cfg(test)]
 mod names;
 #[cfg(test)]
 mod primitives;
