@@ -21,7 +21,7 @@ use Rattle.cal_ast.specs.Wires.{Reaches}
 use Rattle.cal_check.specs.Firsts.{ShowsFirsts}
 use Rattle.cal_check.specs.Mades.{IsMadeOf}
 use Rattle.cal_check.specs.inside.Nodes.{Node, APort}
-use Rattle.cal_check.specs.inside.Readings.{AnyOf, ReadsInCell, ReadsInPart, ReadsInPrimitive, ReadsNumbers}
+use Rattle.cal_check.specs.inside.Readings.{AnyOf, ReadsInCell, ReadsInPart, ReadsInPrimitive, ReadsNumbers, ReadsPrimitive}
 use Rattle.cal_check.specs.Signatures.{ShowsSignature, found}
 use Rattle.cal_check.specs.inside.WireGraphs.{Grows, LeadsTo}
 use Rattle.cal_check.specs.inside.Wiring.{DependsOn, IsFed, ReachesAt, ShowsParts, feeds_of}
@@ -193,6 +193,23 @@ module _ (design : Design) (keeps : KeepsRules design) (number : ℕ) (c : Compo
       nothing : (n o : Node) → ReadsInCell design c cell.name n o → ⊥
       nothing n o (inl (prim, made, r)) = none-some prim (sym is.primitive ∙ sym primitive_is ∙ made)
       nothing n o (inr (part, made, r)) = none-some part (sym is.part ∙ sym part_is ∙ made)
+
+  -- what it says if it is of a primitive
+  pub primitive_alone : (prim : Primitive) (a b : WireGraph) → IsMadeOf design cell (Some (made.Primitive prim)) → Grows (ReadsInPrimitive cell.name prim) a b → Grows (ReadsPrimitive c cell.name) a b
+  primitive_alone prim a b is grows = grows_same (ReadsInPrimitive cell.name prim) (ReadsPrimitive c cell.name) a b (λ n o. (to n o, from n o)) grows
+    where
+      to : (n o : Node) → ReadsInPrimitive cell.name prim n o → ReadsPrimitive c cell.name n o
+      to n o r = (prim, primitive_is ∙ is.primitive, r)
+
+      from : (n o : Node) → ReadsPrimitive c cell.name n o → ReadsInPrimitive cell.name prim n o
+      from n o (other, made, r) = subst (λ (p : Primitive). ReadsInPrimitive cell.name p n o) (same_Some other prim (sym made ∙ primitive_is ∙ is.primitive)) r
+
+  -- and nothing else
+  pub no_primitive : (g : WireGraph) → primitive_of cell ≡ None → Grows (ReadsPrimitive c cell.name) g g
+  no_primitive g none = grows_none (ReadsPrimitive c cell.name) g nothing
+    where
+      nothing : (n o : Node) → ReadsPrimitive c cell.name n o → ⊥
+      nothing n o (prim, made, r) = none-some prim (sym none ∙ sym primitive_is ∙ made)
 
   -- the wires of the component that the cell is made of
   pub wires_of_part : (m : ℕ) (wires : List Wires) → IsMadeOf design cell (Some (made.Component m)) → ShowsParts design number wires → (part : Component) (w : Wires) → slice_get design m ≡ Some part → slice_get wires m ≡ Some w → DependsOn design part w

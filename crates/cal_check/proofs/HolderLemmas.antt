@@ -3,7 +3,7 @@ use Rattle.std.proofs.Common.{◌≡◌, ◌↔◌, ◌⊎◌, inl, inr, ℕ, �
 use Rattle.std.proofs.lemmas.List.{get_or-take, get_or_default, length-take}
 use Rattle.std.proofs.lemmas.Option.{same_Some, slice_get_within}
 use Rattle.hw_graph.specs.Graph as graph
-use Rattle.hw_graph.specs.Graph.{HasRead, AreInRange, IsReadOrder, IsLeastCycle, Directly, Through}
+use Rattle.hw_graph.specs.Graph.{HasRead, IsLeastCycle, Directly, Through}
 use Rattle.hw_graph.proofs.CycleLemmas.{cycle_reaches}
 use Rattle.hw_names.specs.Name.{Text}
 use Rattle.cal_ast.specs.Naming.{Itself, component_names}

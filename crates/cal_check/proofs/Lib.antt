@@ -1,5 +1,6 @@
 pub mod BelowLemmas
 pub mod BranchLemmas
+pub mod CellPortLemmas
 pub mod ComponentLemmas
 pub mod DependLemmas
 pub mod DotLemmas
@@ -22,6 +23,7 @@ pub mod KindLemmas
 pub mod LeadLemmas
 pub mod LeastLemmas
 pub mod ListLemmas
+pub mod LevelLemmas
 pub mod LoopedLemmas
 pub mod MadeLemmas
 pub mod MarkLemmas
@@ -32,6 +34,7 @@ pub mod NewNameLemmas
 pub mod NodeLemmas
 pub mod NumberLemmas
 pub mod NumeralLemmas
+pub mod OrderLemmas
 pub mod PartsLemmas
 pub mod PinLemmas
 pub mod PinNameLemmas

@@ -13,7 +13,7 @@ use Rattle.hw_names.specs.Name.{Text, AreDistinct, KeepsTexts, text_of}
 use Rattle.hw_names.specs.declared.names.NameId.{NameId}
 use Rattle.cal_ast.proofs.ListLemmas.{Contains-cases_first, Contains-map, Contains-none, place_of}
 use Rattle.net_core.specs.Numbers.{IsNumberOf}
-use Rattle.cal_ast.specs.Tree.{PortName}
+use Rattle.cal_ast.specs.Tree.{PortName, own, port_of}
 use Rattle.cal_check.specs.inside.Nodes.{AHole, APort, AreDifferent, AreNumbers, HasKey, IsFit, Node, key_of, node_in, pin_text, port_by}
 use Rattle.cal_check.specs.contracts.ports.NodeKeyPartialEq.TheImpl.{eq-value}
 use Rattle.cal_check.specs.declared.ports.NodeKey.{NodeKey}
@@ -21,7 +21,7 @@ use Rattle.cal_check.specs.declared.ports.NodeKey.TheVariants.{Own, OfCell, Hole
 use Rattle.cal_check.specs.declared.ports.Port.{Port}
 use Rattle.cal_check.proofs.FoundLemmas.{from_map, to_map}
 use Rattle.cal_check.proofs.GainLemmas.{get_take}
-use Rattle.cal_check.proofs.KeyLemmas.{same_node}
+use Rattle.cal_check.proofs.KeyLemmas.{port_no_hole, same_node, same_port}
 
 -- ---- keys that compare equal are one
 
@@ -268,3 +268,16 @@ different_kept keys new k is different = by (list_any (eq-value.it k) keys) refl
         subst AreDifferent (sym e)
         (all_pairs_push (λ (a b : NodeKey). a ≢ b) keys k different
         (λ i d lt same. absent (i, lt, get_or_from_slice_get keys i k k (slice_get-get_or keys i d lt ∙ ap Some same))))
+
+-- the key of a port of a cell is made of numbers of its names
+pub key_of_cell : (texts : List Text) (k : NodeKey) (cell pin : Text) → key_of (node_in texts k) ≡ key_of (APort (port_of cell pin)) → ((c p : ℕ) → k ≡ OfCell c p → ⊥) → ⊥
+key_of_cell texts (Own i) cell pin e none = none-some cell (ap (λ (p : PortName). p.cell) (same_port (own (slice_index_or texts i [])) (port_of cell pin) e))
+key_of_cell texts (OfCell c p) cell pin e none = none c p refl
+key_of_cell texts (Hole h) cell pin e none = port_no_hole (port_of cell pin) h (sym e)
+
+pub cell_key_at : (texts : List Text) (keys : List NodeKey) (seen : List Text) (place : ℕ) (k : NodeKey) → map (λ k. key_of (node_in texts k)) keys ≡ seen → slice_get keys place ≡ Some k
+    → (cell pin : Text) → slice_get seen place ≡ Some (key_of (APort (port_of cell pin))) → ((c p : ℕ) → k ≡ OfCell c p → ⊥) → ⊥
+cell_key_at texts keys seen place k view at cell pin there none =
+    let own_key = to_map (λ k. key_of (node_in texts k)) keys place k at in
+    let same = same_Some (key_of (node_in texts k)) (key_of (APort (port_of cell pin))) (sym own_key ∙ ap (λ (l : List Text). slice_get l place) view ∙ there) in
+    key_of_cell texts k cell pin same none

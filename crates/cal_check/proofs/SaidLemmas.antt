@@ -12,9 +12,10 @@ use Rattle.cal_ast.specs.Items.{control_statements}
 use Rattle.cal_ast.specs.Ports.{part_in, primitive_in}
 use Rattle.cal_ast.specs.Tree.{PortName, own, port_of, CellDef, Assignment, GroupDef, Component, Design}
 use Rattle.cal_ast.specs.Wires.{CrossesCell, IsAssignmentOf, all_groups, set_ports, done_ports}
+use Rattle.cal_check.specs.inside.Levels.{IsGraphBut, ReadsByPart}
 use Rattle.cal_check.specs.inside.Nodes.{Node, APort, AHole, IsKey}
-use Rattle.cal_check.specs.inside.Readings.{AddsGroups, ReadsEach, ReadsGroup, ReadsGroups, ReadsInCell, ReadsInCells, ReadsInPart, ReadsInPrimitive, ReadsSet, ReadsSets, groups_invoked}
-use Rattle.cal_check.specs.inside.WireGraphs.{Adds, Grows, IsGraphOf, IsPair, NodeReads, NoPair, BySet, InGroup, OfDone, OfGo, OfPrimitive, OfPart}
+use Rattle.cal_check.specs.inside.Readings.{AddsGroups, ReadsEach, ReadsGroup, ReadsGroups, ReadsInCell, ReadsInCells, ReadsInPart, ReadsInPrimitive, ReadsPrimitives, ReadsSet, ReadsSets, groups_invoked}
+use Rattle.cal_check.specs.inside.WireGraphs.{Adds, Grows, HasReading, IsGraphOf, IsPair, NodeReads, NoPair, BySet, InGroup, OfDone, OfGo, OfPrimitive, OfPart}
 use Rattle.cal_check.specs.declared.wire_graph.WireGraph.{WireGraph}
 use Rattle.cal_check.proofs.GainLemmas.{adds_after, adds_both, groups_both}
 use Rattle.cal_check.proofs.InvokedLemmas.{groups_are}
@@ -153,3 +154,45 @@ module _ (design : Design) (c : Component) where
           adds_both (λ n o. ReadsSets None c.sets n o ⊎ ReadsGroups design c 0 (all_groups design c) n o) (ReadsInCells design c) start control g
           (adds_both (ReadsSets None c.sets) (ReadsGroups design c 0 (all_groups design c)) start sets control (adds_after (ReadsSets None c.sets) start inputs sets first.adds second.adds) all_of)
           fifth.adds
+
+  -- what they say but for cells that are made of components
+  abbrev SaidBut : Node → Node → Type 0
+  SaidBut n o = (ReadsSets None c.sets n o ⊎ ReadsGroups design c 0 (all_groups design c) n o) ⊎ ReadsPrimitives c n o
+
+  -- the graph has all that was added, and lacks only what is read through such cells
+  pub graph_but : (start sets groups control g : WireGraph) → start.ports.keys ≡ [] → start.holes ≡ 0 → Grows (ReadsSets None c.sets) start sets → AddsGroups design c c.groups sets groups
+      → AddsGroups design c (groups_invoked design c (control_statements c.control)) groups control → Grows (ReadsPrimitives c) control g → IsGraphBut design c g
+  graph_but start sets groups control g no_keys none second third fourth fifth = record {
+    nodes = all.nodes (subst (All IsKey) (sym no_keys) (All-nil IsKey));
+    reads = λ n o reads. split n o (is_said n o reads);
+  }
+    where
+      both : AddsGroups design c (c.groups ++ groups_invoked design c (control_statements c.control)) sets control
+      both = groups_both design c c.groups (groups_invoked design c (control_statements c.control)) sets groups control third fourth
+
+      fresh : sets.holes ≡ 0
+      fresh = second.holes ∙ none
+
+      all_of : Adds (ReadsGroups design c 0 (all_groups design c)) sets control
+      all_of = subst₂ (λ (k : ℕ) (gs : List GroupDef). Adds (ReadsGroups design c k gs) sets control) fresh (groups_are design c) both.adds
+
+      all : Adds SaidBut start g
+      all =
+          adds_both (λ n o. ReadsSets None c.sets n o ⊎ ReadsGroups design c 0 (all_groups design c) n o) (ReadsPrimitives c) start control g
+          (adds_both (ReadsSets None c.sets) (ReadsGroups design c 0 (all_groups design c)) start sets control second.adds all_of)
+          fifth.adds
+
+      split : (n o : Node) → Said design c n o → HasReading g n o ⊎ ReadsByPart design c n o
+      split n o (inl lines) = inl ((all.has n o).1 (inr (inl lines)))
+      split n o (inr (j, cell, at, inl primitive)) = inl ((all.has n o).1 (inr (inr (j, cell, at, primitive))))
+      split n o (inr (j, cell, at, inr (part, made, r))) = inr (record {
+        part = part;
+        port = port_of cell.name r.output;
+        input = port_of cell.name r.input;
+        is_port = sym r.pair.0;
+        is_input = sym r.pair.1;
+        output_name = r.output;
+        input_name = r.input;
+        crosses = record { cell = cell.name; made = made; has_output = r.is_output; has_input = r.is_input; is_output = refl; is_input = refl };
+        reaches = r.reaches;
+      })

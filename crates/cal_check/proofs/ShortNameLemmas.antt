@@ -8,15 +8,14 @@ use Rattle.std.specs.Int.{to_be_bytes, w32}
 use Rattle.std.specs.Ordering.{nat_cmp, ordering_then}
 use Rattle.std.specs.declared.cmp.Ordering.{Ordering}
 use Rattle.std.specs.declared.cmp.Ordering.TheVariants.{Less, Equal, Greater}
-use Rattle.std.proofs.lemmas.Bool.{cases_lt, eqb-true}
+use Rattle.std.proofs.lemmas.Bool.{cases_lt}
 use Rattle.std.proofs.lemmas.Cmp.{nat_list_cmp_total}
 use Rattle.std.proofs.lemmas.List.{get_or_append_left, get_or_default, get_or_push, length-map, length_push}
-use Rattle.std.proofs.lemmas.List.Elements.{All-cons, All-nil, All-push, All-weaker}
+use Rattle.std.proofs.lemmas.List.Elements.{All-cons, All-nil, All-push}
 use Rattle.std.proofs.lemmas.Option.{get_or_from_slice_get, same_Some, slice_get_within}
 use Rattle.hw_graph.specs.ByName.{IsAtMost}
 use Rattle.hw_names.specs.Name.{HasNoDot, Text, dot}
-use Rattle.cal_ast.specs.Wires.{shown}
-use Rattle.cal_check.specs.inside.Nodes.{Node, APort, AHole, HasKey, IsFit, key_of, node_in}
+use Rattle.cal_check.specs.inside.Nodes.{Node, APort, AHole, IsFit, key_of, node_in}
 use Rattle.cal_check.specs.inside.Ranks.{TellOrder}
 use Rattle.cal_check.specs.inside.ShortNames.{AreNamed, AreWithin, HasPlaces, HavePlaces, IsPieceFit, IsPlace, IsPlainPiece, IsUpTo, KeepsPieces, TellKeys, TellNodes, cell_piece, name_by, piece_text, pin_piece, rank_or, three}
 use Rattle.cal_check.specs.declared.ports.NodeKey.{NodeKey}

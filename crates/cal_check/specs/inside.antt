@@ -3,6 +3,7 @@ pub mod Entries
 pub mod FirstLoop
 pub mod Groups
 pub mod Least
+pub mod Levels
 pub mod Nodes
 pub mod Ranks
 pub mod Read

@@ -10,6 +10,7 @@ ghost use Rattle.cal_check.specs.Told.{ComponentIs, TellsRefusal};
 ghost use Rattle.cal_check.specs.inside.Wiring.{DependsOn, ShowsParts, TellsLoop};
 
 use crate::component::judge_component;
+use crate::levels::have_levels;
 use crate::nesting::{Nesting, PartOrder};
 use crate::place::Place;
 use crate::rule::{CalEnd, CompEnd};
@@ -179,6 +180,9 @@ pub fn check_calyx<'a>(alloc: Global, design: &'a CalDesign) -> Result<CalOk<'a>
     let tables = Tables::of(alloc, design)?;
     let nesting = Nesting::of(alloc, &tables.made)?;
     judge_components(alloc, design, &tables, &nesting)?;
+    if have_levels(alloc, design, &tables, &nesting)? {
+        return Ok(CalOk::new(design));
+    }
     match first_looped(alloc, design, &tables, &nesting)? {
         None => Ok(CalOk::new(design)),
         Some(looped) => Err(CalEnd::Refused {

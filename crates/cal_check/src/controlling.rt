@@ -1,5 +1,5 @@
 //! C7 to C11: groups, and the control that enables them.
-ghost use Rattle.std.specs.Prelude.{◌≡◌, ◌↔◌, List, map, take, codes, slice_get, Some, All, IfOk, IfSome, IsTrue, option_map, true};
+ghost use Rattle.std.specs.Prelude.{◌≡◌, ◌↔◌, List, map, take, slice_get, Some, All, IfOk, IfSome, IsTrue, option_map, true};
 ghost use Rattle.hw_names.specs.Name.{Text, AreDistinct, text_of};
 ghost use Rattle.cal_ast.specs.Controlling.{BindsInput, BindsOutput, CanInvoke, EnablesGroup, HasCondition, HasDone, Invokes, IsCondition, IsOnlyDone, MayHaveDone};
 ghost use Rattle.net_core.specs.Numbers.{IsNumberOf};

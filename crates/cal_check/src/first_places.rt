@@ -1,5 +1,5 @@
 //! Names by their first places in a list, in which they may stand more than once.
-ghost use Rattle.std.specs.Prelude.{◌≡◌, ◌↔◌, List, [], ◌∷◌, ◌++◌, length, slice_get, Some, IsTrue, OnOk};
+ghost use Rattle.std.specs.Prelude.{◌≡◌, ◌↔◌, List, [], ◌∷◌, ◌++◌, length, IsTrue, OnOk};
 ghost use Rattle.hw_names.specs.Name.{Text, AreDistinct};
 ghost use Rattle.cal_check.specs.Firsts.{ShowsFirsts, TellsFirst};
 

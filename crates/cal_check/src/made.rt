@@ -1,7 +1,6 @@
 //! What cells are made of.
-ghost use Rattle.std.specs.Prelude.{◌≡◌, ◌<◌, List, length, map, All, IfOk, IsSome, Option, option_and_then, option_map, ◌↔◌};
-ghost use Rattle.hw_names.specs.Name.{Text};
-ghost use Rattle.hw_prims.specs.Table.{IsMade, is_primitive, pins_of};
+ghost use Rattle.std.specs.Prelude.{◌≡◌, ◌<◌, map, All, IfOk, IsSome, Option, option_and_then, option_map, ◌↔◌};
+ghost use Rattle.hw_prims.specs.Table.{IsMade, is_primitive};
 ghost use Rattle.cal_ast.specs.Invoking.{made_go, primitive_go};
 ghost use Rattle.cal_ast.specs.Naming.{component_names};
 ghost use Rattle.cal_ast.specs.Numbers.{CellHasNumbers};

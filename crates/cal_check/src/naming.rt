@@ -1,9 +1,9 @@
 //! C1 and C2: names are distinct, and what a line names exists.
-ghost use Rattle.std.specs.Prelude.{◌≡◌, ◌↔◌, ◌⊎◌, List, map, take, slice_get, Some, All, IsTrue};
+ghost use Rattle.std.specs.Prelude.{◌≡◌, ◌↔◌, map, take, slice_get, Some, All, IsTrue};
 ghost use Rattle.cal_ast.specs.Naming.{DoneNamesKnown, HasNewNames, InvokeNamesKnown, IsKnownCell, IsKnownPort, IsNewCell, IsNewGroup, IsUnreserved, NamesKnown, StatementNamesKnown, Unreserved, BindsKnownIn, BindsKnownOut};
 ghost use Rattle.net_core.specs.Numbers.{IsNumberOf};
 ghost use Rattle.cal_ast.specs.Numbers.{CellHasNumbers, DoneHasNumbers, GroupHasNumbers, InHasNumbers, OutHasNumbers, PortHasNumbers, SetHasNumbers, SourceHasNumbers, StatementHasNumbers};
-ghost use Rattle.cal_ast.specs.Tree.{GroupDef, assignment_tree, cell_tree, done_tree, group_tree, in_tree, out_tree, port_tree, statement_tree};
+ghost use Rattle.cal_ast.specs.Tree.{assignment_tree, cell_tree, done_tree, group_tree, in_tree, out_tree, port_tree, statement_tree};
 ghost use Rattle.cal_ast.specs.Wires.{done_ports, set_ports};
 ghost use Rattle.hw_names.specs.Name.{text_of};
 ghost use Rattle.net_core.specs.Graph.{source_ports};

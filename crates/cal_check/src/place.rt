@@ -106,7 +106,7 @@ impl<'a> Place<'a> {
     ghost use Rattle.cal_ast.specs.Sides.{IsSource};
     ghost use Rattle.cal_ast.specs.Tree.{CellDef, Component, component_tree, design_of, group_tree, own, port_of, port_tree};
     ghost use Rattle.cal_check.specs.Around.{comp_at, design_at, earlier_at, names_at};
-    ghost use Rattle.cal_check.specs.Firsts.{IsFirst};
+    ghost use Rattle.cal_check.specs.Firsts.{IsFirst, TellsFirst};
     ghost use Rattle.cal_check.specs.Mades.{IsMadeOf, made_component, made_primitive};
     ghost use Rattle.cal_check.specs.Nests.{ShowsNesting};
     ghost use Rattle.cal_check.specs.Signatures.{ShowsSignature, found};
@@ -275,6 +275,13 @@ impl<'a> Place<'a> {
         ensures { option_map (λ go. go.now) result ≡ invoking.go_of (design_at self.now) (comp_at self.now) (text_of (names_at self.now) cell) }
     {
         go_of(self.made_in(cell)?)
+    }
+
+    /// The first place of a cell of this name.
+    pub fn cell(&self, name: &[u8]) -> Option<usize>
+        ensures { TellsFirst (cell_names (comp_at self.now).cells) name.now result }
+    {
+        self.cells.find(name)
     }
 
     /// Whether there is a cell of this name.

@@ -2,11 +2,12 @@
 //!
 //! A port is known by the number of its cell's name and that of its own, so the length of a name is paid for once, and not
 //! at each port. Its key, which has its full name, is made only where it is told.
-ghost use Rattle.std.specs.Prelude.{◌≡◌, ◌⊎◌, ◌↔◌, ◌<◌, ◌^◌, ℕ, List, [], ◌∷◌, ◌++◌, Some, AllPairs, Contains, length, option_map, slice_get, slice_index_or, IfOk, IfSome, IsSome, OnOk};
+ghost use Rattle.std.specs.Prelude.{◌≡◌, ◌⊎◌, ◌↔◌, ◌<◌, ◌^◌, ℕ, List, [], ◌∷◌, ◌++◌, Some, Contains, length, option_map, slice_get, slice_index_or, IfOk, IfSome, IsSome, OnOk};
 ghost use Rattle.hw_names.specs.Name.{AreDistinct, Text};
 ghost use Rattle.hw_names.specs.declared.names.NameId.{NameId};
 ghost use Rattle.cal_check.specs.inside.Nodes.{AHole, APort, AreNumbers, AreDifferent, IsFit, PortList, key_of, node_in, port_by};
 ghost use Rattle.cal_check.specs.inside.ShortNames.{TellNodes};
+ghost use Rattle.cal_ast.specs.Tree.{port_of};
 
 use crate::keys::{PortText, hole_key, port_key};
 use crate::short_names::short_names;
@@ -136,6 +137,18 @@ impl<'a> Ports<'a> {
     {
         self.texts.are_distinct();
         self.set.len()
+    }
+
+    /// The names of the cell and of the port of this number, if it is a port of a cell.
+    pub fn cell_port(&self, place: usize) -> Option<(&[u8], &[u8])>
+        requires { place < length self.now.keys }
+        ensures some { IfSome result (λ names. slice_get self.now.keys place ≡ Some (key_of (APort (port_of names.0.now names.1.now)))) }
+        ensures none { (cell pin : Text) → slice_get self.now.keys place ≡ Some (key_of (APort (port_of cell pin))) → IsSome result }
+    {
+        match self.set.as_slice()[place] {
+            NodeKey::OfCell { cell, pin } => Some((self.texts.text(cell), self.texts.text(pin))),
+            _ => None,
+        }
     }
 
     /// The key that has the full name of the port at this place, or is a hole's.

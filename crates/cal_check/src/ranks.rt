@@ -1,5 +1,5 @@
 //! Numbers of texts that stand in the order of the texts' bytes.
-ghost use Rattle.std.specs.Prelude.{◌≡◌, ℕ, List, map, IfOk, Vec};
+ghost use Rattle.std.specs.Prelude.{◌≡◌, ℕ, map, IfOk, Vec};
 ghost use Rattle.std.specs.declared.alloc.Global.{Global};
 ghost use Rattle.cal_check.specs.inside.Ranks.{AreSorted, HaveRanks, IsRank, TellOrder};
 

@@ -1,5 +1,5 @@
 //! The ports that an assignment or a done line reads.
-ghost use Rattle.std.specs.Prelude.{◌≡◌, ◌++◌, List, map, All, IfOk, OnOk};
+ghost use Rattle.std.specs.Prelude.{◌++◌, List, map, All, IfOk, OnOk};
 ghost use Rattle.hw_names.specs.Name.{Text};
 ghost use Rattle.net_core.specs.Graph.{guard_ports, guards_ports, option_ports, source_ports};
 ghost use Rattle.net_core.specs.Guard.{guard_option, guard_tree, guards_of, source_tree};

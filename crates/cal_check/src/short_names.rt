@@ -5,7 +5,7 @@
 //! pieces. That the order is the same takes names without dots, as those of a text are:
 //!
 //!     a.in  a.out  a$.in  go     has the pieces  a$.  a.  go  in  out     and is put in order as  a$.in  a.in  a.out  go
-ghost use Rattle.std.specs.Prelude.{◌≡◌, ◌⊎◌, true, false, ◌∷◌, [], ◌++◌, ◌<◌, ◌^◌, ℕ, List, Vec, Some, All, length, map, slice_get, IfOk, IfSome, IsTrue, OnOk};
+ghost use Rattle.std.specs.Prelude.{◌≡◌, ◌⊎◌, true, false, ◌∷◌, [], ◌++◌, ◌<◌, ◌^◌, ℕ, Vec, Some, All, length, map, slice_get, IfOk, IfSome, IsTrue, OnOk};
 ghost use Rattle.std.specs.declared.alloc.Global.{Global};
 ghost use Rattle.cal_check.specs.inside.Nodes.{IsFit};
 ghost use Rattle.cal_check.specs.inside.ShortNames.{AreNamed, AreWithin, HasPlaces, HavePlaces, IsPieceFit, IsPlainPiece, KeepsPieces, TellKeys, piece_text, rank_or, three};

@@ -1,9 +1,8 @@
 //! The ports of a component, written and implied.
-ghost use Rattle.std.specs.Prelude.{◌≡◌, List, [], ◌∷◌, ◌++◌, map, length, All, IfOk, OnOk, codes, option_map, if◌then◌else◌};
-ghost use Rattle.hw_names.specs.Name.{Text, AreDistinct};
-ghost use Rattle.hw_prims.specs.Table.{pin, pin_names};
+ghost use Rattle.std.specs.Prelude.{◌≡◌, List, [], ◌∷◌, ◌++◌, map, All, IfOk, OnOk, option_map, if◌then◌else◌};
+ghost use Rattle.hw_prims.specs.Table.{pin};
 ghost use Rattle.cal_ast.specs.Numbers.{ComponentHasNumbers, PinHasNumber, SetHasNumbers};
-ghost use Rattle.cal_ast.specs.Ports.{SidedPin, drives_done, has_pin, inputs_in, is_bare, is_own, on_side, outputs_in, port_named, with_pin};
+ghost use Rattle.cal_ast.specs.Ports.{SidedPin, drives_done, has_pin, is_bare, is_own, on_side, port_named, with_pin};
 ghost use Rattle.cal_ast.specs.Tree.{assignment_tree, component_tree, pin_tree, port_tree};
 ghost use Rattle.cal_ast.specs.Numbers.{PortHasNumbers};
 ghost use Rattle.cal_check.specs.Signatures.{ShowsPorts, ShowsSignature, found, sided, side_of};

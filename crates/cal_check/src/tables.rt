@@ -1,8 +1,8 @@
 //! What the names of a design mean, in tables.
-ghost use Rattle.std.specs.Prelude.{◌≡◌, length, map, slice_get, Some, All, IfOk};
+ghost use Rattle.std.specs.Prelude.{IfOk};
 ghost use Rattle.cal_ast.specs.Naming.{component_names};
 ghost use Rattle.cal_ast.specs.Numbers.{HasNumbers};
-ghost use Rattle.cal_ast.specs.Tree.{Design, design_of};
+ghost use Rattle.cal_ast.specs.Tree.{design_of};
 ghost use Rattle.cal_check.specs.Firsts.{ShowsFirsts};
 ghost use Rattle.cal_check.specs.Tables.{AreMade, AreSignatures, ShowsTables};
 

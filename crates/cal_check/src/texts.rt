@@ -1,5 +1,5 @@
 //! Texts by numbers: the design's names, and after them others.
-ghost use Rattle.std.specs.Prelude.{◌≡◌, ◌+◌, ◌<◌, ◌++◌, ℕ, List, [], Some, Contains, length, slice_get, IfNone, IfOk, IfSome};
+ghost use Rattle.std.specs.Prelude.{◌≡◌, ◌+◌, ◌<◌, ◌++◌, [], Some, Contains, length, slice_get, IfNone, IfOk, IfSome};
 ghost use Rattle.hw_names.specs.Name.{AreDistinct, KeepsTexts, text_of};
 ghost use Rattle.net_core.specs.Numbers.{IsNumberOf};
 ghost use Rattle.hw_names.specs.declared.names.NameId.{NameId};

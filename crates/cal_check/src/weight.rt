@@ -1,5 +1,5 @@
 //! What a design weighs, and how many words its memories have.
-ghost use Rattle.std.specs.Prelude.{◌≡◌, ◌+◌, ◌<◌, ℕ, List, length, map, slice_get, slice_index, sum_by, Some, All, IfOk, IfSome, MatchOption, option_and_then};
+ghost use Rattle.std.specs.Prelude.{◌≡◌, ◌<◌, ℕ, List, length, map, slice_get, slice_index, sum_by, Some, All, IfOk, IfSome, MatchOption, option_and_then};
 ghost use Rattle.hw_names.specs.Name.{Text};
 ghost use Rattle.net_core.specs.Guard.{guard_option};
 ghost use Rattle.net_core.specs.Weight.{option_nodes, saturated};

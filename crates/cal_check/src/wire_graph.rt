@@ -32,7 +32,7 @@ pub struct WireGraph<'a> {
 }
 
 impl<'a> WireGraph<'a> {
-    ghost use Rattle.std.specs.Prelude.{◌≡◌, ◌↔◌, ◌+◌, ◌<◌, [], ◌∷◌, ◌++◌, All, length, slice_get, Some, Contains, IfOk, IfSome, IsSome, OnOk};
+    ghost use Rattle.std.specs.Prelude.{◌≡◌, ◌+◌, ◌<◌, [], ◌∷◌, ◌++◌, All, length, Contains, IfOk, OnOk};
     ghost use Rattle.cal_check.specs.inside.Nodes.{APort, AreNumbers, Node, key_of, port_by};
     ghost use Rattle.cal_check.specs.inside.WireGraphs.{Adds, Grows, HasHole, HasNumber, IsPair, NoPair};
 

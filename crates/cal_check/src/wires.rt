@@ -1,5 +1,5 @@
 //! C12: which ports of a component read which within a row, and its least loop.
-ghost use Rattle.std.specs.Prelude.{◌≡◌, ◌↔◌, ℕ, List, ◌+◌, ◌^◌, ◌<◌, [], ◌∷◌, ◌++◌, Option, Some, length, map, option_map, slice_get, All, Contains, IfOk, IfSome, IsTrue, OnOk};
+ghost use Rattle.std.specs.Prelude.{◌≡◌, ◌↔◌, ℕ, List, ◌+◌, ◌<◌, [], ◌∷◌, ◌++◌, Option, Some, length, map, option_map, slice_get, All, Contains, IfOk, IfSome, IsTrue, OnOk};
 ghost use Rattle.hw_graph.specs.Graph.{AreInRange};
 ghost use Rattle.hw_graph.specs.Groups.{IsGathered};
 ghost use Rattle.hw_names.specs.Name.{AreDistinct, KeepsTexts, Text, text_of};
@@ -10,7 +10,7 @@ ghost use Rattle.cal_ast.specs.Items.{control_statements, statements_in, stateme
 ghost use Rattle.cal_ast.specs.Numbers.{ControlHasNumbers, DoneHasNumbers, GroupHasNumbers, InHasNumbers, OutHasNumbers, PortHasNumbers, SetHasNumbers, StatementHasNumbers};
 ghost use Rattle.cal_ast.specs.Ports.{inputs_in, outputs_in};
 ghost use Rattle.cal_ast.specs.Rules.{KeepsRules};
-ghost use Rattle.cal_ast.specs.Tree.{CellDef, Component, Design, Invoke, assignment_tree, control_tree, done_tree, group_tree, in_tree, out_tree, own, port_of, port_tree, statement_tree};
+ghost use Rattle.cal_ast.specs.Tree.{CellDef, Component, Invoke, assignment_tree, control_tree, done_tree, group_tree, in_tree, out_tree, own, port_of, port_tree, statement_tree};
 ghost use Rattle.cal_check.specs.Around.{comp_at, design_at, names_at};
 ghost use Rattle.cal_check.specs.inside.Nodes.{AreNumbers, Node, PinHasNumber, input_key, pin_text, port_by, ports_in};
 ghost use Rattle.cal_check.specs.inside.Readings.{AddsGroups, ReadsDones, ReadsEach, ReadsGo, ReadsInCell, ReadsInCells, ReadsInPart, ReadsInPrimitive, ReadsNumbers, ReadsOutput, ReadsSet, ReadsSets, ReadsThrough, group_invoked, groups_invoked};
@@ -69,7 +69,7 @@ fn line_port(port: CalPort) -> Port<'static>
 }
 
 /// A port of the component itself.
-fn own_port<'t>(pin: PinName<'t>) -> Port<'t>
+pub(crate) fn own_port<'t>(pin: PinName<'t>) -> Port<'t>
     ensures is { (names : List Text) → port_by names result ≡ own (pin_text names pin.entry) }
     ensures numbers { (names : List Text) → PinHasNumber names pin.entry → AreNumbers names result }
 {
@@ -88,7 +88,7 @@ fn cell_port<'t>(cell: NameId, pin: PinName<'t>) -> Port<'t>
 }
 
 /// The names of the component's ports: its inputs, and then its outputs.
-fn port_names<'a>(place: &Place<'a>) -> &'a Names
+pub(crate) fn port_names<'a>(place: &Place<'a>) -> &'a Names
     requires { KeepsRules (design_at place.now) }
     ensures names { result.now ≡ pin_names (inputs_in (comp_at place.now) ++ outputs_in (comp_at place.now)) }
     ensures distinct { AreDistinct (pin_names (inputs_in (comp_at place.now) ++ outputs_in (comp_at place.now))) }
@@ -140,7 +140,7 @@ fn add_set(
 }
 
 /// Adds what assignments say.
-fn add_sets(
+pub(crate) fn add_sets(
     graph: &mut WireGraph,
     place: &Place,
     hole: Option<Hole>,
@@ -204,7 +204,11 @@ fn add_group(graph: &mut WireGraph, place: &Place, group: &Group) -> Result<(), 
 }
 
 /// Adds what groups say.
-fn add_groups(graph: &mut WireGraph, place: &Place, groups: &[Group]) -> Result<(), Memory>
+pub(crate) fn add_groups(
+    graph: &mut WireGraph,
+    place: &Place,
+    groups: &[Group],
+) -> Result<(), Memory>
     requires names { graph.old.ports.names ≡ names_at place.now }
     requires groups { All (GroupHasNumbers (names_at place.now)) groups.now }
     ensures { OnOk result (AddsGroups (design_at place.now) (comp_at place.now) (map (group_tree (names_at place.now)) groups.now) graph.old graph.new) }
@@ -370,7 +374,11 @@ fn add_statements(graph: &mut WireGraph, place: &Place, list: &[Control]) -> Res
 }
 
 /// Adds what the invokes of a component's control say.
-fn add_control(graph: &mut WireGraph, place: &Place, control: &ControlPart) -> Result<(), Memory>
+pub(crate) fn add_control(
+    graph: &mut WireGraph,
+    place: &Place,
+    control: &ControlPart,
+) -> Result<(), Memory>
     requires names { graph.old.ports.names ≡ names_at place.now }
     requires control { ControlHasNumbers (names_at place.now) control.now }
     ensures { OnOk result (AddsGroups (design_at place.now) (comp_at place.now) (groups_invoked (design_at place.now) (comp_at place.now) (control_statements (control_tree (names_at place.now) control.now))) graph.old graph.new) }
@@ -440,7 +448,7 @@ fn add_primitive_output(
 }
 
 /// Adds on which inputs the outputs of a cell of a primitive depend.
-fn add_primitive(graph: &mut WireGraph, cell: NameId, prim: Prim) -> Result<(), Memory>
+pub(crate) fn add_primitive(graph: &mut WireGraph, cell: NameId, prim: Prim) -> Result<(), Memory>
     requires cell { IsNumberOf graph.old.ports.names cell }
     requires made { IsMade prim }
     ensures { (names : List Text) → graph.old.ports.names ≡ names

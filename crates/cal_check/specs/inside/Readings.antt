@@ -103,3 +103,11 @@ ReadsInCell design c cell n o =
 -- and of each cell of the component
 abbrev pub ReadsInCells : Design → Component → Node → Node → Type 0
 ReadsInCells design c = AnyOf (λ (cell : CellDef). ReadsInCell design c cell.name) c.cells
+
+-- so of the cell of a name, if it is of a primitive
+abbrev pub ReadsPrimitive : Component → Text → Node → Node → Type 0
+ReadsPrimitive c cell n o = (prim : Primitive) × (primitive_in c cell ≡ Some prim) × ReadsInPrimitive cell prim n o
+
+-- and of each cell of the component
+abbrev pub ReadsPrimitives : Component → Node → Node → Type 0
+ReadsPrimitives c = AnyOf (λ (cell : CellDef). ReadsPrimitive c cell.name) c.cells

@@ -24,11 +24,18 @@ first_looped-requires-clause-nesting c =
     let d = design_of c.args.design.now in
     c.in_ok-nesting.ensures d (subst (AreMade d) (sym c.deref.ensures.value) c.in_ok-tables.ensures.made)
 
+pub have_levels-requires-clause-nesting : goal.have_levels-requires-clause-nesting
+have_levels-requires-clause-nesting c =
+    let d = design_of c.args.design.now in
+    c.in_ok-nesting.ensures d (subst (AreMade d) (sym c.deref.ensures.value) c.in_ok-tables.ensures.made)
+
 pub new-requires-clause-rules : goal.new-requires-clause-rules
 new-requires-clause-rules c =
-    let d = design_of c.args.design.now in
-    let T : Option Looped → Type 0 = TellsFirstLoop d in
-    record { keeps = c.in_ok-judge_components.ensures.kept; no_loop = subst T c.in-None.is c.in_ok-first_looped.ensures }
+    record { keeps = c.in_ok-judge_components.ensures.kept; no_loop = c.in_ok-have_levels.ensures c.if-branch.true }
+
+pub returns-in_err-have_levels-clause-refused : goal.returns-in_err-have_levels-clause-refused
+returns-in_err-have_levels-clause-refused c =
+    passed_up c.from_residual-in_err-have_levels.result design.Memory (TellsRefusal c.args.design.now) c.from_residual-in_err-have_levels.ensures.1 tt
 
 pub returns-in-None-clause-kept : goal.returns-in-None-clause-kept
 returns-in-None-clause-kept c =

@@ -1,4 +1,4 @@
-use Rattle.std.proofs.Common.{◌≡◌, ◌∙◌, Vec, Global, ℕ, length, get_or, ap, subst, sym, arith}
+use Rattle.std.proofs.Common.{◌≡◌, ◌∙◌, Vec, Global, ℕ, length, get_or, ap, subst, arith}
 use Rattle.std.proofs.lemmas.List.{length_push}
 use Rattle.hw_names.specs.Name.{Text}
 use Rattle.cal_check.specs.inside.Ranks.{IsRank}

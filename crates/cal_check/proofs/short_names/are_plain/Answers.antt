@@ -1,9 +1,8 @@
-use Rattle.std.proofs.Common.{refl, subst, List}
+use Rattle.std.proofs.Common.{refl, subst}
 use Rattle.std.specs.Prelude.{All}
 use Rattle.std.proofs.lemmas.List.{take_all}
 use Rattle.std.proofs.lemmas.List.Elements.{All-more}
 use Rattle.cal_check.specs.inside.ShortNames.{IsPlainPiece}
-use Rattle.cal_check.specs.declared.short_names.Piece.{Piece}
 use Rattle.cal_check.proofs.short_names.are_plain.Goals as goal
 
 pub is_plain-requires : goal.is_plain-requires

@@ -1,6 +1,6 @@
 use Rattle.std.proofs.Common.{[], subst, sym}
 use Rattle.std.proofs.lemmas.Option.{get_or_from_slice_get}
-use Rattle.hw_names.specs.Name.{HasNoDot, Text}
+use Rattle.hw_names.specs.Name.{HasNoDot}
 use Rattle.cal_check.proofs.ShortNameLemmas.{plain_text}
 use Rattle.cal_check.proofs.short_names.is_plain.Goals as goal
 

@@ -1,4 +1,4 @@
-use Rattle.std.proofs.Common.{◌≡◌, ◌<◌, ◌^◌, ℕ, List, Some, None, length, get_or, slice_get, ap₂, ◌∙◌, arith}
+use Rattle.std.proofs.Common.{◌≡◌, ◌<◌, ◌^◌, ℕ, Some, None, length, get_or, slice_get, ap₂, ◌∙◌, arith}
 use Rattle.std.proofs.lemmas.Option.{slice_get-get_or}
 use Rattle.cal_check.specs.inside.ShortNames.{name_by, rank_or, three}
 use Rattle.cal_check.specs.declared.short_names.Places.{Places}

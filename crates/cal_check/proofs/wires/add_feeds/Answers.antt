@@ -1,4 +1,4 @@
-use Rattle.std.proofs.Common.{◌≡◌, ℕ, Bool, List, [], ◌∷◌, ◌++◌, length, sym, ap, ◌∙◌, append-nil, arith}
+use Rattle.std.proofs.Common.{◌≡◌, ℕ, Bool, [], ◌∷◌, ◌++◌, length, sym, ap, ◌∙◌, append-nil, arith}
 use Rattle.std.specs.Prelude.{◌==◌, if◌then◌else◌, vec_len}
 use Rattle.cal_check.specs.declared.wires.Feeds.{Feeds}
 use Rattle.cal_check.proofs.wires.add_feeds.Goals as goal

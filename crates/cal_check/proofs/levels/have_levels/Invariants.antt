@@ -1,0 +1,13 @@
+use Rattle.std.proofs.Common.{◌≡◌, None, length, take}
+use Rattle.cal_ast.specs.Tree.{design_of}
+use Rattle.cal_check.specs.inside.FirstLoop.{TellsFirstLooped}
+use Rattle.cal_check.proofs.OrderLemmas.{KnowsLevels}
+use Rattle.cal_check.proofs.levels.have_levels.Given as goal
+
+-- so many components have levels, and no loop
+abbrev pub invariant-loop-number : goal.invariant-loop-number
+invariant-loop-number l = record {
+  sized : length l.levels.items ≡ length (design_of l.design);
+  knows : KnowsLevels (design_of l.design) (take l.number-index l.number-items) l.levels.items;
+  clear : TellsFirstLooped (design_of l.design) (take l.number-index l.number-items) None;
+}
