@@ -14,7 +14,7 @@ use Rattle.fil_ast.proofs.UseLemmas.{parts_of}
 use Rattle.fil_ast.proofs.SharingLemmas.{KeepsPairsInTime}
 use Rattle.fil_ast.specs.Evidence.{AreKeptApart, Fits}
 use Rattle.fil_ast.specs.Holds as held
-use Rattle.fil_ast.specs.Holds.{Start, Hold, AreLegalStarts, IsHeldIn, holds_of}
+use Rattle.fil_ast.specs.Holds.{Start, Hold, holds_of}
 use Rattle.fil_ast.specs.Items.{Item, TheSignature, TheStatement, TheEnd, scope_after, scope_with}
 use Rattle.fil_ast.specs.Naming.{event_names, instance_names}
 use Rattle.fil_ast.specs.Primitives.{is_filament_primitive, primitive_signature}

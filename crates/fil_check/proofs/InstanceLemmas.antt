@@ -25,6 +25,7 @@ use Rattle.fil_ast.specs.Tree.{Component, DataPort, Design}
 use Rattle.fil_ast.specs.Wires.{DependsWithin, OfComponent, OfPrimitive, Reaches, through_before, through_of, whole_scope}
 use Rattle.fil_check.proofs.Lookup.{find_at_place}
 use Rattle.fil_check.proofs.ReadingLemmas.{instance_found}
+use Rattle.fil_check.specs.inside.Levels.{AreAllOrNone}
 use Rattle.fil_check.specs.inside.PortGraph.{Below}
 use Rattle.fil_check.specs.inside.Readings.{ReadsAll, ReadsMade, ReadsWired, ReadsWithin}
 use Rattle.fil_check.specs.inside.Tables.{IsPlace}
@@ -82,6 +83,20 @@ pub record IsThroughAt (comps : Design) (name output input : Text) : Type 0 wher
   pub is_named : name ≡ d.name
   pub reaches : Reaches (through_before (take n comps)) (whole_scope (take n comps) d) input output
 
+-- an output of component n, by its own number, reaches an input of it
+pub record IsOwnReading (comps : Design) (n : ℕ) (output input : Text) : Type 0 where
+  pub d : Component
+  pub at : slice_get comps n ≡ Some d
+  pub o : ℕ
+  pub i : ℕ
+  pub own_output : DataPort
+  pub own_input : DataPort
+  pub output_at : slice_get d.outs o ≡ Some own_output
+  pub input_at : slice_get d.ins i ≡ Some own_input
+  pub output_named : own_output.name ≡ output
+  pub input_named : own_input.name ≡ input
+  pub reaches : Reaches (through_before (take n comps)) (whole_scope (take n comps) d) own_input.name own_output.name
+
 module _ (scope : Scope) (keeps : KeepsRules all_rules scope.comps) where
   no_primitive : (n : ℕ) (d : Component) → slice_get scope.comps n ≡ Some d → is_filament_primitive d.name ≡ false
   no_primitive n d at = left (is_filament_primitive d.name) (is_primitive d.name) (keeps n d at 0 TheSignature refl 0 F1 (omega arith)).no_primitive
@@ -89,6 +104,14 @@ module _ (scope : Scope) (keeps : KeepsRules all_rules scope.comps) where
       left : (a b : Bool) → (a || b) ≡ false → a ≡ false
       left true b e = absurd (cc)
       left false b e = refl
+
+  no_table_of : (made : Text) (t : Option Text) → table_name made ≡ t → is_filament_primitive made ≡ false → table_name made ≡ None
+  no_table_of made None at none = at
+  no_table_of made (Some table) at none = let bad : true ≡ false = sym (ap is_some at) ∙ none in absurd (cc)
+
+  -- a component has no primitive's name
+  pub no_table_at : (made output input : Text) → IsThroughAt scope.comps made output input → table_name made ≡ None
+  no_table_at made output input t = no_table_of made (table_name made) refl (ap is_filament_primitive t.is_named ∙ no_primitive t.n t.d t.at)
 
   pub no_component : (made output input : Text) → is_filament_primitive made ≡ true → IsThroughAt scope.comps made output input → ⊥
   no_component made output input is t =
@@ -185,13 +208,20 @@ module _ (name output input : Text) where
 
 -- ---- an instance
 
-module _ (names : List Text) (earlier : Earlier) (comp : FilComp) (tables : Tables) (scope : Scope) (place : IsPlace names earlier comp tables scope) (wires : List Wires) (shows : ShowsWires scope.comps wires) (keeps : KeepsRules all_rules scope.comps)
+module _ (names : List Text) (earlier : Earlier) (comp : FilComp) (tables : Tables) (scope : Scope) (place : IsPlace names earlier comp tables scope) (known : Design) (part : AreAllOrNone scope.comps known) (keeps : KeepsRules all_rules scope.comps)
     (i : Instance) (has : Contains scope.instances i) (sig : Signature) (told : instance_signature scope i.name ≡ Some sig) where
   signed : signature_in scope.comps i.made i.params ≡ Some sig
   signed = sym (ap (option_and_then (λ (x : Instance). signature_in scope.comps x.made x.params)) (instance_found scope i place.shows.distinct has)) ∙ told
 
-  of_sig : (p o : Text) → ReadsMade (through_before scope.comps) scope i p o → ReadsWithin (through_before scope.comps) i sig p o
-  of_sig p o (other, there, w) = subst (λ (x : Signature). ReadsWithin (through_before scope.comps) i x p o) (same_Some other sig (sym there ∙ told)) w
+  of_sig : (through : Text → Text → Text → Type 0) (p o : Text) → ReadsMade through scope i p o → ReadsWithin through i sig p o
+  of_sig through p o (other, there, w) = subst (λ (x : Signature). ReadsWithin through i x p o) (same_Some other sig (sym there ∙ told)) w
+
+  told_known : (made output input : Text) → through_before known made output input → IsThroughAt scope.comps made output input
+  told_known made output input t = by part
+    where
+      by : AreAllOrNone scope.comps known → IsThroughAt scope.comps made output input
+      by (inl all) = through_told made output input scope.comps (subst (λ (l : Design). through_before l made output input) all t)
+      by (inr none) = let nothing : through_before [] made output input = subst (λ (l : Design). through_before l made output input) none t in absurd nothing
 
   -- a primitive's
   module _ (table : Text) (of_table : table_name i.made ≡ Some table) (b : Bool) (flag : IsThrough i.made i.params b) where
@@ -217,10 +247,10 @@ module _ (names : List Text) (earlier : Earlier) (comp : FilComp) (tables : Tabl
         let has_outs = pin_within (output_port (timing_of i.made)) (outputs_of prim) output (subst (λ (s : Signature). Contains s.outs output) (sym by_prim) outs) in
         flag prim input.name output.name is has_ins has_outs
 
-    pub reads_all : b ≡ true → (p o : Text) → Below (ReadsAll i.name sig) (length sig.outs) p o ↔ ReadsMade (through_before scope.comps) scope i p o
+    pub reads_all : b ≡ true → (p o : Text) → Below (ReadsAll i.name sig) (length sig.outs) p o ↔ ReadsMade (through_before known) scope i p o
     reads_all on p o = (from, to)
       where
-        from : Below (ReadsAll i.name sig) (length sig.outs) p o → ReadsMade (through_before scope.comps) scope i p o
+        from : Below (ReadsAll i.name sig) (length sig.outs) p o → ReadsMade (through_before known) scope i p o
         from (k, lt, r) =
             let ins = contains_of sig.ins r.reads.input (in_at sig.ins r.k r.reads.input r.reads.taken) in
             let outs = contains_of sig.outs r.output (in_at sig.outs k r.output r.given) in (
@@ -237,19 +267,19 @@ module _ (names : List Text) (earlier : Earlier) (comp : FilComp) (tables : Tabl
               },
             )
 
-        to : ReadsMade (through_before scope.comps) scope i p o → Below (ReadsAll i.name sig) (length sig.outs) p o
+        to : ReadsMade (through_before known) scope i p o → Below (ReadsAll i.name sig) (length sig.outs) p o
         to reads =
-            let w = of_sig p o reads in
+            let w = of_sig (through_before known) p o reads in
             let out = at_of sig.outs w.output (in_of sig.outs w.output w.outs) in
             let inn = at_of sig.ins w.input (in_of sig.ins w.input w.ins) in
             (out.0, slice_get_within sig.outs out.0 w.output out.1, record { output = w.output; given = out.1; k = inn.0; reads = record { input = w.input; taken = inn.1; is_port = w.is_port; is_other = w.is_other } })
 
-    pub reads_none : b ≡ false → (p o : Text) → ReadsMade (through_before scope.comps) scope i p o → ⊥
-    reads_none off p o reads = let w = of_sig p o reads in by w w.depends
+    pub reads_none : b ≡ false → (p o : Text) → ReadsMade (through_before known) scope i p o → ⊥
+    reads_none off p o reads = let w = of_sig (through_before known) p o reads in by w w.depends
       where
-        by : (w : ReadsWithin (through_before scope.comps) i sig p o) → DependsWithin (through_before scope.comps) i w.output.name w.input.name → ⊥
+        by : (w : ReadsWithin (through_before known) i sig p o) → DependsWithin (through_before known) i w.output.name w.input.name → ⊥
         by w (OfPrimitive prim is t) = let bad : true ≡ false = sym t ∙ (through_is w.input w.output w.ins w.outs prim is ∙ off) in absurd (cc)
-        by w (OfComponent t) = no_component scope keeps i.made w.output.name w.input.name is_primitive_name (through_told i.made w.output.name w.input.name scope.comps t)
+        by w (OfComponent t) = no_component scope keeps i.made w.output.name w.input.name is_primitive_name (told_known i.made w.output.name w.input.name t)
 
   -- an earlier component's
   module _ (no_table : table_name i.made ≡ None) where
@@ -257,13 +287,13 @@ module _ (names : List Text) (earlier : Earlier) (comp : FilComp) (tables : Tabl
     no_prim prim is = let bad : ◌≡◌ {A = Option Primitive} None (Some prim) = sym (ap (option_and_then (λ (t : Text). prim_of t i.params)) no_table) ∙ is in absurd (cc)
 
     -- no component has the name
-    pub reads_nothing : (Contains earlier.names i.made → ⊥) → (p o : Text) → ReadsMade (through_before scope.comps) scope i p o → ⊥
-    reads_nothing absent p o reads = let w = of_sig p o reads in by w w.depends
+    pub reads_nothing : (Contains earlier.names i.made → ⊥) → (p o : Text) → ReadsMade (through_before known) scope i p o → ⊥
+    reads_nothing absent p o reads = let w = of_sig (through_before known) p o reads in by w w.depends
       where
-        by : (w : ReadsWithin (through_before scope.comps) i sig p o) → DependsWithin (through_before scope.comps) i w.output.name w.input.name → ⊥
+        by : (w : ReadsWithin (through_before known) i sig p o) → DependsWithin (through_before known) i w.output.name w.input.name → ⊥
         by w (OfPrimitive prim is t) = no_prim prim is
         by w (OfComponent t) =
-            let q = through_told i.made w.output.name w.input.name scope.comps t in
+            let q = told_known i.made w.output.name w.input.name t in
             let named_at : slice_get (map (λ (c : Component). c.name) scope.comps) q.n ≡ Some i.made = slice_get-map (λ (c : Component). c.name) scope.comps q.n ∙ (ap (option_map (λ (c : Component). c.name)) q.at ∙ ap Some (sym q.is_named)) in
             absent (Contains-slice_get earlier.names q.n i.made (ap (λ (ts : List Text). slice_get ts q.n) place.shows.components.names ∙ named_at))
 
@@ -274,11 +304,24 @@ module _ (names : List Text) (earlier : Earlier) (comp : FilComp) (tables : Tabl
       there : (d : Component) × (slice_get scope.comps n ≡ Some d) × (d.name ≡ i.made)
       there = unmap_at (λ (c : Component). c.name) scope.comps n i.made name_at
 
-      component_within : n < length wires
-      component_within = omega (arith, slice_get_within scope.comps n there.0 there.1, shows.all)
+      component_missing : (wires : List Wires) → ShowsWires scope.comps wires → slice_get wires n ≡ None → ⊥
+      component_missing wires shows none =
+          let within : n < length wires = omega (arith, slice_get_within scope.comps n there.0 there.1, shows.all) in
+          let own = there_at wires n within in
+          let bad : ◌≡◌ {A = Option Wires} None (Some own.0) = sym none ∙ own.1 in
+          absurd (cc)
 
-      pub component_missing : slice_get wires n ≡ None → ⊥
-      component_missing none = let own = there_at wires n component_within in let bad : ◌≡◌ {A = Option Wires} None (Some own.0) = sym none ∙ own.1 in absurd (cc)
+      -- without wires nothing is read through it
+      pub reads_missing : (wires : List Wires) → ShowsWires known wires → slice_get wires n ≡ None → (p o : Text) → ReadsMade (through_before known) scope i p o → ⊥
+      reads_missing wires shows missing p o reads = by part
+        where
+          of : (w : ReadsWithin (through_before []) i sig p o) → DependsWithin (through_before []) i w.output.name w.input.name → ⊥
+          of w (OfPrimitive prim is t) = no_prim prim is
+          of w (OfComponent t) = let nothing : through_before [] i.made w.output.name w.input.name = t in absurd nothing
+
+          by : AreAllOrNone scope.comps known → ⊥
+          by (inl all) = component_missing wires (subst (λ (l : Design). ShowsWires l wires) all shows) missing
+          by (inr none) = let w = of_sig (through_before []) p o (subst (λ (l : Design). ReadsMade (through_before l) scope i p o) none reads) in of w w.depends
 
       sig_is : component_signature there.0 ≡ sig
       sig_is =
@@ -291,32 +334,53 @@ module _ (names : List Text) (earlier : Earlier) (comp : FilComp) (tables : Tabl
           bare [] e = same_Some (component_signature there.0) sig e
           bare (x ∷ params) e = absurd (cc)
 
-      module _ (own : Wires) (at_own : slice_get wires n ≡ Some own) where
+      -- a port of the signature is the component's
+      out_port_at : (k : ℕ) (p : SigPort) → slice_get sig.outs k ≡ Some p → (q : DataPort) × (slice_get there.0.outs k ≡ Some q) × (q.name ≡ p.name)
+      out_port_at k p at =
+          let m = unmap_at (sig_port there.0.events) there.0.outs k p (ap (λ (s : Signature). slice_get s.outs k) sig_is ∙ at) in
+          (m.0, m.1, ap (λ (x : SigPort). x.name) m.2)
+
+      in_port_at : (k : ℕ) (p : SigPort) → slice_get sig.ins k ≡ Some p → (q : DataPort) × (slice_get there.0.ins k ≡ Some q) × (q.name ≡ p.name)
+      in_port_at k p at =
+          let m = unmap_at (sig_port there.0.events) there.0.ins k p (ap (λ (s : Signature). slice_get s.ins k) sig_is ∙ at) in
+          (m.0, m.1, ap (λ (x : SigPort). x.name) m.2)
+
+      abbrev ReachesOwn : Text → Text → Type 0
+      ReachesOwn output input = Reaches (through_before (take n scope.comps)) (whole_scope (take n scope.comps) there.0) input output
+
+      own_reach : (output input : Text) → IsThroughAt scope.comps i.made output input → ReachesOwn output input
+      own_reach output input q =
+          let named_q : slice_get earlier.names q.n ≡ Some i.made = ap (λ (ts : List Text). slice_get ts q.n) place.shows.components.names ∙ (slice_get-map (λ (c : Component). c.name) scope.comps q.n ∙ (ap (option_map (λ (c : Component). c.name)) q.at ∙ ap Some (sym q.is_named))) in
+          let n_is : q.n ≡ n = same_number earlier.names q.n n i.made distinct named_q at_name in
+          let d_is : q.d ≡ there.0 = same_Some q.d there.0 (sym q.at ∙ (ap (slice_get scope.comps) n_is ∙ there.1)) in
+          subst₂ (λ (k : ℕ) (d : Component). Reaches (through_before (take k scope.comps)) (whole_scope (take k scope.comps) d) input output) n_is d_is q.reaches
+
+      -- a reading through the instance is one of the component's own ports
+      pub own_reading : (output input : SigPort) → Contains sig.outs output → Contains sig.ins input → IsThroughAt scope.comps i.made output.name input.name → IsOwnReading scope.comps n output.name input.name
+      own_reading output input outs ins q =
+          let out = at_of sig.outs output (in_of sig.outs output outs) in
+          let inn = at_of sig.ins input (in_of sig.ins input ins) in
+          let own_out = out_port_at out.0 output out.1 in
+          let own_in = in_port_at inn.0 input inn.1 in
+          record {
+            d = there.0;
+            at = there.1;
+            o = out.0;
+            i = inn.0;
+            own_output = own_out.0;
+            own_input = own_in.0;
+            output_at = own_out.1;
+            input_at = own_in.1;
+            output_named = own_out.2;
+            input_named = own_in.2;
+            reaches = subst₂ (λ (a b : Text). ReachesOwn a b) (sym own_out.2) (sym own_in.2) (own_reach output.name input.name q);
+          }
+
+      module _ (wires : List Wires) (shows : ShowsWires scope.comps wires) (own : Wires) (at_own : slice_get wires n ≡ Some own) where
         depends_on : DependsOn (take n scope.comps) there.0 own
         depends_on = shows.each n there.0 own there.1 at_own
 
-        -- a port of the signature is the component's
-        out_port_at : (k : ℕ) (p : SigPort) → slice_get sig.outs k ≡ Some p → (q : DataPort) × (slice_get there.0.outs k ≡ Some q) × (q.name ≡ p.name)
-        out_port_at k p at =
-            let m = unmap_at (sig_port there.0.events) there.0.outs k p (ap (λ (s : Signature). slice_get s.outs k) sig_is ∙ at) in
-            (m.0, m.1, ap (λ (x : SigPort). x.name) m.2)
-
-        in_port_at : (k : ℕ) (p : SigPort) → slice_get sig.ins k ≡ Some p → (q : DataPort) × (slice_get there.0.ins k ≡ Some q) × (q.name ≡ p.name)
-        in_port_at k p at =
-            let m = unmap_at (sig_port there.0.events) there.0.ins k p (ap (λ (s : Signature). slice_get s.ins k) sig_is ∙ at) in
-            (m.0, m.1, ap (λ (x : SigPort). x.name) m.2)
-
-        abbrev ReachesOwn : Text → Text → Type 0
-        ReachesOwn output input = Reaches (through_before (take n scope.comps)) (whole_scope (take n scope.comps) there.0) input output
-
-        own_reach : (output input : Text) → IsThroughAt scope.comps i.made output input → ReachesOwn output input
-        own_reach output input q =
-            let named_q : slice_get earlier.names q.n ≡ Some i.made = ap (λ (ts : List Text). slice_get ts q.n) place.shows.components.names ∙ (slice_get-map (λ (c : Component). c.name) scope.comps q.n ∙ (ap (option_map (λ (c : Component). c.name)) q.at ∙ ap Some (sym q.is_named))) in
-            let n_is : q.n ≡ n = same_number earlier.names q.n n i.made distinct named_q at_name in
-            let d_is : q.d ≡ there.0 = same_Some q.d there.0 (sym q.at ∙ (ap (slice_get scope.comps) n_is ∙ there.1)) in
-            subst₂ (λ (k : ℕ) (d : Component). Reaches (through_before (take k scope.comps)) (whole_scope (take k scope.comps) d) input output) n_is d_is q.reaches
-
-        pub reads_wired : (p o : Text) → Below (ReadsWired i.name sig own.inputs.items) (length sig.outs) p o ↔ ReadsMade (through_before scope.comps) scope i p o
+        reads_wired : (p o : Text) → Below (ReadsWired i.name sig own.inputs.items) (length sig.outs) p o ↔ ReadsMade (through_before scope.comps) scope i p o
         reads_wired p o = (from, to)
           where
             from : Below (ReadsWired i.name sig own.inputs.items) (length sig.outs) p o → ReadsMade (through_before scope.comps) scope i p o
@@ -340,7 +404,7 @@ module _ (names : List Text) (earlier : Earlier) (comp : FilComp) (tables : Tabl
                 )
 
             to : ReadsMade (through_before scope.comps) scope i p o → Below (ReadsWired i.name sig own.inputs.items) (length sig.outs) p o
-            to reads = let w = of_sig p o reads in by w w.depends
+            to reads = let w = of_sig (through_before scope.comps) p o reads in by w w.depends
               where
                 by : (w : ReadsWithin (through_before scope.comps) i sig p o) → DependsWithin (through_before scope.comps) i w.output.name w.input.name → Below (ReadsWired i.name sig own.inputs.items) (length sig.outs) p o
                 by w (OfPrimitive prim is t) = absurd (no_prim prim is)
@@ -365,3 +429,12 @@ module _ (names : List Text) (earlier : Earlier) (comp : FilComp) (tables : Tabl
                         reads = record { number = inn.0; input = w.input; at = k.1; taken = inn.1; is_port = w.is_port; is_other = w.is_other };
                       },
                     )
+
+      pub reads_known : (wires : List Wires) → ShowsWires known wires → (own : Wires) → slice_get wires n ≡ Some own → (p o : Text) → Below (ReadsWired i.name sig own.inputs.items) (length sig.outs) p o ↔ ReadsMade (through_before known) scope i p o
+      reads_known wires shows own at_own p o = by part
+        where
+          by : AreAllOrNone scope.comps known → Below (ReadsWired i.name sig own.inputs.items) (length sig.outs) p o ↔ ReadsMade (through_before known) scope i p o
+          by (inl all) =
+              subst (λ (l : Design). Below (ReadsWired i.name sig own.inputs.items) (length sig.outs) p o ↔ ReadsMade (through_before l) scope i p o) (sym all)
+              (reads_wired wires (subst (λ (l : Design). ShowsWires l wires) all shows) own at_own p o)
+          by (inr none) = absurd (omega (arith, slice_get_within wires n own at_own, shows.all, ap length none))

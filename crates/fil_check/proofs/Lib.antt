@@ -9,6 +9,7 @@ pub mod GrowLemmas
 pub mod InstanceLemmas
 pub mod ItemLemmas
 pub mod LeastLemmas
+pub mod LevelLemmas
 pub mod Lookup
 pub mod MadeLemmas
 pub mod MarkedLemmas
@@ -16,6 +17,7 @@ pub mod MeaningLemmas
 pub mod NameLemmas
 pub mod NeededLemmas
 pub mod OutputLemmas
+pub mod PartLemmas
 pub mod PlaceLemmas
 pub mod ReadLemmas
 pub mod RefusedLemmas

@@ -1,6 +1,5 @@
 -- Where F11 or F12 is broken, legal transactions hold an event of an instance twice in a row.
-use Rattle.std.proofs.Common.{◌≡◌, ℕ, zero, suc, ◌+◌, ◌-◌, ◌<◌, ◌≤◌, Bool, true, false, cond, List, [], ◌∷◌, ◌++◌, length, map, filter, flat_map, get_or, slice_get, Contains, Option, Some, option_map, inl, inr, refl, sym, ap, ap₂, subst, ◌∙◌, arith}
-use Rattle.std.specs.Option.{option_and_then}
+use Rattle.std.proofs.Common.{◌≡◌, ℕ, zero, suc, ◌+◌, ◌-◌, ◌<◌, ◌≤◌, Bool, true, false, cond, List, [], ◌∷◌, ◌++◌, length, map, flat_map, get_or, slice_get, Contains, Some, inl, inr, refl, sym, ap, subst, ◌∙◌, arith}
 use Rattle.std.specs.Prelude.{max}
 use Rattle.std.specs.Str.{bytes_eq}
 use Rattle.std.proofs.lemmas.Bool.{cases_lt}
@@ -12,12 +11,11 @@ use Rattle.std.proofs.lemmas.Slice.Eq.{bytes_eq-Decides}
 use Rattle.hw_names.specs.Name.{Text, AreDistinct}
 use Rattle.fil_ast.proofs.UseLemmas.{parts_of}
 use Rattle.fil_ast.specs.Evidence.{AreKeptApart, Fits, UsesEvent, Own, Another}
-use Rattle.fil_ast.specs.Holds.{Start, Hold, Follows, AreLegalStarts, IsHeldIn, uses_listed, uses_from, uses_by, uses_of, hold_from, holds_by, holds_of}
+use Rattle.fil_ast.specs.Holds.{Start, Hold, Follows, AreLegalStarts, IsHeldIn, hold_from, holds_by, holds_of}
 use Rattle.fil_ast.specs.Naming.{event_names}
 use Rattle.fil_ast.specs.Scope.{Scope, Invocation}
 use Rattle.fil_ast.specs.Sharing.{IsUseOf, KeepsUsesApart}
-use Rattle.fil_ast.specs.Signature.{SigEvent, Signature}
-use Rattle.fil_ast.specs.Timeline.{Use, IsUse, hold_of, use_of}
+use Rattle.fil_ast.specs.Timeline.{Use}
 use Rattle.fil_ast.specs.Tree.{TimeAt, Event, Component}
 use Rattle.fil_ast.specs.Typing.{HasShape}
 use Rattle.fil_ast.proofs.HoldLemmas.{hold_there, in_flat}

@@ -57,7 +57,7 @@ no_dot_in (c ∷ a) (d ∷ b) x plain e =
     let tails : a ≡ dotted b x = cc in
     no_dot_in a b x (All-tail IsNoDot c a plain) tails
 
-cut_at_last : (a b x y : Text) → HasNoDot x → HasNoDot y → dotted a x ≡ dotted b y → (a ≡ b) × (x ≡ y)
+pub cut_at_last : (a b x y : Text) → HasNoDot x → HasNoDot y → dotted a x ≡ dotted b y → (a ≡ b) × (x ≡ y)
 cut_at_last [] [] x y p q e = (refl, cc)
 cut_at_last [] (c ∷ b) x y p q e = let tails : x ≡ dotted b y = cc in absurd (no_dot_in x b y p tails)
 cut_at_last (c ∷ a) [] x y p q e = let tails : y ≡ dotted a x = cc in absurd (no_dot_in y a x q tails)
@@ -126,6 +126,10 @@ module _ (old new : List Text) (keeps : KeepsTexts old new) where
   names_same [] all = refl
   names_same (k ∷ keys) all = ap₂ ◌∷◌ (name_kept k (All-head (IsFit old) k keys all)) (names_same keys (All-tail (IsFit old) k keys all))
 
+-- a name without a dot is that of no instance's port
+pub own_key_apart : (texts : List Text) (n : ℕ) (inst name : Text) → IsFit texts (Own n) → full_name_in texts (Own n) ≡ dotted inst name → ⊥
+own_key_apart texts n inst name fit is = no_dot_in (get_or texts n []) inst name fit.dotless is
+
 module _ (texts : List Text) (distinct : AreDistinct texts) where
   same_text_number : (i j : ℕ) → i < length texts → j < length texts → get_or texts i [] ≡ get_or texts j [] → i ≡ j
   same_text_number i j lt_i lt_j e = same_number texts i j (get_or texts i []) distinct (slice_get-get_or texts i [] lt_i) (slice_get-get_or texts j [] lt_j ∙ ap Some (sym e))
@@ -137,6 +141,12 @@ module _ (texts : List Text) (distinct : AreDistinct texts) where
   of_one_name (OfInstance c i) (OfInstance d j) fit_a fit_b e =
       let parts = cut_at_last (get_or texts c []) (get_or texts d []) (get_or texts i []) (get_or texts j []) fit_a.1.dotless fit_b.1.dotless e in
       ap₂ OfInstance (same_text_number c d fit_a.0 fit_b.0 parts.0) (same_text_number i j fit_a.1.within fit_b.1.within parts.1)
+
+  -- the port of an instance, by its full name
+  pub of_instance_key : (i n k : ℕ) (inst name : Text) → IsFit texts (OfInstance i n) → full_name_in texts (OfInstance i n) ≡ dotted inst name → HasNoDot name → slice_get texts k ≡ Some inst → (i ≡ k) × (get_or texts n [] ≡ name)
+  of_instance_key i n k inst name fit is plain at =
+      let parts = cut_at_last (get_or texts i []) inst (get_or texts n []) name fit.1.dotless plain is in
+      (same_number texts i k inst distinct (slice_get-get_or texts i [] fit.0 ∙ ap Some parts.0) at, parts.1)
 
   -- ports of different keys have different names
   pub names_distinct : (keys : List PortKey) → All (IsFit texts) keys → AreDifferent keys → AreDistinct (map (full_name_in texts) keys)

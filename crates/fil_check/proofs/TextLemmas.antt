@@ -5,7 +5,7 @@ use Rattle.hw_names.proofs.NameLemmas.{AreDistinct-push, Contains-cases, KeepsTe
 use Rattle.hw_names.specs.Name.{Text, AreDistinct, KeepsTexts}
 use Rattle.fil_check.specs.inside.Ports.{TextList}
 
-get_right : {X : Type 0} (xs ys : List X) (j : ℕ) → slice_get (xs ++ ys) (length xs + j) ≡ slice_get ys j
+pub get_right : {X : Type 0} (xs ys : List X) (j : ℕ) → slice_get (xs ++ ys) (length xs + j) ≡ slice_get ys j
 get_right [] ys j = ap (slice_get ys) (zero-add j)
 get_right (x ∷ xs) ys j =
     let e : suc (length xs) + j ≡ suc (length xs + j) = omega arith in

@@ -5,9 +5,11 @@ use Rattle.std.proofs.lemmas.Option.{same_Some, slice_get_within}
 use Rattle.hw_names.specs.Name.{Text}
 use Rattle.fil_ast.specs.Tree.{Component, Design}
 use Rattle.fil_ast.specs.Wires.{HasNoLoop, IsLeastLoop}
+use Rattle.fil_check.specs.inside.Levels.{ShowAllLevels, ShowsLevels}
 use Rattle.fil_check.specs.inside.Wired.{HaveNoLoop, IsFirstLoop}
 use Rattle.fil_check.specs.inside.Wiring.{DependsOn, ShowsWires}
 use Rattle.fil_check.specs.declared.loops.Wires.{Wires}
+use Rattle.fil_check.specs.declared.loops.levels.Levels.{Levels}
 
 pub slice_get-left : {X : Type 0} (xs ys : List X) (k : ℕ) → k < length xs → slice_get (xs ++ ys) k ≡ slice_get xs k
 slice_get-left [] ys k below = absurd (omega arith)
@@ -19,7 +21,7 @@ slice_get-seam [] x = refl
 slice_get-seam (y ∷ xs) x = slice_get-seam xs x
 
 -- an element stands before the last one, or is the last one
-last_or_before : {X : Type 0} (xs : List X) (x : X) (k : ℕ) (y : X) → slice_get (xs ++ x ∷ []) k ≡ Some y → ((k < length xs) × (slice_get xs k ≡ Some y)) ⊎ ((k ≡ length xs) × (x ≡ y))
+pub last_or_before : {X : Type 0} (xs : List X) (x : X) (k : ℕ) (y : X) → slice_get (xs ++ x ∷ []) k ≡ Some y → ((k < length xs) × (slice_get xs k ≡ Some y)) ⊎ ((k ≡ length xs) × (x ≡ y))
 last_or_before [] x zero y at = inr (refl, same_Some x y at)
 last_or_before [] x (suc k) y at = let within = slice_get_within (x ∷ []) (suc k) y at in absurd (omega arith)
 last_or_before (z ∷ xs) x zero y at = inl (omega arith, at)
@@ -65,6 +67,25 @@ module _ (comps : Design) (c : Component) where
   wires_more wires own shows depends = record {
     all = omega (arith, length-append wires (own ∷ []), length-append comps (c ∷ []), shows.all);
     each = wire_more wires own shows depends;
+  }
+
+  level_more : (levels : List Levels) (own : Levels) → ShowAllLevels comps levels → ShowsLevels comps c own → (n : ℕ) (d : Component) (l : Levels) → slice_get (comps ++ c ∷ []) n ≡ Some d → slice_get (levels ++ own ∷ []) n ≡ Some l → ShowsLevels (take n (comps ++ c ∷ [])) d l
+  level_more levels own shows shown n d l at at_levels =
+      elim (last_or_before comps c n d at) [
+        | inl before ↦ elim (last_or_before levels own n l at_levels) [
+          | inl known ↦ subst (λ (xs : Design). ShowsLevels xs d l) (before_last n before.0) (shows.each n d l before.1 known.1)
+          | inr known ↦ absurd (omega (arith, before.0, known.0, shows.all))
+        ]
+        | inr last ↦ elim (last_or_before levels own n l at_levels) [
+          | inl known ↦ absurd (omega (arith, last.0, known.0, shows.all))
+          | inr known ↦ subst (λ (xs : Design). ShowsLevels xs d l) (before_own n last.0) (subst (λ (e : Component). ShowsLevels comps e l) last.1 (subst (ShowsLevels comps c) known.1 shown))
+        ]
+      ]
+
+  pub levels_more : (levels : List Levels) (own : Levels) → ShowAllLevels comps levels → ShowsLevels comps c own → ShowAllLevels (comps ++ c ∷ []) (levels ++ own ∷ [])
+  levels_more levels own shows shown = record {
+    all = omega (arith, length-append levels (own ∷ []), length-append comps (c ∷ []), shows.all);
+    each = level_more levels own shows shown;
   }
 
   -- the new component is the first that has a loop

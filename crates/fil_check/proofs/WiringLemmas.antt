@@ -12,7 +12,7 @@ use Rattle.std.proofs.lemmas.Option.{slice_get_within, get_or_from_slice_get, sl
 use Rattle.hw_graph.proofs.MemberLemmas.{In, in_of, contains_of, from_map, in_map, from_filter, in_filter}
 use Rattle.hw_graph.proofs.SearchLemmas.{contained_at}
 use Rattle.hw_graph.specs.Graph as graph
-use Rattle.hw_graph.specs.Graph.{HasRead, AreInRange, IsCycle, IsLeastCycle, IsReadOrder, Directly, Through}
+use Rattle.hw_graph.specs.Graph.{HasRead, IsCycle, IsLeastCycle, IsReadOrder, Directly, Through}
 use Rattle.hw_graph.specs.Groups.{IsGathered, with_key, has_key}
 use Rattle.hw_graph.specs.declared.groups.Entry.{Entry}
 use Rattle.hw_names.proofs.NameLemmas.{same_number}
@@ -28,23 +28,23 @@ use Rattle.fil_check.proofs.PortGraphLemmas.{IsWithin}
 use Rattle.fil_check.proofs.ReadingLemmas.{by_statements, of_statements}
 use Rattle.fil_check.specs.inside.PortGraph.{Adds, Below, HasReading}
 use Rattle.fil_check.specs.inside.Readings.{ReadsAt}
-use Rattle.fil_check.specs.inside.Reached.{AreNumbered, AreReached, IsGraphOf, input_names, output_names}
+use Rattle.fil_check.specs.inside.Reached.{AreNumbered, AreReached, IsGraphBy, input_names, output_names}
 use Rattle.fil_check.specs.inside.Wiring.{DependsOn}
 use Rattle.fil_check.specs.declared.loops.graph.PortGraph.{PortGraph}
 use Rattle.fil_check.specs.declared.loops.Wires.{Wires}
 
 -- the number of one of the texts that are numbered
-number_of : (names : List Text) (numbers : List ℕ) (texts : List Text) → AreNumbered names numbers texts → (k : ℕ) (text : Text) → slice_get texts k ≡ Some text → (n : ℕ) × (slice_get numbers k ≡ Some n) × (slice_get names n ≡ Some text)
+pub number_of : (names : List Text) (numbers : List ℕ) (texts : List Text) → AreNumbered names numbers texts → (k : ℕ) (text : Text) → slice_get texts k ≡ Some text → (n : ℕ) × (slice_get numbers k ≡ Some n) × (slice_get names n ≡ Some text)
 number_of names numbers texts are k text at =
     unmapped (slice_get names) numbers k (Some text) (ap (λ (l : List (Option Text)). slice_get l k) are ∙ mapped_at (λ (t : Text). Some t) texts k text at)
 
-numbered_length : (names : List Text) (numbers : List ℕ) (texts : List Text) → AreNumbered names numbers texts → length numbers ≡ length texts
+pub numbered_length : (names : List Text) (numbers : List ℕ) (texts : List Text) → AreNumbered names numbers texts → length numbers ≡ length texts
 numbered_length names numbers texts are = sym (length-map numbers (slice_get names)) ∙ ap length are ∙ length-map texts (λ (t : Text). Some t)
 
 -- all statements make the graph of the component
-pub whole_graph : (comps : Design) (names : List Text) (comp : FilComp) (start g : PortGraph) → start.entries.items ≡ []
-    → Adds (Below (ReadsAt (through_before comps) (whole_scope comps (component_tree names comp)) (component_tree names comp).body) (length comp.body.items)) start g → IsGraphOf comps (component_tree names comp) g
-whole_graph comps names comp start g none adds port other = (to, from)
+pub whole_graph : (comps known : Design) (names : List Text) (comp : FilComp) (start g : PortGraph) → start.entries.items ≡ []
+    → Adds (Below (ReadsAt (through_before known) (whole_scope comps (component_tree names comp)) (component_tree names comp).body) (length comp.body.items)) start g → IsGraphBy known comps (component_tree names comp) g
+whole_graph comps known names comp start g none adds port other = (to, from)
   where
     tree : Component
     tree = component_tree names comp
@@ -55,14 +55,14 @@ whole_graph comps names comp start g none adds port other = (to, from)
     nothing : HasReading start port other → ⊥
     nothing h = let has = subst (λ (l : List Entry). Contains l h.entry) none h.there in absurd (omega (arith, has.1))
 
-    to : HasReading g port other → ReadsPort (through_before comps) (whole_scope comps tree) port other
+    to : HasReading g port other → ReadsPort (through_before known) (whole_scope comps tree) port other
     to h = elim ((adds.has port other).0 h) [
       | inl old ↦ absurd (nothing old)
-      | inr (k, lt, said) ↦ of_statements (through_before comps) comps tree port other (k, omega (arith, lt, count), said)
+      | inr (k, lt, said) ↦ of_statements (through_before known) comps tree port other (k, omega (arith, lt, count), said)
     ]
 
-    from : ReadsPort (through_before comps) (whole_scope comps tree) port other → HasReading g port other
-    from reads = let s = by_statements (through_before comps) comps tree port other reads in (adds.has port other).1 (inr (s.0, omega (arith, s.1, count), s.2))
+    from : ReadsPort (through_before known) (whole_scope comps tree) port other → HasReading g port other
+    from reads = let s = by_statements (through_before known) comps tree port other reads in (adds.has port other).1 (inr (s.0, omega (arith, s.1, count), s.2))
 
 module _ (earlier : Design) (c : Component) (g : PortGraph) (is : (port other : Text) → HasReading g port other ↔ ReadsPort (through_before earlier) (whole_scope earlier c) port other) (distinct : AreDistinct g.ports.names) (reads : List (List ℕ))
     (gathered : IsGathered g.entries.items (length g.ports.names) reads) where

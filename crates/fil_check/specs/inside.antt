@@ -6,6 +6,7 @@ pub mod Given
 pub mod Invocation
 pub mod Keys
 pub mod Least
+pub mod Levels
 pub mod Names
 pub mod Outputs
 pub mod Place

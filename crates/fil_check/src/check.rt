@@ -1,5 +1,5 @@
 //! The rules of a design.
-ghost use Rattle.std.specs.Prelude.{◌≡◌, [], ◌∷◌, ◌++◌, IfErr, IfOk, OnOk};
+ghost use Rattle.std.specs.Prelude.{◌≡◌, [], ◌∷◌, ◌++◌, IfErr, IfOk, IsTrue, OnOk};
 ghost use Rattle.fil_ast.specs.Limits.{KeepsLimits, HasSmallOffsets};
 ghost use Rattle.fil_ast.specs.Numbers.{ComponentHasNumbers, HasNumbers};
 ghost use Rattle.fil_ast.specs.Rules.{FilRules, KeepsComponent, all_rules};
@@ -10,6 +10,7 @@ ghost use Rattle.fil_check.specs.inside.Tables.{ShowsEarlier};
 
 use crate::callee::Callee;
 use crate::component::judge_component;
+use crate::loops::levels::add_levels;
 use crate::loops::{Wired, add_wires};
 use crate::place::Place;
 use crate::rules::{CompEnd, Evidence, FilEnd};
@@ -24,6 +25,53 @@ use std::alloc::Global;
 /// order, in each the items in order (0 is the signature, then the statements from 1 on, then the end of the body), at
 /// each item the least rule. F14 comes after all others, at item 0 of the first component that has a loop.
 pub fn check_fil<'a>(alloc: Global, design: &'a FilDesign) -> Result<FilOk<'a>, FilEnd>
+    requires numbers { HasNumbers design.now }
+    requires small { HasSmallOffsets design.now }
+    ensures kept { OnOk result (FilRules (design_of design.now)) }
+    ensures design { IfOk result (λ ok. ok ≡ design.now) }
+    ensures refused { IfErr result (TellsFirst design.now) }
+{
+    if judge_by_levels(alloc, design)? {
+        return Ok(FilOk::new(design));
+    }
+    judge_by_reach(alloc, design)
+}
+
+/// Whether all components have levels: then all rules are kept. Where the answer is no, a component has none, and those before
+/// it keep F1 to F13.
+fn judge_by_levels(alloc: Global, design: &FilDesign) -> Result<bool, FilEnd>
+    requires numbers { HasNumbers design.now }
+    requires small { HasSmallOffsets design.now }
+    ensures kept { IfOk result (λ have. IsTrue have → FilRules (design_of design.now)) }
+    ensures refused { IfErr result (TellsFirst design.now) }
+{
+    let mut earlier = Earlier {
+        names: design.names.beside(),
+        callees: Vec::new(alloc),
+    };
+    let mut levels = Vec::new(alloc);
+    for comp in &design.comps {
+        let tables = match judge_component(alloc, &design.names, &earlier, comp) {
+            Ok(tables) => tables,
+            Err(end) => return Err(in_component(comp.name, end)),
+        };
+        let place = Place {
+            names: &design.names,
+            earlier: &earlier,
+            comp,
+            tables: &tables,
+        };
+        levels = match add_levels(alloc, &place, levels)? {
+            Some(more) => more,
+            None => return Ok(false),
+        };
+        add_component(alloc, &design.names, &mut earlier, comp)?;
+    }
+    Ok(true)
+}
+
+/// Judges a design by F1 to F14, by all that each component's outputs reach.
+fn judge_by_reach<'a>(alloc: Global, design: &'a FilDesign) -> Result<FilOk<'a>, FilEnd>
     requires numbers { HasNumbers design.now }
     requires small { HasSmallOffsets design.now }
     ensures kept { OnOk result (FilRules (design_of design.now)) }

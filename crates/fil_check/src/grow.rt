@@ -7,7 +7,6 @@ ghost use Rattle.fil_ast.specs.Numbers.{StatementHasNumbers};
 ghost use Rattle.fil_ast.specs.Scope.{Scope};
 ghost use Rattle.fil_ast.specs.Tree.{Statement, TimeAt, statement_tree};
 ghost use Rattle.fil_ast.specs.Typing.{KeepsWidths};
-ghost use Rattle.fil_ast.specs.declared.tree.FilComp.{FilComp};
 ghost use Rattle.fil_sig.specs.Seen.{seen};
 ghost use Rattle.fil_check.specs.inside.Callees.{HasGoodTimes};
 ghost use Rattle.fil_check.specs.inside.Starts.{AddsUses, ListsAllUses};

@@ -24,6 +24,10 @@
 //! F3 to F5, `timeline` F6 to F8 and F10, `connections` F9, `sharing` F11 to F13, `loops` F14. A `Place` has what travels with
 //! an item; `tables` has what names mean there, `meaning` looks it up, and `grow` takes it from statement to statement. In the
 //! graph of F14 a port is known by the numbers of its names (`loops::ports`); full names are made only where there is a loop.
+//!
+//! F14 is judged by levels first (`loops::levels`): a number for each port of a component, above those of all that it reads, which
+//! is all that is kept of it for its holders. Only where a component has none, since ports go in a loop or since a holder needs
+//! two ports in another order, is the design judged once more by what each output reaches, which tells the least loop.
 #![tactic(auto)]
 
 mod callee;

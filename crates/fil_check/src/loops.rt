@@ -7,15 +7,17 @@ ghost use Rattle.fil_ast.specs.Numbers.{ComponentHasNumbers, PortHasNumbers};
 ghost use Rattle.fil_ast.specs.Rules.{KeepsComponent, KeepsRules, all_rules};
 ghost use Rattle.fil_ast.specs.Tree.{Component, Design, component_tree};
 ghost use Rattle.fil_ast.specs.Wires.{whole_scope, HasNoLoop};
+ghost use Rattle.fil_check.specs.inside.Levels.{AreAllOrNone};
 ghost use Rattle.fil_check.specs.inside.Place.{IsPlaceIn};
-ghost use Rattle.fil_check.specs.inside.PortGraph.{Adds, NoPair};
-ghost use Rattle.fil_check.specs.inside.Reached.{AreNumbered, HasOrder, IsGraphOf, input_names, output_names, port_names};
+ghost use Rattle.fil_check.specs.inside.PortGraph.{Adds, HasInstances, NoPair};
+ghost use Rattle.fil_check.specs.inside.Reached.{AreNumbered, HasOrder, IsGraphBy, IsGraphOf, input_names, output_names, port_names};
 ghost use Rattle.fil_check.specs.inside.Wired.{IsWired};
 ghost use Rattle.fil_check.specs.inside.Wiring.{DependsOn, ShowsWires, TellsLoop, TellsLeastLoop};
 
 pub mod depends;
 pub mod edges;
 pub mod graph;
+pub mod levels;
 pub mod ports;
 mod texts;
 
@@ -122,21 +124,24 @@ struct ComponentGraph<'a> {
     outputs: Vec<usize>,
 }
 
-/// Which ports of the component read which.
+/// Which ports of the component read which; without wires, but for those of instances of components.
 fn component_graph<'a>(
     alloc: Global,
     place: &Place<'a>,
     wires: &[Wires],
 ) -> Result<ComponentGraph<'a>, Memory>
     requires numbers { ComponentHasNumbers place.now.names.now place.now.comp.now }
-    ensures reads { (comps : Design) → IsPlaceIn place.now (whole_scope comps (component_tree place.now.names.now place.now.comp.now))
-        → ShowsWires comps wires.now → KeepsRules all_rules comps
-        → IfOk result (λ made. IsGraphOf comps (component_tree place.now.names.now place.now.comp.now) made.graph) }
-    ensures inputs { (comps : Design) → IsPlaceIn place.now (whole_scope comps (component_tree place.now.names.now place.now.comp.now))
-        → ShowsWires comps wires.now → KeepsRules all_rules comps → AreDistinct (input_names (component_tree place.now.names.now place.now.comp.now))
+    ensures reads { (comps known : Design) → IsPlaceIn place.now (whole_scope comps (component_tree place.now.names.now place.now.comp.now))
+        → AreAllOrNone comps known → ShowsWires known wires.now → KeepsRules all_rules comps
+        → IfOk result (λ made. IsGraphBy known comps (component_tree place.now.names.now place.now.comp.now) made.graph) }
+    ensures instances { (comps known : Design) → IsPlaceIn place.now (whole_scope comps (component_tree place.now.names.now place.now.comp.now))
+        → AreAllOrNone comps known → ShowsWires known wires.now → KeepsRules all_rules comps
+        → IfOk result (λ made. HasInstances (whole_scope comps (component_tree place.now.names.now place.now.comp.now)) made.graph) }
+    ensures inputs { (comps known : Design) → IsPlaceIn place.now (whole_scope comps (component_tree place.now.names.now place.now.comp.now))
+        → AreAllOrNone comps known → ShowsWires known wires.now → KeepsRules all_rules comps → AreDistinct (input_names (component_tree place.now.names.now place.now.comp.now))
         → IfOk result (λ made. KeepsTexts (input_names (component_tree place.now.names.now place.now.comp.now)) made.graph.ports.names) }
-    ensures outputs { (comps : Design) → IsPlaceIn place.now (whole_scope comps (component_tree place.now.names.now place.now.comp.now))
-        → ShowsWires comps wires.now → KeepsRules all_rules comps
+    ensures outputs { (comps known : Design) → IsPlaceIn place.now (whole_scope comps (component_tree place.now.names.now place.now.comp.now))
+        → AreAllOrNone comps known → ShowsWires known wires.now → KeepsRules all_rules comps
         → IfOk result (λ made. AreNumbered made.graph.ports.names made.outputs.items (output_names (component_tree place.now.names.now place.now.comp.now))) }
     ensures within { IfOk result (λ made. All (λ output. output < length made.graph.ports.names) made.outputs.items) }
 {

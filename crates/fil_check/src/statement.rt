@@ -6,7 +6,6 @@ ghost use Rattle.fil_ast.specs.Refusal.{ShowsAtStatement};
 ghost use Rattle.fil_ast.specs.Rules.{AtStatement, all_rules};
 ghost use Rattle.fil_ast.specs.Scope.{Scope};
 ghost use Rattle.fil_ast.specs.Tree.{Design, Statement, statement_tree};
-ghost use Rattle.fil_ast.specs.declared.tree.FilComp.{FilComp};
 ghost use Rattle.fil_check.specs.inside.Least.{TellsLeast};
 ghost use Rattle.fil_check.specs.inside.Place.{IsPlaceIn, StandsAt, StandsIn, with_instance};
 ghost use Rattle.fil_check.specs.inside.Stages.{HoldsUses, KeepsFrom, KeptAt, ShownAt, TellsFrom};

@@ -1,11 +1,10 @@
 //! The weight of a component: what its rows cost, with those of the components of its instances.
 ghost use Rattle.std.specs.Prelude.{◌≡◌, ◌+◌, ◌<◌, ◌≤◌, List, [], ◌∷◌, ◌++◌, length, map, max, reverse, slice_get, slice_index_or, slice_set, sum, take, Some, IfOk};
-ghost use Rattle.std.specs.List.{sum_by};
 ghost use Rattle.hw_names.specs.Name.{AreDistinct, Text, text_of};
 ghost use Rattle.fil_ast.specs.Limits.{KeepsLimits};
 ghost use Rattle.fil_ast.specs.Numbers.{ComponentHasNumbers, IsNumberOf, StatementHasNumbers};
 ghost use Rattle.fil_ast.specs.Rules.{KeepsComponent, all_rules};
-ghost use Rattle.fil_ast.specs.Scope.{Instance, Invocation, Scope, instances_at};
+ghost use Rattle.fil_ast.specs.Scope.{Invocation, Scope, instances_at};
 ghost use Rattle.fil_ast.specs.Timeline as tree;
 ghost use Rattle.fil_ast.specs.Timeline.{interval_at};
 ghost use Rattle.fil_ast.specs.Tree.{Component, Design, TimeAt, component_tree, design_of, statement_tree};

@@ -19,9 +19,13 @@ output_names c = map (λ (p : DataPort). p.name) c.outs
 abbrev pub port_names : List Text → List FilPort → List Text
 port_names names ports = map (λ (p : FilPort). text_of names p.name) ports
 
+-- the graph has the readings of the component, of those through instances of components only what these known ones have, and no others
+abbrev pub IsGraphBy : Design → Design → Component → PortGraph → Type 0
+IsGraphBy known comps c g = (port other : Text) → HasReading g port other ↔ ReadsPort (through_before known) (whole_scope comps c) port other
+
 -- the graph has the readings of the component and no others
 abbrev pub IsGraphOf : Design → Component → PortGraph → Type 0
-IsGraphOf comps c g = (port other : Text) → HasReading g port other ↔ ReadsPort (through_before comps) (whole_scope comps c) port other
+IsGraphOf comps = IsGraphBy comps comps
 
 -- the ports have an order in which each comes after all that it reads
 abbrev pub HasOrder : List (List ℕ) → Type 0

@@ -1,7 +1,7 @@
 //! On which inputs the outputs of a component depend within a row.
 ghost use Rattle.std.specs.Prelude.{◌≡◌, ◌↔◌, ℕ, ◌<◌, All, Contains, length, IfOk};
 ghost use Rattle.fil_check.specs.inside.Reached.{AreReached};
-ghost use Rattle.hw_graph.specs.Graph.{AreInRange, Reaches};
+ghost use Rattle.hw_graph.specs.Graph.{AreInRange};
 
 use hw_bits::Memory;
 use hw_graph::{Groups, Reach};

@@ -13,6 +13,7 @@ ghost use Rattle.fil_sig.specs.Seen.{seen, seen_port};
 ghost use Rattle.hw_prims.specs.Meaning.{is_through};
 ghost use Rattle.hw_prims.specs.Table.{inputs_of, name_at, outputs_of};
 ghost use Rattle.hw_prims.specs.declared.prim.Primitive.{Primitive};
+ghost use Rattle.fil_check.specs.inside.Levels.{AreAllOrNone};
 ghost use Rattle.fil_check.specs.inside.Place.{IsPlaceIn};
 ghost use Rattle.fil_check.specs.inside.PortGraph.{Adds, Below, HasInstances, NoPair};
 ghost use Rattle.fil_check.specs.inside.Readings.{ArePorts, port_of_value, ReadsAll, ReadsArgument, ReadsAt, ReadsBy, ReadsEach, ReadsGiven, ReadsMade, ReadsNumbered, ReadsValue, ReadsWired};
@@ -28,7 +29,7 @@ use hw_bits::Memory;
 use hw_prims::Prim;
 use std::alloc::Global;
 
-/// Adds what each statement of the body says.
+/// Adds what each statement of the body says. Without wires, instances of components say nothing.
 pub fn add_body(
     alloc: Global,
     graph: &mut PortGraph,
@@ -36,10 +37,10 @@ pub fn add_body(
     wires: &[Wires],
 ) -> Result<(), Memory>
     requires numbers { ComponentHasNumbers place.now.names.now place.now.comp.now }
-    ensures { (comps : Design) → IsPlaceIn place.now (whole_scope comps (component_tree place.now.names.now place.now.comp.now))
+    ensures { (comps known : Design) → IsPlaceIn place.now (whole_scope comps (component_tree place.now.names.now place.now.comp.now))
         → HasInstances (whole_scope comps (component_tree place.now.names.now place.now.comp.now)) graph.old
-        → ShowsWires comps wires.now → KeepsRules all_rules comps
-        → OnOk result (Adds (Below (ReadsAt (through_before comps) (whole_scope comps (component_tree place.now.names.now place.now.comp.now)) (component_tree place.now.names.now place.now.comp.now).body) (length place.now.comp.now.body.items)) graph.old graph.new) }
+        → AreAllOrNone comps known → ShowsWires known wires.now → KeepsRules all_rules comps
+        → OnOk result (Adds (Below (ReadsAt (through_before known) (whole_scope comps (component_tree place.now.names.now place.now.comp.now)) (component_tree place.now.names.now place.now.comp.now).body) (length place.now.comp.now.body.items)) graph.old graph.new) }
 {
     for stmt in &place.comp.body {
         add_statement(alloc, graph, place, wires, stmt)?;
@@ -56,10 +57,10 @@ fn add_statement(
     stmt: &Stmt,
 ) -> Result<(), Memory>
     requires numbers { StatementHasNumbers place.now.names.now stmt.now }
-    ensures { (scope : Scope) → IsPlaceIn place.now scope → HasInstances scope graph.old
-        → ShowsWires scope.comps wires.now → KeepsRules all_rules scope.comps
+    ensures { (scope : Scope) (known : Design) → IsPlaceIn place.now scope → HasInstances scope graph.old
+        → AreAllOrNone scope.comps known → ShowsWires known wires.now → KeepsRules all_rules scope.comps
         → All (Contains scope.instances) (instances_at (statement_tree place.now.names.now stmt.now))
-        → OnOk result (Adds (ReadsBy (through_before scope.comps) scope (statement_tree place.now.names.now stmt.now)) graph.old graph.new) }
+        → OnOk result (Adds (ReadsBy (through_before known) scope (statement_tree place.now.names.now stmt.now)) graph.old graph.new) }
 {
     match stmt {
         Stmt::New { name, comp, params } => {
@@ -212,10 +213,10 @@ fn add_instance(
     wires: &[Wires],
     made: NewInstance,
 ) -> Result<(), Memory>
-    ensures { (scope : Scope) → IsPlaceIn place.now scope → HasInstances scope graph.old
-        → ShowsWires scope.comps wires.now → KeepsRules all_rules scope.comps
+    ensures { (scope : Scope) (known : Design) → IsPlaceIn place.now scope → HasInstances scope graph.old
+        → AreAllOrNone scope.comps known → ShowsWires known wires.now → KeepsRules all_rules scope.comps
         → Contains scope.instances (record { name = made.entry.name.now; made = made.entry.made.now; params = made.entry.params.now })
-        → OnOk result (Adds (ReadsMade (through_before scope.comps) scope (record { name = made.entry.name.now; made = made.entry.made.now; params = made.entry.params.now })) graph.old graph.new) }
+        → OnOk result (Adds (ReadsMade (through_before known) scope (record { name = made.entry.name.now; made = made.entry.made.now; params = made.entry.params.now })) graph.old graph.new) }
 {
     let Some(instance) = graph.ports.instance(made.name) else {
         return Ok(());

@@ -2,7 +2,7 @@
 //!
 //! A port is known by the number of its instance and that of its own name, so the length of an instance's name is not paid for
 //! at each port. Full names are made only where there is a loop to be told.
-ghost use Rattle.std.specs.Prelude.{◌≡◌, ◌⊎◌, ◌<◌, ◌^◌, ◌+◌, [], ◌∷◌, ◌++◌, Some, Contains, List, drop, length, slice_get, slice_index_or, IfNone, IfOk, IfSome, OnOk};
+ghost use Rattle.std.specs.Prelude.{◌≡◌, ◌⊎◌, ◌<◌, ◌^◌, ◌+◌, [], ◌∷◌, ◌++◌, ℕ, Some, Contains, drop, length, slice_get, IfNone, IfOk, IfSome, IsSome, OnOk};
 ghost use Rattle.hw_names.specs.Name.{AreDistinct, HasNoDot, KeepsTexts, Text, dot, dotted};
 ghost use Rattle.fil_check.specs.inside.Ports.{AreDifferent, IsFit, PortList, full_name_in};
 
@@ -194,6 +194,21 @@ impl<'a> Ports<'a> {
                 self.texts.text(instance),
                 self.texts.text(port),
             ),
+        }
+    }
+
+    /// The number of the instance of the port at this place, and the port's own name there; none of a port of no instance.
+    pub fn of_instance(&self, place: usize) -> Option<(usize, &[u8])>
+        requires { place < length self.now.names }
+        ensures { (instance : ℕ) (inst name : Text) → slice_get self.now.names place ≡ Some (dotted inst name) → HasNoDot name
+            → slice_get self.now.instances instance ≡ Some inst
+            → IsSome result × IfSome result (λ found. (found.0 ≡ instance) × (found.1.now ≡ name)) }
+    {
+        self.texts.begin_with_instances();
+        self.texts.are_distinct();
+        match self.set.as_slice()[place] {
+            PortKey::Own(_) => None,
+            PortKey::OfInstance { instance, port } => Some((instance, self.texts.text(port))),
         }
     }
 

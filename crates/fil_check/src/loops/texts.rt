@@ -1,5 +1,5 @@
 //! Texts by numbers: the names of a component's instances, and after them others.
-ghost use Rattle.std.specs.Prelude.{◌≡◌, ◌<◌, ◌++◌, [], ℕ, Some, Contains, length, slice_get, IfNone, IfOk, IfSome};
+ghost use Rattle.std.specs.Prelude.{◌≡◌, ◌<◌, ◌++◌, [], Some, Contains, length, slice_get, IfNone, IfOk, IfSome};
 ghost use Rattle.hw_names.specs.Name.{AreDistinct, KeepsTexts};
 ghost use Rattle.fil_check.specs.inside.Ports.{TextList};
 

@@ -1,4 +1,4 @@
-use Rattle.std.proofs.Common.{◌≡◌, ℕ, List, length, ap, subst, subst₂, ◌∙◌, arith}
+use Rattle.std.proofs.Common.{◌≡◌, ℕ, List, length, inl, refl, ap, subst, subst₂, ◌∙◌, arith}
 use Rattle.std.proofs.lemmas.List.{length-map}
 use Rattle.hw_graph.proofs.ComponentLemmas.{gathered_in_range}
 use Rattle.hw_graph.specs.Groups.{IsGathered}
@@ -32,7 +32,7 @@ inputs_reached-requires-clause-outputs c =
 pub returns-in-None-clause-kept : goal.returns-in-None-clause-kept
 returns-in-None-clause-kept c comps place shows keeps own_keeps =
     let tree = component_tree c.args.place.now.names.now c.args.place.now.comp.now in
-    subst (TellsLeastLoop comps tree) c.in-None.is (c.in_ok-least_loop.ensures comps tree (c.in_ok-made.ensures.reads comps place shows keeps))
+    subst (TellsLeastLoop comps tree) c.in-None.is (c.in_ok-least_loop.ensures comps tree (c.in_ok-made.ensures.reads comps comps place (inl refl) shows keeps))
 
 pub returns-in-None-clause-depends : goal.returns-in-None-clause-depends
 returns-in-None-clause-depends c comps place shows keeps own_keeps =
@@ -48,10 +48,10 @@ returns-in-None-clause-depends c comps place shows keeps own_keeps =
     let listed = c.deref.ensures.value in
     let count : c.len-in-None.result ≡ length tree.ins = omega (arith, c.len-in-None.ensures, comp.ins.ok.0, length-map comp.ins.items (port_tree names)) in
     let reached = subst₂ (λ (os : List ℕ) (n : ℕ). AreReached reads os n inputs) listed count c.in_ok-inputs-in-None.ensures.each in
-    depends_on comps tree g (made.ensures.reads comps place shows keeps) c.len.ensures.distinct reads gathered (made.ensures.inputs comps place shows keeps (inputs_distinct comps tree own_keeps)) outputs
-    (made.ensures.outputs comps place shows keeps) (record { inputs = inputs }) (c.in_ok-inputs-in-None.ensures.all ∙ ap length listed) reached
+    depends_on comps tree g (made.ensures.reads comps comps place (inl refl) shows keeps) c.len.ensures.distinct reads gathered (made.ensures.inputs comps comps place (inl refl) shows keeps (inputs_distinct comps tree own_keeps)) outputs
+    (made.ensures.outputs comps comps place (inl refl) shows keeps) (record { inputs = inputs }) (c.in_ok-inputs-in-None.ensures.all ∙ ap length listed) reached
 
 pub returns-clause-cycle : goal.returns-clause-cycle
 returns-clause-cycle c comps place shows keeps own_keeps =
     let tree = component_tree c.args.place.now.names.now c.args.place.now.comp.now in
-    subst (TellsLeastLoop comps tree) c.in-Some.is (c.in_ok-least_loop.ensures comps tree (c.in_ok-made.ensures.reads comps place shows keeps))
+    subst (TellsLeastLoop comps tree) c.in-Some.is (c.in_ok-least_loop.ensures comps tree (c.in_ok-made.ensures.reads comps comps place (inl refl) shows keeps))

@@ -3,7 +3,7 @@ use Rattle.fil_ast.specs.Tree.{design_of}
 use Rattle.fil_check.specs.inside.Tables.{ShowsEarlier}
 use Rattle.fil_check.specs.inside.Wired.{IsWired}
 use Rattle.fil_check.proofs.DesignLemmas.{KeepBefore}
-use Rattle.fil_check.proofs.check.check_fil.Given as goal
+use Rattle.fil_check.proofs.check.judge_by_reach.Given as goal
 
 -- the components so far keep F1 to F13, stand in the tables, and what is known of F14 is known of them
 abbrev pub invariant-loop-comp : goal.invariant-loop-comp

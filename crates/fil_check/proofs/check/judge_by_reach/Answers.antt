@@ -12,7 +12,7 @@ use Rattle.fil_check.specs.inside.Wired.{HaveNoLoop, IsFirstLoop, IsWired}
 use Rattle.fil_check.specs.declared.loops.Wired.{Wired}
 use Rattle.fil_check.proofs.DesignLemmas.{all_keep, at_mapped, component_ends, keep_more, kept_so_far, looped}
 use Rattle.fil_share.proofs.ListLemmas.{take_next}
-use Rattle.fil_check.proofs.check.check_fil.Goals as goal
+use Rattle.fil_check.proofs.check.judge_by_reach.Goals as goal
 
 pub returns-in-Err-clause-refused : goal.returns-in-Err-clause-refused
 returns-in-Err-clause-refused c =

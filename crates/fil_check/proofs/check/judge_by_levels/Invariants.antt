@@ -1,0 +1,16 @@
+use Rattle.std.proofs.Common.{take}
+use Rattle.fil_ast.specs.Tree.{design_of}
+use Rattle.fil_check.specs.inside.Levels.{ShowAllLevels}
+use Rattle.fil_check.specs.inside.Tables.{ShowsEarlier}
+use Rattle.fil_check.specs.inside.Wired.{HaveNoLoop}
+use Rattle.fil_check.proofs.DesignLemmas.{KeepBefore}
+use Rattle.fil_check.proofs.check.judge_by_levels.Given as goal
+
+-- the components so far keep F1 to F13, stand in the tables, have these levels, and none has a loop
+abbrev pub invariant-loop-comp : goal.invariant-loop-comp
+invariant-loop-comp l = record {
+  shown : ShowsEarlier l.earlier (take l.comp-index (design_of l.design));
+  kept : KeepBefore (design_of l.design) l.comp-index;
+  levels : ShowAllLevels (take l.comp-index (design_of l.design)) l.levels.items;
+  none : HaveNoLoop (take l.comp-index (design_of l.design));
+}

@@ -1,0 +1,62 @@
+-- Levels of a component's ports, as code has them: what is read within a row has a lower one. This project's.
+use Rattle.std.specs.Prelude.{◌≡◌, ◌⊎◌, ◌↔◌, ℕ, ◌+◌, ◌<◌, List, [], ◌++◌, length, take, slice_get, slice_index, Option, Some, All, Contains, IsTrue}
+use Rattle.hw_levels.specs.Levels.{IsBelow}
+use Rattle.hw_levels.specs.declared.cells.CellPort.{CellPort}
+use Rattle.hw_names.specs.Name.{Text, AreDistinct, HasNoDot, dotted}
+use Rattle.fil_ast.specs.Scope.{Instance}
+use Rattle.fil_ast.specs.Tree.{Component, DataPort, Design}
+use Rattle.fil_ast.specs.Wires.{Reaches, through_before, whole_scope}
+use Rattle.fil_check.specs.inside.Ports.{PortList}
+use Rattle.fil_check.specs.inside.Reached.{input_names, output_names}
+use Rattle.fil_check.specs.declared.loops.levels.Levels.{Levels}
+
+-- all of the components, or none of them
+abbrev pub AreAllOrNone : Design → Design → Type 0
+AreAllOrNone comps known = (known ≡ comps) ⊎ (known ≡ [])
+
+-- the levels are those of the component's ports, inputs first, and each input that an output reaches has a lower one; names differ, and none has a dot
+pub record ShowsLevels (earlier : Design) (c : Component) (own : Levels) : Type 0 where
+  pub names : own.names ≡ input_names c ++ output_names c
+  pub inputs : own.inputs ≡ length c.ins
+  pub distinct : AreDistinct own.names
+  pub dotless : All HasNoDot own.names
+  pub all : length own.levels.items ≡ length own.names
+  pub lower : (i o : ℕ) (input output : DataPort) → slice_get c.ins i ≡ Some input → slice_get c.outs o ≡ Some output →
+      Reaches (through_before earlier) (whole_scope earlier c) input.name output.name → IsBelow own.levels.items i (own.inputs + o)
+
+-- this of each of the components
+pub record ShowAllLevels (comps : Design) (levels : List Levels) : Type 0 where
+  pub all : length levels ≡ length comps
+  pub each : (n : ℕ) (c : Component) (own : Levels) → slice_get comps n ≡ Some c → slice_get levels n ≡ Some own → ShowsLevels (take n comps) c own
+
+-- of each instance that is made of one of the components, the number of that component stands at the instance's number
+abbrev pub AreParts : Design → List Instance → List (Option ℕ) → Type 0
+AreParts comps instances parts =
+    (k n : ℕ) (i : Instance) (made : Component) → slice_get instances k ≡ Some i → slice_get comps n ≡ Some made → made.name ≡ i.made →
+    slice_get parts k ≡ Some (Some n)
+
+-- the port of this number is that of the instance with that number: port `pin` of the component that it is made of, which has these levels
+pub record IsPortOfPart (ports : PortList) (parts : List (Option ℕ)) (levels : List Levels) (node instance pin : ℕ) (own : Levels) : Type 0 where
+  pub inst : Text
+  pub name : Text
+  pub here : slice_get ports.names node ≡ Some (dotted inst name)
+  pub dotless : HasNoDot name
+  pub instance_at : slice_get ports.instances instance ≡ Some inst
+  pub part : ℕ
+  pub made : slice_get parts instance ≡ Some (Some part)
+  pub known : slice_get levels part ≡ Some own
+  pub pin_at : slice_get own.names pin ≡ Some name
+  pub has_level : pin < length own.levels.items
+
+-- what is said of such a port: its instance, its level and its side there, and its number
+pub record TellsPort (node instance pin : ℕ) (own : Levels) (port : CellPort) : Type 0 where
+  pub cell : port.cell ≡ instance
+  pub level : port.level ≡ slice_index own.levels.items pin
+  pub number : port.node ≡ node
+  pub side : IsTrue port.is_input ↔ (pin < own.inputs)
+
+-- all such ports are among these
+abbrev pub HasAllPorts : PortList → List (Option ℕ) → List Levels → List CellPort → Type 0
+HasAllPorts ports parts levels cells =
+    (node instance pin : ℕ) (own : Levels) → IsPortOfPart ports parts levels node instance pin own →
+    (port : CellPort) × Contains cells port × TellsPort node instance pin own port
