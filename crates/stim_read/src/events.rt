@@ -6,11 +6,11 @@ ghost use Rattle.hw_names.specs.Name.{AreDistinct};
 ghost use Rattle.stim_read.specs.TxEvents.{rows_of, ports_after, port_targets, greatest_end, interface_end, event_of, events_of, event_names, event_seen, events_seen};
 ghost use Rattle.stim_read.specs.TxRules.{event_number, event_by};
 
-use crate::places::place;
+use crate::places::{keyed_by, place};
 use crate::tx_text::EventName;
 use fil_sig::{Delay, SigEvent, SigPort, TimeSig, add_name};
 use hw_bits::Memory;
-use hw_names::{Keyed, Names, Word};
+use hw_names::{Names, Word};
 use std::alloc::Global;
 
 /// What a stimulus has to know of an event: how many rows its starts are apart at least, the greatest end among
@@ -63,30 +63,12 @@ fn interface_end(go: &Option<Word>) -> u64
     }
 }
 
-/// Hashing that the names of all ports tell.
-fn keyed_by_ports(ports: &[SigPort]) -> Keyed {
-    let mut keyed = Keyed::new();
-    for port in ports {
-        keyed.add(port.name.bytes());
-    }
-    keyed
-}
-
-/// Hashing that the names of all events tell.
-fn keyed_by_events(events: &[SigEvent]) -> Keyed {
-    let mut keyed = Keyed::new();
-    for event in events {
-        keyed.add(event.name.bytes());
-    }
-    keyed
-}
-
 /// The names of the data inputs whose intervals go by the event with this number.
 fn names_after(alloc: Global, ins: &[SigPort], event: usize) -> Result<Names, Memory>
     requires { AreDistinct (port_targets (map seen_port ins.now)).names }
     ensures { IfOk result (λ names. names ≡ (port_targets (ports_after event (map seen_port ins.now))).names) }
 {
-    let mut names = Names::hashed_by(alloc, keyed_by_ports(ins));
+    let mut names = Names::hashed_by(alloc, keyed_by(ins, |port| &port.name));
     for port in ins {
         if usize::from(port.from.event) == event {
             let new = add_name(&mut names, port.name.bytes())?;
@@ -137,7 +119,7 @@ fn names_of(alloc: Global, events: &[SigEvent]) -> Result<Names, Memory>
     requires { AreDistinct (map (λ (e : SigEvent). e.name) events.now) }
     ensures { IfOk result (λ names. names ≡ map (λ (e : SigEvent). e.name) events.now) }
 {
-    let mut names = Names::hashed_by(alloc, keyed_by_events(events));
+    let mut names = Names::hashed_by(alloc, keyed_by(events, |event| &event.name));
     for event in events {
         let new = add_name(&mut names, event.name.bytes())?;
         prove!(new);

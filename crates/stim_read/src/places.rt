@@ -6,24 +6,17 @@ ghost use Rattle.stim_read.specs.CycleRules.{input_targets, memory_targets, plac
 
 use fil_sig::add_name;
 use hw_bits::Memory;
-use hw_names::{Keyed, Names};
+use hw_names::{Keyed, Names, Word};
 use net_core::{InputShape, MemShape};
 use std::alloc::Global;
 
-/// Hashing that the names of all inputs tell.
-fn keyed_by_inputs(ins: &[InputShape]) -> Keyed {
+/// Hashing that the names of all these tell.
+pub(crate) fn keyed_by<T, NameOf: Fn(&T) -> &Word>(named: &[T], name_of: NameOf) -> Keyed
+    requires { NameOf.IsAlwaysCallable name_of }
+{
     let mut keyed = Keyed::new();
-    for port in ins {
-        keyed.add(port.name.bytes());
-    }
-    keyed
-}
-
-/// Hashing that the names of all memories tell.
-fn keyed_by_memories(mems: &[MemShape]) -> Keyed {
-    let mut keyed = Keyed::new();
-    for shape in mems {
-        keyed.add(shape.name.bytes());
+    for one in named {
+        keyed.add(name_of(one).bytes());
     }
     keyed
 }
@@ -33,7 +26,7 @@ pub(crate) fn input_names(alloc: Global, ins: &[InputShape]) -> Result<Names, Me
     requires { AreDistinct (input_targets ins.now).names }
     ensures { IfOk result (λ names. names ≡ (input_targets ins.now).names) }
 {
-    let mut names = Names::hashed_by(alloc, keyed_by_inputs(ins));
+    let mut names = Names::hashed_by(alloc, keyed_by(ins, |port| &port.name));
     for port in ins {
         let new = add_name(&mut names, port.name.bytes())?;
         prove!(new);
@@ -46,7 +39,7 @@ pub(crate) fn memory_names(alloc: Global, mems: &[MemShape]) -> Result<Names, Me
     requires { AreDistinct (memory_targets mems.now).names }
     ensures { IfOk result (λ names. names ≡ (memory_targets mems.now).names) }
 {
-    let mut names = Names::hashed_by(alloc, keyed_by_memories(mems));
+    let mut names = Names::hashed_by(alloc, keyed_by(mems, |shape| &shape.name));
     for shape in mems {
         let new = add_name(&mut names, shape.name.bytes())?;
         prove!(new);
