@@ -108,7 +108,7 @@ fn read_tokens(alloc: Global, tokens: Tokens<'_>) -> Result<CalDesign, CalTextEn
     let source = tokens.source();
     let mut names = Names::keyed_by(alloc, source);
     let ts = terminals_of(alloc, &tokens, &mut names)?;
-    drop(tokens);
+    tokens.release();
     match file_of(alloc, names, &ts) {
         Ok(design) => Ok(design),
         Err(ReadEnd::Memory) => Err(CalTextEnd::Memory),

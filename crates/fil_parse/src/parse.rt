@@ -85,7 +85,7 @@ fn read_tokens(alloc: Global, tokens: Tokens<'_>) -> Result<FilDesign, FilTextEn
     let source = tokens.source();
     let mut names = Names::keyed_by(alloc, source);
     let ts = terminals_of(alloc, &tokens, &mut names)?;
-    drop(tokens);
+    tokens.release();
     match file_of(alloc, names, &ts) {
         Ok(design) => Ok(design),
         Err(ReadEnd::Memory) => Err(FilTextEnd::Memory),

@@ -93,6 +93,14 @@ pub fn lex<'a>(alloc: Global, text: &'a [u8], dialect: Dialect) -> Result<Tokens
 }
 
 impl<'a> Tokens<'a> {
+    /// Lets the tokens go. Their list is cut short in its place first: a large block that is freed whole has glibc keep blocks
+    /// of that size in its heap from then on, where lists that grow leave holes as large as themselves.
+    pub fn release(self) {
+        let mut tokens = self.tokens;
+        tokens.truncate(1);
+        tokens.shrink_to_fit();
+    }
+
     /// The language in which the text was cut.
     pub fn dialect(&self) -> Dialect
         ensures { result ≡ self.now.dialect }
