@@ -323,6 +323,11 @@ def cal_reach(count):
     return cal(wide_cal(count) + component("x = wide();"))
 
 
+def cal_reach_loop(count):
+    """A cell of it whose last output is its first input."""
+    return cal(wide_cal(count) + component("x = wide();", f"x.a0 = x.o{count - 1};"))
+
+
 def cal_reach_cells(count):
     """As many cells of it as it has inputs."""
     return cal(wide_cal(count) + component("".join(f"x{i} = wide();\n" for i in range(count))))
