@@ -53,7 +53,6 @@ pub mod SourceLemmas
 pub mod StandLemmas
 pub mod TableLemmas
 pub mod TestLemmas
-pub mod TextLemmas
 pub mod TopLemmas
 pub mod TypingLemmas
 pub mod WalkLemmas

@@ -9,7 +9,7 @@ use Rattle.cal_ast.specs.Ports.{has_pin, with_pin}
 use Rattle.cal_ast.specs.Tree.{pin_tree}
 use Rattle.cal_ast.specs.declared.tree.CalPin.{CalPin}
 use Rattle.cal_check.specs.inside.Nodes.{pin_text}
-use Rattle.cal_check.specs.declared.texts.PinName.{PinName}
+use Rattle.cal_check.specs.declared.pin_name.PinName.{PinName}
 use Rattle.cal_check.proofs.GainLemmas.{get_left, get_right}
 
 -- the pins of a side, written ones first

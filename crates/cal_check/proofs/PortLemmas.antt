@@ -8,7 +8,7 @@ use Rattle.std.proofs.lemmas.List.Quantifiers.{all_pairs_push, position-Some}
 use Rattle.std.proofs.lemmas.Option.{get_or_from_slice_get, none-some, same_Some, slice_get-get_or, slice_get_within}
 use Rattle.indexmap.proofs.CallerLemmas.{Contains-list_any}
 use Rattle.indexmap.specs.IndexSet.{insert_key}
-use Rattle.hw_names.proofs.NameLemmas.{Contains-slice_get, length-KeepsTexts, same_number}
+use Rattle.hw_names.proofs.NameLemmas.{Contains-slice_get, length-KeepsTexts, same_number, slice_get-text_of}
 use Rattle.hw_names.specs.Name.{Text, AreDistinct, KeepsTexts, text_of}
 use Rattle.hw_names.specs.declared.names.NameId.{NameId}
 use Rattle.cal_ast.proofs.ListLemmas.{Contains-cases_first, Contains-map, Contains-none, place_of}
@@ -173,15 +173,12 @@ pin_there texts keys fit p has =
     by (OfCell c i) fit_k e = there i fit_k.1 (ap pin_in e)
     by (Hole k) fit_k e = absurd (cc)
 
--- the names of a design have their numbers among the texts
-abbrev pub BeginWith : List Text → List Text → Type 0
-BeginWith names all = (id : NameId) → IsNumberOf names id → slice_get all id.0 ≡ Some (text_of names id)
-
-pub still_begin : (names old new : List Text) → KeepsTexts old new → BeginWith names old → BeginWith names new
-still_begin names old new keeps begin id lt = keeps id.0 (text_of names id) (begin id lt)
+-- the names of a design have their numbers among the texts that begin with them
+pub name_among : (names all : List Text) (id : NameId) → KeepsTexts names all → IsNumberOf names id → slice_get all id.0 ≡ Some (text_of names id)
+name_among names all id begin is = begin id.0 (text_of names id) (slice_get-text_of names id is)
 
 -- the port of a cell and a pin, by their numbers
-pub key_names : (names all : List Text) (port : Port) (pin : ℕ) → BeginWith names all → AreNumbers names port → slice_get all pin ≡ Some (pin_text names port.pin)
+pub key_names : (names all : List Text) (port : Port) (pin : ℕ) → KeepsTexts names all → AreNumbers names port → slice_get all pin ≡ Some (pin_text names port.pin)
     → ◌≡◌ {A = Node} (APort (record { cell = option_map (λ (id : NameId). slice_index_or all id.0 []) port.cell; pin = slice_index_or all pin [] })) (APort (port_by names port))
 key_names names all port pin begin are at = by port.cell are.0
   where
@@ -191,11 +188,11 @@ key_names names all port pin begin are at = by port.cell are.0
     by : (cell : Option NameId) → IfSome cell (IsNumberOf names)
         → ◌≡◌ {A = Node} (APort (record { cell = option_map (λ (id : NameId). slice_index_or all id.0 []) cell; pin = slice_index_or all pin [] })) (APort (record { cell = option_map (text_of names) cell; pin = pin_text names port.pin }))
     by None is = ap (λ (t : Text). APort (record { cell = None; pin = t })) name
-    by (Some id) is = ap₂ (λ (s t : Text). APort (record { cell = Some s; pin = t })) (get_or_from_slice_get all id.0 (text_of names id) [] (begin id is)) name
+    by (Some id) is = ap₂ (λ (s t : Text). APort (record { cell = Some s; pin = t })) (get_or_from_slice_get all id.0 (text_of names id) [] (name_among names all id begin is)) name
 
-pub cells_fit : (names all : List Text) (cell : Option NameId) → BeginWith names all → IfSome cell (IsNumberOf names) → IfSome cell (λ (id : NameId). id.0 < length all)
+pub cells_fit : (names all : List Text) (cell : Option NameId) → KeepsTexts names all → IfSome cell (IsNumberOf names) → IfSome cell (λ (id : NameId). id.0 < length all)
 cells_fit names all None begin is = tt
-cells_fit names all (Some id) begin is = slice_get_within all id.0 (text_of names id) (begin id is)
+cells_fit names all (Some id) begin is = slice_get_within all id.0 (text_of names id) (name_among names all id begin is)
 
 -- ---- ports and holes, as they are seen
 

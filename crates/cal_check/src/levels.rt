@@ -19,15 +19,16 @@ ghost use Rattle.hw_levels.specs.declared.cells.CellPort as specs_port;
 
 use crate::made::{Made, component_of};
 use crate::nesting::{Nesting, PartOrder};
+use crate::pin_name::PinName;
 use crate::place::Place;
 use crate::ports::Ports;
 use crate::tables::Tables;
-use crate::texts::{PinName, text_at};
 use crate::wire_graph::WireGraph;
 use crate::wires::{add_control, add_groups, add_primitive, add_sets, own_port, port_names};
 use cal_ast::CalDesign;
 use hw_bits::Memory;
 use hw_levels::{CellPort, levels_of};
+use hw_texts::text_at;
 use std::alloc::Global;
 
 /// Levels of a component's ports by their numbers, inputs first; none of a port of which the component's text says nothing.

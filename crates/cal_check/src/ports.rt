@@ -10,10 +10,11 @@ ghost use Rattle.cal_check.specs.inside.ShortNames.{TellNodes};
 ghost use Rattle.cal_ast.specs.Tree.{port_of};
 
 use crate::keys::{PortText, hole_key, port_key};
+use crate::pin_name::{PinName, find_pin, number_of};
 use crate::short_names::short_names;
-use crate::texts::{PinName, Texts};
 use hw_bits::Memory;
 use hw_names::{NameId, Names};
+use hw_texts::Texts;
 use indexmap::IndexSet;
 use std::alloc::Global;
 use std::marker::Model;
@@ -104,7 +105,7 @@ impl<'a> Ports<'a> {
         ensures names { self.new.names ≡ self.old.names }
     {
         self.texts.begin_with_names();
-        let pin = self.texts.number(port.pin)?;
+        let pin = number_of(&mut self.texts, port.pin)?;
         place_of(&mut self.set, key_by(port.cell, pin))
     }
 
@@ -125,7 +126,7 @@ impl<'a> Ports<'a> {
     {
         self.texts.begin_with_names();
         self.texts.are_distinct();
-        let pin = self.texts.find(port.pin)?;
+        let pin = find_pin(&self.texts, port.pin)?;
         self.set.get_index_of(&key_by(port.cell, pin))
     }
 

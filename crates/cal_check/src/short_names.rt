@@ -12,9 +12,9 @@ ghost use Rattle.cal_check.specs.inside.ShortNames.{AreNamed, AreWithin, HasPlac
 
 use crate::ports::NodeKey;
 use crate::ranks::ranks_of;
-use crate::texts::Texts;
 use hw_bits::Memory;
 use hw_names::Names;
+use hw_texts::Texts;
 use indexmap::IndexSet;
 use std::alloc::Global;
 

@@ -21,16 +21,17 @@ ghost use Rattle.cal_check.specs.declared.wire_graph.Hole.{Hole};
 
 use crate::loops::least_loop;
 use crate::made::Made;
+use crate::pin_name::PinName;
 use crate::place::Place;
 use crate::ports::Port;
 use crate::reads::ports_read;
-use crate::texts::{PinName, text_at};
 use crate::wire_graph::{Hole, WireGraph};
 use cal_ast::{Assign, CalPort, Control, ControlPart, DoneSet, Group, InBind, OutBind};
 use hw_bits::Memory;
 use hw_graph::{Groups, Reach, gather};
 use hw_names::{NameId, Names, Word};
 use hw_prims::Prim;
+use hw_texts::text_at;
 use net_core::Src;
 use std::alloc::Global;
 

@@ -14,8 +14,8 @@ use Rattle.cal_check.specs.declared.keys.TheConstants.{BYTE, END, HOLE}
 use Rattle.cal_check.specs.declared.ports.NodeKey.{NodeKey}
 use Rattle.cal_check.specs.declared.ports.NodeKey.TheVariants as key
 use Rattle.cal_check.specs.declared.ports.Port.{Port}
-use Rattle.cal_check.specs.declared.texts.PinName.{PinName}
-use Rattle.cal_check.specs.declared.texts.PinName.TheVariants as pin
+use Rattle.cal_check.specs.declared.pin_name.PinName.{PinName}
+use Rattle.cal_check.specs.declared.pin_name.PinName.TheVariants as pin
 
 pub data Node : Type 0 where
   APort : PortName → Node
@@ -65,11 +65,6 @@ abbrev pub input_key : Pin → Text
 input_key p = key_of (APort (own p.name))
 
 -- ---- ports by numbers
-
--- texts by numbers: the names of a design, and all, of which they are the first
-pub record TextList : Type 0 where
-  pub names : List Text
-  pub all : List Text
 
 -- ports and holes by numbers: the names of the design, and the key of each
 pub record PortList : Type 0 where

@@ -1,9 +1,9 @@
 use Rattle.std.proofs.Common.{◌≡◌, List, Some, None, Contains, length, slice_get, ℕ, ap, sym, subst, ◌∙◌}
 use Rattle.std.specs.Prelude.{IsSome}
 use Rattle.std.proofs.lemmas.Option.{slice_get_within}
-use Rattle.hw_names.specs.Name.{Text}
+use Rattle.hw_names.specs.Name.{Text, KeepsTexts}
 use Rattle.cal_check.specs.inside.Nodes.{APort, IsFit, PortList, node_in, pin_text, port_by, key_of}
-use Rattle.cal_check.proofs.PortLemmas.{BeginWith, cells_fit, key_names, pin_there, search_found, search_present}
+use Rattle.cal_check.proofs.PortLemmas.{cells_fit, key_names, pin_there, search_found, search_present}
 use Rattle.cal_check.proofs.ports.Ports.find.Goals.{After-get_index_of}
 use Rattle.cal_check.proofs.ports.Ports.find.Goals as goal
 
@@ -25,8 +25,8 @@ returns-in_err-pin-clause-present c =
 same_names : (c : After-get_index_of) → c.self.inside.texts.names ≡ c.args.self.now.names
 same_names c = ap (λ (v : PortList). v.names) c.self.view_is
 
-begin : (c : After-get_index_of) → BeginWith c.args.self.now.names c.self.inside.texts.all
-begin c = subst (λ (names : List Text). BeginWith names c.self.inside.texts.all) (same_names c) c.begin_with_names.ensures
+begin : (c : After-get_index_of) → KeepsTexts c.args.self.now.names c.self.inside.texts.all
+begin c i text at = c.begin_with_names.ensures i text (ap (λ (names : List Text). slice_get names i) (same_names c) ∙ at)
 
 pin_at : (c : After-get_index_of) → slice_get c.self.inside.texts.all c.in_ok-pin.pin ≡ Some (pin_text c.args.self.now.names c.args.port.pin)
 pin_at c = c.in_ok-pin.ensures.some ∙ ap (λ (names : List Text). Some (pin_text names c.args.port.pin)) (same_names c)

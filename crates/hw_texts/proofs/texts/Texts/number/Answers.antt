@@ -1,7 +1,7 @@
 use Rattle.std.proofs.Common.{Contains, IsSome, None}
 use Rattle.hw_names.specs.declared.names.NameId.{NameId}
-use Rattle.cal_check.proofs.TextLemmas.{distinct_more, other_behind, texts_kept}
-use Rattle.cal_check.proofs.texts.Texts.number_of.Goals as goal
+use Rattle.hw_texts.proofs.TextLemmas.{distinct_more, other_behind, texts_kept}
+use Rattle.hw_texts.proofs.texts.Texts.number.Goals as goal
 
 pub invariant_of-self-2 : goal.invariant_of-self-2
 invariant_of-self-2 c =

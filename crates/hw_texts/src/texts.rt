@@ -1,23 +1,13 @@
-//! Texts by numbers: the design's names, and after them others.
-ghost use Rattle.std.specs.Prelude.{◌≡◌, ◌+◌, ◌<◌, ◌++◌, [], Some, Contains, length, slice_get, IfNone, IfOk, IfSome};
-ghost use Rattle.hw_names.specs.Name.{AreDistinct, KeepsTexts, text_of};
-ghost use Rattle.net_core.specs.Numbers.{IsNumberOf};
-ghost use Rattle.hw_names.specs.declared.names.NameId.{NameId};
-ghost use Rattle.cal_check.specs.inside.Nodes.{PinHasNumber, TextList, pin_text};
+//! Numbers for texts, of which the first are names.
+ghost use Rattle.std.specs.Prelude.{◌≡◌, ◌<◌, ◌++◌, [], Some, Contains, length, slice_get, IfNone, IfOk, IfSome};
+ghost use Rattle.hw_names.specs.Name.{AreDistinct, KeepsTexts};
+ghost use Rattle.hw_texts.specs.Texts.{TextList};
 
 use hw_bits::Memory;
 use hw_names::{NameId, Names};
-use std::alloc::Global;
 use std::marker::Model;
 
-/// The name of a port: one of the design's by its number, or a text.
-#[derive(Clone, Copy)]
-pub enum PinName<'t> {
-    Number(NameId),
-    Text(&'t [u8]),
-}
-
-/// The design's names, and after them other texts by first appearance. A text's number is its place.
+/// Names, and after them other texts by first appearance. A text's number is its place.
 #[derive(Drop)]
 pub struct Texts<'a> {
     names: &'a Names,
@@ -36,7 +26,7 @@ pub fn text_at(names: &Names, number: usize) -> &[u8]
 impl<'a> Model for Texts<'a> {
     ghost use Rattle.std.specs.Prelude.{◌++◌};
     ghost use Rattle.hw_names.specs.Name.{AreDistinct};
-    ghost use Rattle.cal_check.specs.inside.Nodes.{TextList};
+    ghost use Rattle.hw_texts.specs.Texts.{TextList};
 
     ghost Value = { TextList };
 
@@ -46,7 +36,7 @@ impl<'a> Model for Texts<'a> {
 }
 
 impl<'a> Texts<'a> {
-    /// The design's names alone.
+    /// The names alone.
     pub fn new(names: &'a Names) -> Texts<'a>
         ensures { result ≡ record { names = names.now; all = names.now } }
     {
@@ -58,38 +48,15 @@ impl<'a> Texts<'a> {
         }
     }
 
-    /// No names, for some that are made of these.
+    /// No names, for some that are made of these texts.
     pub fn beside(&self) -> Names
         ensures { result ≡ [] }
     {
         self.names.beside()
     }
 
-    /// The number of a name; a text that has none goes last.
-    pub fn number(&mut self, pin: PinName) -> Result<usize, Memory>
-        requires { PinHasNumber self.old.names pin }
-        ensures number { IfOk result (λ n. slice_get self.new.all n ≡ Some (pin_text self.old.names pin.entry)) }
-        ensures names { self.new.names ≡ self.old.names }
-        ensures kept { KeepsTexts self.old.all self.new.all }
-    {
-        match pin {
-            PinName::Number(id) => {
-                self.begin_with_names();
-                Ok(id.0 as usize)
-            }
-            PinName::Text(text) => self.number_of(text),
-        }
-    }
-
-    /// The names of the design have the numbers here that they have there.
-    pub fn begin_with_names(&self)
-        ensures { (id : NameId) → IsNumberOf self.now.names id → slice_get self.now.all id.0 ≡ Some (text_of self.now.names id) }
-    {
-        let _names = &self.names;
-    }
-
     /// The number of a text; one that has none goes last.
-    fn number_of(&mut self, text: &[u8]) -> Result<usize, Memory>
+    pub fn number(&mut self, text: &[u8]) -> Result<usize, Memory>
         ensures number { IfOk result (λ n. slice_get self.new.all n ≡ Some text.now) }
         ensures names { self.new.names ≡ self.old.names }
         ensures kept { KeepsTexts self.old.all self.new.all }
@@ -104,23 +71,8 @@ impl<'a> Texts<'a> {
         Ok(self.names.len() + id.0 as usize)
     }
 
-    /// The number of a name, if it has one.
-    pub fn find(&self, pin: PinName) -> Option<usize>
-        requires { PinHasNumber self.now.names pin }
-        ensures some { IfSome result (λ n. slice_get self.now.all n ≡ Some (pin_text self.now.names pin.entry)) }
-        ensures none { IfNone result (¬ Contains self.now.all (pin_text self.now.names pin.entry)) }
-    {
-        match pin {
-            PinName::Number(id) => {
-                self.begin_with_names();
-                Some(id.0 as usize)
-            }
-            PinName::Text(text) => self.find_text(text),
-        }
-    }
-
     /// The number of a text, if it has one.
-    fn find_text(&self, text: &[u8]) -> Option<usize>
+    pub fn find(&self, text: &[u8]) -> Option<usize>
         ensures some { IfSome result (λ n. slice_get self.now.all n ≡ Some text.now) }
         ensures none { IfNone result (¬ Contains self.now.all text.now) }
     {
@@ -131,6 +83,29 @@ impl<'a> Texts<'a> {
             Some(id) => Some(self.names.len() + id.0 as usize),
             None => None,
         }
+    }
+
+    /// The number of a name, if it is one of the names.
+    pub fn named(&self, name: &[u8]) -> Option<usize>
+        ensures some { IfSome result (λ n. slice_get self.now.names n ≡ Some name.now) }
+        ensures none { IfNone result (¬ Contains self.now.names name.now) }
+    {
+        let id = self.names.find(name)?;
+        Some(id.0 as usize)
+    }
+
+    /// How many names there are.
+    pub fn names(&self) -> usize
+        ensures { result ≡ length self.now.names }
+    {
+        self.names.len()
+    }
+
+    /// Names have their own numbers among all texts.
+    pub fn begin_with_names(&self)
+        ensures { KeepsTexts self.now.names self.now.all }
+    {
+        let _names = &self.names;
     }
 
     /// The text of a number.

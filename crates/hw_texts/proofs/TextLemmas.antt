@@ -1,17 +1,20 @@
--- Texts that begin with the names of a design.
-use Rattle.std.proofs.Common.{◌≡◌, ◌⊎◌, inl, inr, ℕ, zero, suc, ◌+◌, ◌<◌, List, [], ◌∷◌, ◌++◌, Some, Contains, length, slice_get, sym, ap, subst, ◌∙◌, append_assoc}
+-- Texts that begin with names.
+use Rattle.std.proofs.Common.{◌≡◌, ◌⊎◌, inl, inr, ℕ, zero, suc, ◌+◌, List, [], ◌∷◌, ◌++◌, Some, Contains, length, slice_get, zero-add, sym, ap, subst, ◌∙◌, append_assoc, arith}
 use Rattle.std.proofs.lemmas.List.Elements.{Contains-append_cases}
-use Rattle.hw_names.proofs.NameLemmas.{AreDistinct-push, Contains-cases, slice_get-text_of}
-use Rattle.hw_names.specs.Name.{Text, AreDistinct, KeepsTexts, text_of}
-use Rattle.hw_names.specs.declared.names.NameId.{NameId}
-use Rattle.cal_check.specs.inside.Nodes.{TextList}
-use Rattle.cal_check.proofs.GainLemmas.{get_left, get_right}
+use Rattle.hw_names.proofs.NameLemmas.{AreDistinct-push, Contains-cases, KeepsTexts-append}
+use Rattle.hw_names.specs.Name.{Text, AreDistinct, KeepsTexts}
+use Rattle.hw_texts.specs.Texts.{TextList}
 
--- a name of the design stands at its number
-pub name_first : (names others : List Text) (v : TextList) (id : NameId) → record { names = names; all = names ++ others } ≡ v → id.0 < length v.names → slice_get v.all id.0 ≡ Some (text_of v.names id)
-name_first names others v id is lt =
-    subst (λ (t : TextList). id.0 < length t.names → slice_get t.all id.0 ≡ Some (text_of t.names id)) is
-    (λ within. get_left names others id.0 (text_of names id) (slice_get-text_of names id within)) lt
+-- what stands behind a list
+pub get_right : {X : Type 0} (xs ys : List X) (j : ℕ) → slice_get (xs ++ ys) (length xs + j) ≡ slice_get ys j
+get_right [] ys j = ap (slice_get ys) (zero-add j)
+get_right (x ∷ xs) ys j =
+    let e : suc (length xs) + j ≡ suc (length xs + j) = omega arith in
+    ap (slice_get (x ∷ (xs ++ ys))) e ∙ get_right xs ys j
+
+-- a name stands at its number
+pub names_first : (names others : List Text) (v : TextList) → record { names = names; all = names ++ others } ≡ v → KeepsTexts v.names v.all
+names_first names others v is = subst (λ (t : TextList). KeepsTexts t.names t.all) is (KeepsTexts-append names others)
 
 -- another text stands behind them
 pub other_behind : (names others : List Text) (count i : ℕ) (text : Text) → count ≡ length names → slice_get others i ≡ Some text → slice_get (names ++ others) (count + i) ≡ Some text
