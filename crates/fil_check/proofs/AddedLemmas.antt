@@ -1,6 +1,5 @@
 -- The uses by one more invocation, event by event.
 use Rattle.std.proofs.Common.{◌≡◌, ℕ, ◌+◌, ◌<◌, ◌≤◌, ◌⊎◌, inl, inr, List, length, Option, Some, None, refl, sym, ap, ap₂, subst, ◌∙◌, arith}
-use Rattle.std.specs.BTreeMap.{get}
 use Rattle.std.specs.Option.{IsSome}
 use Rattle.std.proofs.lemmas.Bool.{cases_eq, cases_lt}
 use Rattle.std.proofs.lemmas.Option.{none-some, same_Some, slice_get_within}
@@ -8,7 +7,6 @@ use Rattle.hw_names.specs.Name.{Text}
 use Rattle.fil_ast.specs.Signature.{Delay, Signature}
 use Rattle.fil_ast.specs.Timeline.{IsUse, Use}
 use Rattle.fil_ast.specs.Tree.{TimeAt}
-use Rattle.fil_check.specs.inside.Keys.{key_cmp}
 use Rattle.fil_check.specs.inside.Sharing.{HasDelay, IsShownBy}
 use Rattle.fil_check.specs.inside.Starts.{AddsUses, PutsUse, use_at}
 use Rattle.fil_check.specs.inside.Uses.{ShowsUse}
@@ -77,7 +75,7 @@ module _ (events : List Text) (sig : Signature) (inst : Text) (times : List Time
       at_place : (i k start : ℕ) → IsPlace i k start → use_at new i k start ≡ Some held
       at_place i k start (same_i, same_k, same_start) =
           let key : (i, k, start) ≡ (instance, n, held.at.plus) = ap₂ (λ (p : ℕ × ℕ) (z : ℕ). (p.0, p.1, z)) (ap₂ (λ (a b : ℕ). (a, b)) same_i same_k) same_start in
-          ap (get key_cmp new.uses) key ∙ puts.here
+          ap (λ (p : ℕ × ℕ × ℕ). use_at new p.0 p.1 p.2) key ∙ puts.here
 
       is_place : (i k start : ℕ) → IsPlace i k start ⊎ (IsPlace i k start → ⊥)
       is_place i k start = elim (cases_eq i instance) [

@@ -8,6 +8,7 @@ use Rattle.std.proofs.lemmas.Option.{same_Some, slice_get-map, slice_get_read, s
 use Rattle.std.proofs.lemmas.Simd.{map-map}
 use Rattle.hw_bits.specs.declared.memory.Memory.{Memory}
 use Rattle.hw_names.specs.Name.{Text, AreDistinct, text_of}
+use Rattle.hw_names.specs.declared.names.NameId.{NameId}
 use Rattle.fil_ast.specs.Evidence as shown
 use Rattle.fil_ast.specs.Items.{TheSignature}
 use Rattle.fil_ast.specs.Limits.{KeepsLimits}
@@ -21,14 +22,14 @@ use Rattle.fil_ast.specs.declared.tree.FilComp.{FilComp}
 use Rattle.fil_ast.specs.declared.tree.FilDesign.{FilDesign}
 use Rattle.fil_check.specs.inside.Callees.{HasGoodDelay, HasSmallInterval, HasGoodTimes}
 use Rattle.fil_check.specs.First.{TellsFirst}
-use Rattle.fil_check.specs.inside.First.{ComponentIs, IsFirstItem, TellsItem}
+use Rattle.fil_check.specs.inside.First.{ComponentIs, IsFirstItem, TellsComponent, TellsItem}
 use Rattle.fil_check.specs.Least.{evidence_of}
-use Rattle.fil_check.specs.inside.Least.{number_of}
 use Rattle.fil_check.specs.inside.Outputs.{output_names}
 use Rattle.fil_check.specs.inside.Wired.{IsFirstLoop}
 use Rattle.fil_check.specs.declared.rules.CompEnd.{CompEnd}
 use Rattle.fil_check.specs.declared.rules.CompEnd.TheVariants as component
 use Rattle.fil_check.specs.declared.rules.FilEnd.{FilEnd}
+use Rattle.fil_check.specs.declared.rules.FilEnd.TheVariants as design
 use Rattle.fil_share.proofs.ListLemmas.{slice_get-take}
 use Rattle.fil_sig.proofs.ListLemmas.{All-unmap}
 
@@ -129,12 +130,18 @@ refused d n comp number item evidence at before first =
     } in
     subst R first.least.counted (BreaksRule n first.least.place broken refl first.least.is_shown)
 
--- what the end of a component tells
-pub component_ends : (d : FilDesign) (n : ℕ) (comp : FilComp) (end : CompEnd) (r : FilEnd) → slice_get (design_of d) n ≡ Some (component_tree d.names comp) → KeepBefore (design_of d) n
-    → TellsItem (take n (design_of d)) (component_tree d.names comp) end → ComponentIs comp.name end r → TellsFirst d r
-component_ends d n comp (component.Broken item broken) r at before first is =
-    subst (TellsFirst d) (sym is) (refused d n comp (number_of broken.rule) item (evidence_of broken.evidence) at before first)
-component_ends d n comp component.Memory r at before first is = subst (TellsFirst d) (sym is) tt
+-- the end of a component, as its design's end
+pub told_of : (comps : Design) (c : Component) (name : NameId) (end : CompEnd) (r : FilEnd) → TellsItem comps c end → ComponentIs name end r → TellsComponent comps c name r
+told_of comps c name (component.Broken item broken) r first is = subst (TellsComponent comps c name) (sym is) (refl, first)
+told_of comps c name component.Memory r first is = subst (TellsComponent comps c name) (sym is) tt
+
+-- what the end of a component tells of its design
+pub component_ends : (d : FilDesign) (n : ℕ) (comp : FilComp) (r : FilEnd) → slice_get (design_of d) n ≡ Some (component_tree d.names comp) → KeepBefore (design_of d) n
+    → TellsComponent (take n (design_of d)) (component_tree d.names comp) comp.name r → TellsFirst d r
+component_ends d n comp (design.Refused rule name item evidence) at before told =
+    let R : NameId → Type 0 = λ named. IsRefusal (design_of d) (text_of d.names named) item (evidence_of evidence) rule in
+    subst R (sym told.0) (refused d n comp rule item (evidence_of evidence) at before told.1)
+component_ends d n comp design.Memory at before told = tt
 
 -- where all components keep the rules, the first loop is what is refused
 pub looped : (comps : Design) (name : Text) (ports : List Text) → KeepsRules all_rules comps → IsFirstLoop comps name ports → IsRefusal comps name 0 (shown.ALoop ports) 14

@@ -18,7 +18,7 @@ use Rattle.fil_ast.specs.declared.tree.FilComp.{FilComp}
 use Rattle.fil_check.proofs.GivenLemmas.{mapped_at}
 use Rattle.fil_check.proofs.InstanceLemmas.{IsOwnReading, IsThroughAt, no_table_at, own_reading, through_told}
 use Rattle.fil_check.proofs.PortNumberLemmas.{cut_at_last}
-use Rattle.fil_check.proofs.TextLemmas.{get_right}
+use Rattle.hw_texts.proofs.TextLemmas.{get_right}
 use Rattle.fil_check.proofs.WiringLemmas.{number_of, numbered_length}
 use Rattle.fil_check.specs.inside.Levels.{AreParts, HasAllPorts, IsPortOfPart, ShowAllLevels, ShowsLevels}
 use Rattle.fil_check.specs.inside.PortGraph.{HasInstances, HasReading}

@@ -40,10 +40,10 @@ pub mod UnitLemmas
 pub mod UnitMeetLemmas
 pub mod KeyLemmas
 pub mod StartsLemmas
+pub mod FirstLemmas
 pub mod ListedLemmas
 pub mod SpanStartLemmas
 pub mod AddedLemmas
 pub mod PortsLemmas
 pub mod PortNumberLemmas
-pub mod TextLemmas
 pub mod InstanceNumberLemmas

@@ -71,7 +71,7 @@ module _ (names : List Text) (comp : FilComp) (tables : Tables) (instance : ℕ)
         where
           by : (r : Option numbers.Use) → use_at tables.starts instance k start ≡ r → start ≤ 65535
           by None e = absurd (nothing start e some)
-          by (Some held) e = let small : start < 2 ^ 16 = (tables.starts.small (instance, k, start) held e).0 in omega arith
+          by (Some held) e = let small : start < 2 ^ 16 = (tables.starts.small instance k start held e).0 in omega arith
 
       -- the span with one of them
       module _ (span new : Span) where

@@ -4,9 +4,10 @@ ghost use Rattle.fil_ast.specs.Limits.{KeepsLimits, HasSmallOffsets};
 ghost use Rattle.fil_ast.specs.Numbers.{ComponentHasNumbers, HasNumbers};
 ghost use Rattle.fil_ast.specs.Rules.{FilRules, KeepsComponent, all_rules};
 ghost use Rattle.fil_ast.specs.Tree.{Design, component_tree, design_of};
+ghost use Rattle.fil_ast.specs.Wires.{whole_scope};
 ghost use Rattle.fil_check.specs.First.{TellsFirst};
-ghost use Rattle.fil_check.specs.inside.First.{ComponentIs};
-ghost use Rattle.fil_check.specs.inside.Tables.{ShowsEarlier};
+ghost use Rattle.fil_check.specs.inside.First.{ComponentIs, TellsComponent};
+ghost use Rattle.fil_check.specs.inside.Tables.{IsPlace, ShowsEarlier};
 
 use crate::callee::Callee;
 use crate::component::judge_component;
@@ -14,7 +15,7 @@ use crate::loops::levels::add_levels;
 use crate::loops::{Wired, add_wires};
 use crate::place::Place;
 use crate::rules::{CompEnd, Evidence, FilEnd};
-use crate::tables::Earlier;
+use crate::tables::{Earlier, Tables};
 use fil_ast::{FilComp, FilDesign, FilOk};
 use fil_sig::{add_name, component_signature};
 use hw_bits::Memory;
@@ -51,10 +52,7 @@ fn judge_by_levels(alloc: Global, design: &FilDesign) -> Result<bool, FilEnd>
     };
     let mut levels = Vec::new(alloc);
     for comp in &design.comps {
-        let tables = match judge_component(alloc, &design.names, &earlier, comp) {
-            Ok(tables) => tables,
-            Err(end) => return Err(in_component(comp.name, end)),
-        };
+        let tables = judged(alloc, &design.names, &earlier, comp)?;
         let place = Place {
             names: &design.names,
             earlier: &earlier,
@@ -84,10 +82,7 @@ fn judge_by_reach<'a>(alloc: Global, design: &'a FilDesign) -> Result<FilOk<'a>,
     };
     let mut wired = Wired::Free(Vec::new(alloc));
     for comp in &design.comps {
-        let tables = match judge_component(alloc, &design.names, &earlier, comp) {
-            Ok(tables) => tables,
-            Err(end) => return Err(in_component(comp.name, end)),
-        };
+        let tables = judged(alloc, &design.names, &earlier, comp)?;
         let place = Place {
             names: &design.names,
             earlier: &earlier,
@@ -105,6 +100,24 @@ fn judge_by_reach<'a>(alloc: Global, design: &'a FilDesign) -> Result<FilOk<'a>,
             item: 0,
             evidence: Evidence::Loop(ports),
         }),
+    }
+}
+
+/// Judges a component, after those before it, by F1 to F13. Gives the tables of its whole body where it keeps the rules; a rule
+/// that it breaks is the end of its design.
+fn judged(alloc: Global, names: &Names, earlier: &Earlier, comp: &FilComp) -> Result<Tables, FilEnd>
+    requires numbers { ComponentHasNumbers names.now comp.now }
+    requires small { KeepsLimits comp.now }
+    ensures kept { (comps : Design) → ShowsEarlier earlier.now comps
+        → OnOk result (KeepsComponent all_rules comps (component_tree names.now comp.now)) }
+    ensures tables { (comps : Design) → ShowsEarlier earlier.now comps
+        → IfOk result (λ tables. IsPlace names.now earlier.now comp.now tables (whole_scope comps (component_tree names.now comp.now))) }
+    ensures broken { (comps : Design) → ShowsEarlier earlier.now comps
+        → IfErr result (TellsComponent comps (component_tree names.now comp.now) comp.now.name) }
+{
+    match judge_component(alloc, names, earlier, comp) {
+        Ok(tables) => Ok(tables),
+        Err(end) => Err(in_component(comp.name, end)),
     }
 }
 

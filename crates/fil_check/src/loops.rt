@@ -19,7 +19,6 @@ pub mod edges;
 pub mod graph;
 pub mod levels;
 pub mod ports;
-mod texts;
 
 use crate::loops::depends::inputs_reached;
 use crate::loops::edges::add_body;
@@ -124,7 +123,7 @@ struct ComponentGraph<'a> {
     outputs: Vec<usize>,
 }
 
-/// Which ports of the component read which; without wires, but for those of instances of components.
+/// Which ports of a component read which. Where no wires are given, without what instances of components pass on.
 fn component_graph<'a>(
     alloc: Global,
     place: &Place<'a>,

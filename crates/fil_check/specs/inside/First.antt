@@ -40,3 +40,8 @@ ItemIs item items.Memory end = end ≡ component.Memory
 abbrev pub ComponentIs : NameId → CompEnd → FilEnd → Type 0
 ComponentIs comp (component.Broken item broken) end = end ≡ design.Refused (number_of broken.rule) comp item broken.evidence
 ComponentIs comp component.Memory end = end ≡ design.Memory
+
+-- the refusal names the component, and tells its first item, the least rule and what it shows; want of memory tells nothing
+abbrev pub TellsComponent : Design → Component → NameId → FilEnd → Type 0
+TellsComponent earlier c name (design.Refused rule comp item evidence) = (comp ≡ name) × IsFirstItem earlier c item rule (evidence_of evidence)
+TellsComponent earlier c name design.Memory = Unit {0}

@@ -4,11 +4,6 @@ use Rattle.hw_names.specs.Name.{Text, HasNoDot, dotted}
 use Rattle.fil_check.specs.declared.loops.ports.PortKey.{PortKey}
 use Rattle.fil_check.specs.declared.loops.ports.PortKey.TheVariants.{Own, OfInstance}
 
--- texts by numbers: the names of instances, and all, of which they are the first
-pub record TextList : Type 0 where
-  pub instances : List Text
-  pub all : List Text
-
 -- ports by numbers: the names of the component's instances, and the full name of each port
 pub record PortList : Type 0 where
   pub instances : List Text

@@ -1,13 +1,12 @@
 -- The uses so far of the events of instances, by the offsets at which they start. This project's.
 use Rattle.std.specs.Prelude.{◌≡◌, ◌⊎◌, ℕ, ◌≤◌, List, slice_get, Option, Some, None, IsSome, Contains, length}
-use Rattle.std.specs.BTreeMap.{get}
 use Rattle.hw_names.specs.Name.{Text}
 use Rattle.fil_ast.specs.Scope.{Scope, Invocation}
 use Rattle.fil_ast.specs.Sharing.{IsUseOf}
 use Rattle.fil_ast.specs.Signature.{Signature}
 use Rattle.fil_ast.specs.Timeline.{Use, IsUse}
 use Rattle.fil_ast.specs.Tree.{TimeAt}
-use Rattle.fil_check.specs.inside.Keys.{key_cmp}
+use Rattle.fil_check.specs.inside.Keys.{use_in}
 use Rattle.fil_check.specs.inside.Sharing.{AreNumbersApart, IsShownBy}
 use Rattle.fil_check.specs.declared.sharing.starts.Starts.{Starts}
 use Rattle.fil_check.specs.declared.tables.Tables.{Tables}
@@ -15,7 +14,7 @@ use Rattle.fil_check.specs.declared.timeline.uses.Use as numbers
 
 -- the use of an event of an instance that starts at this offset
 abbrev pub use_at : Starts → ℕ → ℕ → ℕ → Option numbers.Use
-use_at starts instance event start = get key_cmp starts.uses (instance, event, start)
+use_at starts instance event start = use_in starts.firsts.items starts.others instance event start
 
 -- one use more; the other places keep theirs
 pub record PutsUse (instance event : ℕ) (held : numbers.Use) (old new : Starts) : Type 0 where

@@ -6,9 +6,9 @@ ghost use Rattle.std.specs.Prelude.{◌≡◌, ◌⊎◌, ◌<◌, ◌^◌, ◌+
 ghost use Rattle.hw_names.specs.Name.{AreDistinct, HasNoDot, KeepsTexts, Text, dot, dotted};
 ghost use Rattle.fil_check.specs.inside.Ports.{AreDifferent, IsFit, PortList, full_name_in};
 
-use crate::loops::texts::Texts;
 use hw_bits::Memory;
 use hw_names::Names;
+use hw_texts::Texts;
 use indexmap::IndexSet;
 use std::alloc::Global;
 use std::marker::Model;
@@ -34,7 +34,7 @@ impl<'a> Model for Ports<'a> {
 
     ghost Value = { PortList };
 
-    ghost view = { λ p. record { instances = p.texts.instances; names = map (full_name_in p.texts.all) p.set.keys } };
+    ghost view = { λ p. record { instances = p.texts.names; names = map (full_name_in p.texts.all) p.set.keys } };
 
     ghost invariant = { λ p. All (IsFit p.texts.all) p.set.keys × AreDifferent p.set.keys × (length p.set.keys < 2 ^ 32) };
 }
@@ -71,7 +71,7 @@ fn full_name(alloc: Global, inst: &[u8], port: &[u8]) -> Result<Vec<u8>, Memory>
 fn named_key(texts: &mut Texts, name: &[u8]) -> Result<PortKey, Memory>
     ensures named { IfOk result (λ key. full_name_in texts.new.all key ≡ name.now) }
     ensures fit { IfOk result (IsFit texts.new.all) }
-    ensures instances { texts.new.instances ≡ texts.old.instances }
+    ensures names { texts.new.names ≡ texts.old.names }
     ensures kept { KeepsTexts texts.old.all texts.new.all }
 {
     let Some(place) = last_dot(name) else {
@@ -90,14 +90,14 @@ fn instance_key(
     instance: usize,
     port: &[u8],
 ) -> Result<PortKey, Memory>
-    requires { instance < length texts.old.instances }
-    ensures named { (inst : Text) → slice_get texts.old.instances instance ≡ Some inst
+    requires { instance < length texts.old.names }
+    ensures named { (inst : Text) → slice_get texts.old.names instance ≡ Some inst
         → IfOk result (λ key. full_name_in texts.new.all key ≡ dotted inst port.now) }
     ensures fit { IfOk result (IsFit texts.new.all) }
-    ensures instances { texts.new.instances ≡ texts.old.instances }
+    ensures names { texts.new.names ≡ texts.old.names }
     ensures kept { KeepsTexts texts.old.all texts.new.all }
 {
-    texts.begin_with_instances();
+    texts.begin_with_names();
     if last_dot(port).is_some() {
         let full = full_name(alloc, texts.text(instance), port)?;
         return named_key(texts, &full);
@@ -162,14 +162,14 @@ impl<'a> Ports<'a> {
         ensures some { IfSome result (λ n. slice_get self.now.instances n ≡ Some name.now) }
         ensures none { IfNone result (¬ Contains self.now.instances name.now) }
     {
-        self.texts.instance(name)
+        self.texts.named(name)
     }
 
     /// How many instances there are.
     pub fn instances(&self) -> usize
         ensures { result ≡ length self.now.instances }
     {
-        self.texts.instances()
+        self.texts.names()
     }
 
     /// How many ports there are.
@@ -204,7 +204,7 @@ impl<'a> Ports<'a> {
             → slice_get self.now.instances instance ≡ Some inst
             → IsSome result × IfSome result (λ found. (found.0 ≡ instance) × (found.1.now ≡ name)) }
     {
-        self.texts.begin_with_instances();
+        self.texts.begin_with_names();
         self.texts.are_distinct();
         match self.set.as_slice()[place] {
             PortKey::Own(_) => None,

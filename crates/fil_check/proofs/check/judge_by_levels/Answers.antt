@@ -18,18 +18,20 @@ use Rattle.fil_check.proofs.WiredLemmas.{no_loop_more}
 use Rattle.fil_share.proofs.ListLemmas.{take_next}
 use Rattle.fil_check.proofs.check.judge_by_levels.Goals as goal
 
-pub returns-in-Err-clause-refused : goal.returns-in-Err-clause-refused
-returns-in-Err-clause-refused c =
+pub returns-in_err-tables-clause-refused : goal.returns-in_err-tables-clause-refused
+returns-in_err-tables-clause-refused c =
     let d = c.args.design.now in
     let n = c.loop-comp.comp-index in
     let comp = c.comp-item.result in
     let tree = component_tree d.names comp in
     let before = take n (design_of d) in
     let at : slice_get (design_of d) n ≡ Some tree = at_mapped (component_tree d.names) d.comps.items c.deref-comp-items.result.now n comp c.deref-comp-items.ensures.value c.loop-comp-test.true c.comp-item.is in
-    component_ends d n comp c.in-Err.end c.in_component.result at c.loop-comp.invariant.kept (c.in-Err.ensures.broken before c.loop-comp.invariant.shown) c.in_component.ensures
+    let told = c.in_err-tables.ensures.broken before c.loop-comp.invariant.shown in
+    let tells = component_ends d n comp c.in_err-tables.field-0.0 at c.loop-comp.invariant.kept told in
+    passed_up c.from_residual.result c.in_err-tables.field-0.0 (TellsFirst d) c.from_residual.ensures.1 tells
 
-pub judge_component-requires-clause-small : goal.judge_component-requires-clause-small
-judge_component-requires-clause-small c =
+pub judged-requires-clause-small : goal.judged-requires-clause-small
+judged-requires-clause-small c =
     let comps = c.args.design.now.comps.items in
     let n = c.loop-comp.comp-index in
     let comp = c.comp-item.result in
@@ -48,6 +50,11 @@ add_component-requires-clause-small c =
     let K : FilComp → Type 0 = KeepsLimits in
     subst K (sym is) (c.requires.small n comp within)
 
+pub add_component-requires-clause-kept : goal.add_component-requires-clause-kept
+add_component-requires-clause-kept c =
+    let before = take c.loop-comp.comp-index (design_of c.args.design.now) in
+    (before, c.loop-comp.invariant.shown, c.in_ok-tables.ensures.kept before c.loop-comp.invariant.shown)
+
 pub loop-comp-preserved : goal.loop-comp-preserved
 loop-comp-preserved c =
     let d = c.args.design.now in
@@ -59,9 +66,9 @@ loop-comp-preserved c =
     let S : Design → Type 0 = ShowsEarlier c.add_component.new.earlier in
     let L : Design → Type 0 = λ comps. ShowAllLevels comps c.in-Some.more.items in
     let N : Design → Type 0 = HaveNoLoop in
-    let place = c.in-Ok.ensures.tables before c.loop-comp.invariant.shown in
+    let place = c.in_ok-tables.ensures.tables before c.loop-comp.invariant.shown in
     let earlier = kept_so_far (design_of d) n c.loop-comp.invariant.kept in
-    let own = c.in-Ok.ensures.kept before c.loop-comp.invariant.shown in
+    let own = c.in_ok-tables.ensures.kept before c.loop-comp.invariant.shown in
     let more = MatchOption-at_some ⊤ (λ (l : Vec Levels Global). ShowAllLevels (before ++ tree ∷ []) l.items) c.in-Some.more c.in-Some.is (c.in_ok-more.ensures.levels before place c.loop-comp.invariant.levels earlier own) in
     let none = MatchOption-at_some ⊤ (λ (l : Vec Levels Global). HasNoLoop before tree) c.in-Some.more c.in-Some.is (c.in_ok-more.ensures.no_loop before place c.loop-comp.invariant.levels earlier own) in
     record {
@@ -84,7 +91,7 @@ returns-clause-kept c all =
 
 pub returns-in_err-more-clause-refused : goal.returns-in_err-more-clause-refused
 returns-in_err-more-clause-refused c =
-    passed_up c.from_residual.result design.Memory (TellsFirst c.args.design.now) c.from_residual.ensures.1 tt
+    passed_up c.from_residual-in_err-more.result design.Memory (TellsFirst c.args.design.now) c.from_residual-in_err-more.ensures.1 tt
 
 pub returns-in_err-add_component-clause-refused : goal.returns-in_err-add_component-clause-refused
 returns-in_err-add_component-clause-refused c =

@@ -14,18 +14,20 @@ use Rattle.fil_check.proofs.DesignLemmas.{all_keep, at_mapped, component_ends, k
 use Rattle.fil_share.proofs.ListLemmas.{take_next}
 use Rattle.fil_check.proofs.check.judge_by_reach.Goals as goal
 
-pub returns-in-Err-clause-refused : goal.returns-in-Err-clause-refused
-returns-in-Err-clause-refused c =
+pub returns-in_err-tables-clause-refused : goal.returns-in_err-tables-clause-refused
+returns-in_err-tables-clause-refused c =
     let d = c.args.design.now in
     let n = c.loop-comp.comp-index in
     let comp = c.comp-item.result in
     let tree = component_tree d.names comp in
     let before = take n (design_of d) in
     let at : slice_get (design_of d) n ≡ Some tree = at_mapped (component_tree d.names) d.comps.items c.deref-comp-items.result.now n comp c.deref-comp-items.ensures.value c.loop-comp-test.true c.comp-item.is in
-    component_ends d n comp c.in-Err.end c.in_component.result at c.loop-comp.invariant.kept (c.in-Err.ensures.broken before c.loop-comp.invariant.shown) c.in_component.ensures
+    let told = c.in_err-tables.ensures.broken before c.loop-comp.invariant.shown in
+    let tells = component_ends d n comp c.in_err-tables.field-0.0 at c.loop-comp.invariant.kept told in
+    passed_up c.from_residual.result c.in_err-tables.field-0.0 (TellsFirst d) c.from_residual.ensures.1 tells
 
-pub judge_component-requires-clause-small : goal.judge_component-requires-clause-small
-judge_component-requires-clause-small c =
+pub judged-requires-clause-small : goal.judged-requires-clause-small
+judged-requires-clause-small c =
     let comps = c.args.design.now.comps.items in
     let n = c.loop-comp.comp-index in
     let comp = c.comp-item.result in
@@ -56,9 +58,9 @@ loop-comp-preserved c =
     let W : Design → Type 0 = λ comps. IsWired d.names comps c.in_ok-wired.wired in
     record {
       shown = subst S (sym (take_next (design_of d) n tree at)) (c.in_ok-add_component.ensures before c.loop-comp.invariant.shown);
-      kept = keep_more (design_of d) n tree at c.loop-comp.invariant.kept (c.in-Ok.ensures.kept before c.loop-comp.invariant.shown);
+      kept = keep_more (design_of d) n tree at c.loop-comp.invariant.kept (c.in_ok-tables.ensures.kept before c.loop-comp.invariant.shown);
       wired = subst W (sym (take_next (design_of d) n tree at))
-          (c.in_ok-wired.ensures before (c.in-Ok.ensures.tables before c.loop-comp.invariant.shown) (kept_so_far (design_of d) n c.loop-comp.invariant.kept) (c.in-Ok.ensures.kept before c.loop-comp.invariant.shown) c.loop-comp.invariant.wired);
+          (c.in_ok-wired.ensures before (c.in_ok-tables.ensures.tables before c.loop-comp.invariant.shown) (kept_so_far (design_of d) n c.loop-comp.invariant.kept) (c.in_ok-tables.ensures.kept before c.loop-comp.invariant.shown) c.loop-comp.invariant.wired);
     }
 
 pub new-requires-in-Free-clause-rules : goal.new-requires-in-Free-clause-rules
@@ -99,7 +101,7 @@ returns-clause-refused c =
 
 pub returns-in_err-wired-clause-refused : goal.returns-in_err-wired-clause-refused
 returns-in_err-wired-clause-refused c =
-    passed_up c.from_residual.result design.Memory (TellsFirst c.args.design.now) c.from_residual.ensures.1 tt
+    passed_up c.from_residual-in_err-wired.result design.Memory (TellsFirst c.args.design.now) c.from_residual-in_err-wired.ensures.1 tt
 
 pub returns-in_err-add_component-clause-refused : goal.returns-in_err-add_component-clause-refused
 returns-in_err-add_component-clause-refused c =

@@ -22,6 +22,6 @@ returns-in-OfInstance c instance inst name at plain at_instance =
     let key = key_at texts c.self.inside.set.keys c.self.invariant.0 c.args.place (dotted inst name) (ap (λ (v : PortList). slice_get v.names c.args.place) c.self.view_is ∙ at) in
     let is : key.0 ≡ OfInstance c.in-OfInstance.instance c.in-OfInstance.port =
     sym (get_or_from_slice_get c.as_slice.result.now c.args.place key.0 _ (ap (λ (l : List PortKey). slice_get l c.args.place) c.as_slice.ensures.keys ∙ key.1)) ∙ c.in-OfInstance.is in
-    let at_text = c.begin_with_instances.ensures instance inst (ap (λ (v : PortList). slice_get v.instances instance) c.self.view_is ∙ at_instance) in
+    let at_text = c.begin_with_names.ensures instance inst (ap (λ (v : PortList). slice_get v.instances instance) c.self.view_is ∙ at_instance) in
     let own = of_instance_key texts c.are_distinct.ensures c.in-OfInstance.instance c.in-OfInstance.port instance inst name (subst (IsFit texts) is key.2) (ap (full_name_in texts) (sym is) ∙ key.3) plain at_text in
     (refl, (own.0, sym (get_or_from_slice_get texts c.in-OfInstance.port c.text.result.now [] c.text.ensures) ∙ own.1))

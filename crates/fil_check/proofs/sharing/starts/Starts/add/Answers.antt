@@ -1,12 +1,20 @@
-use Rattle.std.proofs.Common.{arith}
-use Rattle.fil_check.specs.inside.Keys.{Key}
-use Rattle.fil_check.proofs.StartsLemmas.{puts_use, small_inserted}
+use Rattle.std.proofs.Common.{◌≡◌, ◌<◌, ◌^◌, Some, None, slice_index_or, refl, sym, ◌∙◌, arith}
+use Rattle.fil_check.proofs.StartsLemmas.{IsPlaced, IsSmall, all_inserted, alone_inserted, puts_other}
 use Rattle.fil_check.proofs.sharing.starts.Starts.add.Goals as goal
 
 pub invariant_of-self : goal.invariant_of-self
 invariant_of-self c =
-    let key : Key = (c.args.instance, c.args.event, c.args.held.at.plus) in
-    record { small = small_inserted c.args.self.now.uses c.insert.new.self key c.args.held c.insert.result c.insert.ensures.updates c.insert.ensures.err c.args.self.now.small (omega arith) c.requires.small }
+    let starts = c.args.self.now in
+    let n = c.args.instance in
+    let f = c.in-Some.first in
+    let is : slice_index_or starts.firsts.items n None ≡ Some f = sym c.first_of.ensures ∙ c.in-Some.is in
+    let small : c.args.held.at.plus < 2 ^ 16 = omega arith in
+    record {
+      small = all_inserted starts.firsts.items n f is starts.others c.insert.new.self c.args.event c.args.held IsSmall c.insert.result c.insert.ensures.updates c.insert.ensures.err (small, c.requires.small) starts.small;
+      placed = all_inserted starts.firsts.items n f is starts.others c.insert.new.self c.args.event c.args.held IsPlaced c.insert.result c.insert.ensures.updates c.insert.ensures.err refl starts.placed;
+      alone = alone_inserted starts.firsts.items n f is starts.others c.insert.new.self c.args.event c.args.held c.insert.result c.insert.ensures.updates c.insert.ensures.err starts.alone;
+    }
 
-pub returns : goal.returns
-returns c = puts_use c.args.self.now _ c.args.instance c.args.event c.args.held c.in_ok-_before.ensures.updates
+pub returns-in_ok-_before-in-Some : goal.returns-in_ok-_before-in-Some
+returns-in_ok-_before-in-Some c =
+    puts_other c.args.self.now _ c.args.instance c.args.event c.args.held c.in-Some.first (sym c.first_of.ensures ∙ c.in-Some.is) refl c.in_ok-_before-in-Some.ensures.updates

@@ -1,28 +1,31 @@
-use Rattle.fil_check.proofs.StartsLemmas.{none_until, last_found, last_elsewhere, small_at}
-use Rattle.fil_check.proofs.sharing.starts.Starts.last_until.Goals.{else-key-instance-via-then-key-instance+else-key-event, else-key-instance-via-else-key-instance}
+use Rattle.std.proofs.Common.{sym, ◌∙◌}
+use Rattle.fil_check.proofs.FirstLemmas.{alone_at, later, own_until, small_until}
 use Rattle.fil_check.proofs.sharing.starts.Starts.last_until.Goals as goal
 
-pub returns-in_err-key-clause-found : goal.returns-in_err-key-clause-found
-returns-in_err-key-clause-found c =
+pub returns-then-first-clause-found : goal.returns-then-first-clause-found
+returns-then-first-clause-found c =
     let starts = c.args.self.now in
-    rw c.from_residual.ensures (none_until starts c.args.instance c.args.event c.args.start c.range.result (c.range.ensures.in_range tt) c.in_err-key.ensures.steps.0)
+    let is = sym c.first_of.ensures ∙ c.in_ok-first.was in
+    own_until starts c.args.instance c.args.event c.args.start c.in_ok-first.first is c.held_until-own.result c.held_until-own.ensures
+    (λ s le. alone_at starts c.args.instance c.args.event c.args.start c.in_ok-first.first is c.if-first.true s)
 
-pub returns-then-key-event-clause-found : goal.returns-then-key-event-clause-found
-returns-then-key-event-clause-found c =
-    last_found c.args.self.now c.args.instance c.args.event c.args.start c.range.result (c.range.ensures.in_range tt) c.in_ok-key.key.now c.in_ok-key.held.now c.next_back.new.self c.in_ok-key.ensures.steps
-    c.if-key-instance.true c.if-key-event.true
+pub returns-then-first-clause-small : goal.returns-then-first-clause-small
+returns-then-first-clause-small c =
+    let starts = c.args.self.now in
+    let is = sym c.first_of.ensures ∙ c.in_ok-first.was in
+    small_until starts c.args.instance c.args.event c.args.start c.held_until-own.result
+    (own_until starts c.args.instance c.args.event c.args.start c.in_ok-first.first is c.held_until-own.result c.held_until-own.ensures
+    (λ s le. alone_at starts c.args.instance c.args.event c.args.start c.in_ok-first.first is c.if-first.true s))
 
-pub returns-then-key-event-clause-small : goal.returns-then-key-event-clause-small
-returns-then-key-event-clause-small c =
-    let found = last_found c.args.self.now c.args.instance c.args.event c.args.start c.range.result (c.range.ensures.in_range tt) c.in_ok-key.key.now c.in_ok-key.held.now c.next_back.new.self c.in_ok-key.ensures.steps c.if-key-instance.true c.if-key-event.true in
-    small_at c.args.self.now c.args.instance c.args.event found.start c.in_ok-key.held.now found.there
+pub returns-clause-found : goal.returns-clause-found
+returns-clause-found c =
+    let is = sym c.first_of.ensures ∙ c.in_ok-first.was in
+    later c.args.self.now c.args.instance c.args.event c.args.start c.in_ok-first.first is c.other_until.result c.held_until-own.result c.later_of.result c.other_until.ensures c.held_until-own.ensures
+    c.later_of.ensures.only c.later_of.ensures.only_other c.later_of.ensures.one c.later_of.ensures.other
 
-pub returns-else-key-instance-clause-found : goal.returns-else-key-instance-clause-found
-returns-else-key-instance-clause-found c = elim c.else-key-instance.branch [
-  | else-key-instance-via-then-key-instance+else-key-event w ↦
-      last_elsewhere c.args.self.now c.args.instance c.args.event c.args.start c.range.result (c.range.ensures.in_range tt) c.in_ok-key.key.now c.in_ok-key.held.now c.next_back.new.self c.in_ok-key.ensures.steps
-      (λ same_i same_k. w.if-key-event.false same_k)
-  | else-key-instance-via-else-key-instance w ↦
-      last_elsewhere c.args.self.now c.args.instance c.args.event c.args.start c.range.result (c.range.ensures.in_range tt) c.in_ok-key.key.now c.in_ok-key.held.now c.next_back.new.self c.in_ok-key.ensures.steps
-      (λ same_i same_k. w.if-key-instance.false same_i)
-]
+pub returns-clause-small : goal.returns-clause-small
+returns-clause-small c =
+    let is = sym c.first_of.ensures ∙ c.in_ok-first.was in
+    small_until c.args.self.now c.args.instance c.args.event c.args.start c.later_of.result
+    (later c.args.self.now c.args.instance c.args.event c.args.start c.in_ok-first.first is c.other_until.result c.held_until-own.result c.later_of.result c.other_until.ensures c.held_until-own.ensures
+    c.later_of.ensures.only c.later_of.ensures.only_other c.later_of.ensures.one c.later_of.ensures.other)
