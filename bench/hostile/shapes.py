@@ -333,13 +333,25 @@ def cal_reach_cells(count):
     return cal(wide_cal(count) + component("".join(f"x{i} = wide();\n" for i in range(count))))
 
 
-def fil_reach(count):
-    """A component with so many inputs and outputs, of which each output is the sum of the inputs up to it, and an instance of it."""
+def wide_fil(count):
+    """A component with so many inputs and outputs, of which each output is the sum of the inputs up to it."""
     ins, outs = (", ".join(f"@[G, G+1] {side}{i}: 1" for i in range(count)) for side in "ao")
     body = "s0 := new Not[1]<G>(a0);\n" + "".join(f"s{i} := new Or[1]<G>(s{i - 1}.out, a{i});\n" for i in range(1, count))
     body += "".join(f"o{i} = s{i}.out;\n" for i in range(count))
-    use = f"comp main<G: 1>(@[G, G+1] a: 1) -> () {{ w := new Wide<G>({', '.join(['a'] * count)}); }}\n"
-    return fil(f"comp Wide<G: 1>({ins}) -> ({outs}) {{\n{body}}}\n{use}")
+    return f"comp Wide<G: 1>(@interface[G] go: 1, {ins}) -> ({outs}) {{\n{body}}}\n"
+
+
+def fil_reach(count):
+    """An instance of it."""
+    use = f"w := new Wide<G>({', '.join(['a'] * count)});"
+    return fil(f"{wide_fil(count)}comp main<G: 1>(@interface[G] go: 1, @[G, G+1] a: 1) -> () {{ {use} }}\n")
+
+
+def fil_reach_loop(count):
+    """An instance of it and one of Not: each is given what the other makes, in two cycles."""
+    use = f"W := new Wide; N := new Not[1]; n := N<G>(a); w := W<G>({', '.join(['n.out'] + ['a'] * (count - 1))}); "
+    use += f"later := W<G+1>({', '.join(['a'] * count)}); back := N<G+1>(later.o{count - 1});"
+    return fil(f"{wide_fil(count)}comp main<G: 2>(@interface[G] go: 1, @[G, G+2] a: 1) -> () {{ {use} }}\n")
 
 
 def lead(count):

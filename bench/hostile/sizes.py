@@ -133,6 +133,7 @@ TABLE = [
 # What the program does not keep, as is known.
 KNOWN = [
     Row(shapes.cal_reach_loop, 8_000, "check f.futil", ends("refused C12 main item 0 loop x.a0 x.o7999")),
+    Row(shapes.fil_reach_loop, 8_000, "check f.fil", ends("refused F14 main item 0 loop N.in W.o7999 W.a0 N.out")),
 ]
 
 
