@@ -11,7 +11,7 @@ use Rattle.hw_graph.proofs.SearchLemmas.{taken_read, contained_at, pushed, pushe
 use Rattle.hw_graph.proofs.WalkLemmas.{last_on, cases_looked, reached_more, seen_stays, seen_set, seen_within, all_looked, reads_seen}
 use Rattle.hw_graph.specs.ByName.{IsAtMost, IsLeastMarked}
 use Rattle.hw_graph.specs.inside.Components.{NeverRises, LeavesNoCycle}
-use Rattle.hw_graph.specs.Graph.{HasRead, AreInRange, IsCycle, IsCycleFrom, IsLeastCycle, Reaches, Directly, Through, IsOffCycles}
+use Rattle.hw_graph.specs.Graph.{HasRead, AreInRange, IsCycle, IsCycleFrom, IsLeastCycle, IsLeastCycleAmong, Reaches, Directly, Through, IsOffCycles}
 use Rattle.hw_graph.specs.inside.Unread.{AreUnread, TakesRead}
 use Rattle.hw_graph.specs.Walk.{is_seen, IsWalk, IsStep}
 use Rattle.hw_graph.specs.declared.walk.Walk.{Walk}
@@ -155,11 +155,8 @@ seeking_over reads start w s over loop = by start start s.reached loop refl
 
 -- ---- the least port that may lie on a cycle
 
-pub all_off : (reads : List (List ℕ)) (marks : List Bool) → LeavesNoCycle reads marks → ((port : ℕ) → port < length marks → get_or marks port false ≡ false) → (port : ℕ) → IsOffCycles reads port
-all_off reads marks leaves none port = elim (cases_lt port (length reads)) [
-  | inl lt ↦ leaves.others port lt (none port (omega (arith, lt, leaves.all)))
-  | inr past ↦ off_past reads port port past
-]
+pub all_off : (reads : List (List ℕ)) (count : ℕ) (marks : List Bool) → LeavesNoCycle reads count marks → ((port : ℕ) → port < length marks → get_or marks port false ≡ false) → (port : ℕ) → port < count → IsOffCycles reads port
+all_off reads count marks leaves none port lt = leaves.others port lt (none port (omega (arith, lt, leaves.all)))
 
 abbrev pub one_if : Bool → ℕ
 one_if marked = if marked then 1 else 0
@@ -173,8 +170,8 @@ mark_count_falls marks port within marked =
     omega (arith, sum_by-set one_if marks port false false within, ap one_if marked)
 
 -- a mark is taken from a port that lies on no cycle
-pub mark_taken : (reads : List (List ℕ)) (marks : List Bool) (port : ℕ) → LeavesNoCycle reads marks → IsOffCycles reads port → LeavesNoCycle reads (set marks port false)
-mark_taken reads marks port leaves off = record {
+pub mark_taken : (reads : List (List ℕ)) (count : ℕ) (marks : List Bool) (port : ℕ) → LeavesNoCycle reads count marks → IsOffCycles reads port → LeavesNoCycle reads count (set marks port false)
+mark_taken reads count marks port leaves off = record {
   all = length-set marks port false ∙ leaves.all;
   others = λ q lt unmarked. elim (cases_eq q port) [
     | inl same ↦ subst (IsOffCycles reads) (sym same) off
@@ -182,15 +179,23 @@ mark_taken reads marks port leaves off = record {
   ];
 }
 
-pub least_is : (reads : List (List ℕ)) (names : List Text) (marks : List Bool) (start : ℕ) (ports : List ℕ) → LeavesNoCycle reads marks → IsLeastMarked names marks start → IsCycleFrom reads start ports → IsLeastCycle reads names ports
-least_is reads names marks start ports leaves least cycle = record { is_cycle = cycle.is_cycle; least = first }
+pub least_is : (reads : List (List ℕ)) (names : List Text) (marks : List Bool) (start : ℕ) (ports : List ℕ) → LeavesNoCycle reads (length names) marks → IsLeastMarked names marks start → IsCycleFrom reads start ports → IsLeastCycleAmong reads names ports
+least_is reads names marks start ports leaves least cycle = record {
+  is_cycle = cycle.is_cycle;
+  named = omega (arith, cycle.first, least.within, leaves.all);
+  least = λ port lt loop. rw cycle.first (least.first port (omega (arith, lt, leaves.all)) (marked port lt loop (get_or marks port false) refl));
+}
   where
-    marked : (port : ℕ) → port < length reads → Reaches reads port port → (b : Bool) → get_or marks port false ≡ b → get_or marks port false ≡ true
+    marked : (port : ℕ) → port < length names → Reaches reads port port → (b : Bool) → get_or marks port false ≡ b → get_or marks port false ≡ true
     marked port lt loop true e = e
     marked port lt loop false e = absurd (leaves.others port lt e loop)
 
+-- where each node is a port
+pub least_of_all : (reads : List (List ℕ)) (names : List Text) (ports : List ℕ) → length reads ≡ length names → IsLeastCycleAmong reads names ports → IsLeastCycle reads names ports
+least_of_all reads names ports all cycle = record { is_cycle = cycle.is_cycle; least = first }
+  where
     first : (port : ℕ) → Reaches reads port port → IsAtMost names (get_or ports 0 0) port
     first port loop = elim (cases_lt port (length reads)) [
-      | inl lt ↦ rw cycle.first (least.first port (omega (arith, lt, leaves.all)) (marked port lt loop (get_or marks port false) refl))
+      | inl lt ↦ cycle.least port (omega (arith, lt, all)) loop
       | inr past ↦ absurd (off_past reads port port past loop)
     ]

@@ -52,3 +52,9 @@ IsOffCycles reads port = Reaches reads port port → ⊥
 pub record IsLeastCycle (reads : List (List ℕ)) (names : List Text) (ports : List ℕ) : Type 0 where
   pub is_cycle : IsCycle reads ports
   pub least : (port : ℕ) → Reaches reads port port → IsAtMost names (slice_index ports 0) port
+
+-- a cycle that starts with the least port that lies on any, by the bytes of its name; the ports are the first nodes, as many as have names
+pub record IsLeastCycleAmong (reads : List (List ℕ)) (names : List Text) (ports : List ℕ) : Type 0 where
+  pub is_cycle : IsCycle reads ports
+  pub named : slice_index ports 0 < length names
+  pub least : (port : ℕ) → port < length names → Reaches reads port port → IsAtMost names (slice_index ports 0) port

@@ -1,8 +1,8 @@
 //! The least loop of a graph: the one that starts with the least port, by its name, that lies on any.
-ghost use Rattle.std.specs.Prelude.{◌≡◌, ℕ, ◌<◌, ◌^◌, ◌↔◌, length, slice_index, All, Any, IfOk, IfNone, IfSome, IsTrue};
+ghost use Rattle.std.specs.Prelude.{◌≡◌, ℕ, ◌<◌, ◌≤◌, ◌^◌, ◌↔◌, length, slice_index, All, Any, IfOk, IfNone, IfSome, IsTrue};
 ghost use Rattle.hw_graph.specs.inside.Components.{NeverRises, LeavesNoCycle};
 ghost use Rattle.hw_graph.specs.Loop.{IfLoop};
-ghost use Rattle.hw_graph.specs.Graph.{AreInRange, IsReadOrder, IsCycleFrom, IsLeastCycle, IsOffCycles};
+ghost use Rattle.hw_graph.specs.Graph.{AreInRange, IsReadOrder, IsCycleFrom, IsLeastCycle, IsLeastCycleAmong, IsOffCycles};
 
 use crate::by_name::least_marked;
 use crate::components::component_numbers;
@@ -29,25 +29,33 @@ pub fn order_or_least_loop(
     match read_order(alloc, reads) {
         Ok(order) => Ok(order),
         Err(OrderEnd::Memory) => Err(OrderEnd::Memory),
-        Err(OrderEnd::Loop { ports: _some }) => match least_cycle(alloc, reads, names)? {
+        Err(OrderEnd::Loop { ports: _some }) => match least_loop_among(alloc, reads, names)? {
             Some(ports) => Err(OrderEnd::Loop { ports }),
             None => unreachable!(),
         },
     }
 }
 
-/// The least loop, if there is any. As the numbers are those of the strongly connected components, each
-/// port with a mark lies on a loop, and the first search finds it; were it not so, others would follow.
-fn least_cycle(alloc: Global, reads: &Groups, names: &Names) -> Result<Option<Vec<usize>>, Memory>
+/// The loop that starts with the least port, by the bytes of its name, that lies on any; none where no
+/// port lies on one. The ports are the first nodes, as many as there are names; nodes behind them have no
+/// names.
+pub fn least_loop_among(
+    alloc: Global,
+    reads: &Groups,
+    names: &Names,
+) -> Result<Option<Vec<usize>>, Memory>
     requires in_range { AreInRange reads.now }
-    requires names { length reads.now ≡ length names.now }
+    requires names { length names.now ≤ length reads.now }
     requires room { length reads.now < 2 ^ 32 }
     ensures some { IfOk result
-        (λ found. IfSome found (λ ports. IsLeastCycle reads.now names.now ports.items)) }
-    ensures none { IfOk result (λ found. IfNone found ((port : ℕ) → IsOffCycles reads.now port)) }
+        (λ found. IfSome found (λ ports. IsLeastCycleAmong reads.now names.now ports.items)) }
+    ensures none { IfOk result
+        (λ found. IfNone found ((port : ℕ) → port < length names.now → IsOffCycles reads.now port)) }
 {
     let numbers = component_numbers(alloc, reads)?;
-    let mut marks = mark_inner_readers(alloc, reads, numbers.as_slice())?;
+    let mut marks = mark_inner_readers(alloc, reads, numbers.as_slice(), names.len())?;
+    // As the numbers are those of the strongly connected components, each port with a mark lies on a loop,
+    // and the first search finds it; were it not so, others would follow.
     while let Some(port) = least_marked(names, marks.as_slice()) {
         if let Some(ports) = cycle_from(alloc, reads, port)? {
             return Ok(Some(ports));
@@ -57,15 +65,22 @@ fn least_cycle(alloc: Global, reads: &Groups, names: &Names) -> Result<Option<Ve
     Ok(None)
 }
 
-/// Marks the ports that read one of their own number. No other lies on a loop.
-fn mark_inner_readers(alloc: Global, reads: &Groups, numbers: &[usize]) -> Result<Vec<bool>, Memory>
+/// Marks those of the first ports, as many as the count says, that read one of their own number. No other
+/// of them lies on a loop.
+fn mark_inner_readers(
+    alloc: Global,
+    reads: &Groups,
+    numbers: &[usize],
+    count: usize,
+) -> Result<Vec<bool>, Memory>
     requires in_range { AreInRange reads.now }
     requires all { length numbers.now ≡ length reads.now }
     requires falling { NeverRises reads.now numbers.now }
-    ensures { IfOk result (λ marks. LeavesNoCycle reads.now marks.items) }
+    requires count { count ≤ length reads.now }
+    ensures { IfOk result (λ marks. LeavesNoCycle reads.now count marks.items) }
 {
     let mut marks = Vec::new(alloc);
-    for port in 0..reads.len() {
+    for port in 0..count {
         marks.push(has_number(numbers, reads.get(port), numbers[port]))?;
     }
     Ok(marks)

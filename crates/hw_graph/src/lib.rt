@@ -18,6 +18,7 @@
 //! What the layer above uses: `order_or_least_loop` gives an order (`IsReadOrder`) or a least loop (`IsLeastCycle`), and
 //! `read_order` an order or some loop (`IsCycle`), without names; `Reach::from` gives exactly the ports that a port reads,
 //! directly or through others (`Reaches`), each once; `gather` gives each key its values in their order (`IsGathered`).
+//! `least_loop_among` gives the least loop where only the first nodes are ports with names (`IsLeastCycleAmong`).
 #![tactic(auto)]
 
 mod by_name;
@@ -32,7 +33,7 @@ mod walk;
 
 pub use by_name::lesser_of;
 pub use groups::{Entry, Groups, gather};
-pub use least_loop::order_or_least_loop;
+pub use least_loop::{least_loop_among, order_or_least_loop};
 pub use order_end::OrderEnd;
 pub use reach::Reach;
 pub use search::read_order;

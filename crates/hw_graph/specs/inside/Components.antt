@@ -11,7 +11,7 @@ NeverRises reads numbers = (port other : ℕ) → HasRead reads port other → s
 abbrev pub AreBelow : ℕ → List Entry → Type 0
 AreBelow count entries = All (λ (e : Entry). (e.key < count) × (e.value < count)) entries
 
--- a port without a mark lies on no cycle
-pub record LeavesNoCycle (reads : List (List ℕ)) (marks : List Bool) : Type 0 where
-  pub all : length marks ≡ length reads
-  pub others : (port : ℕ) → port < length reads → slice_index_or marks port false ≡ false → IsOffCycles reads port
+-- of the first ports, as many as the count says, those without a mark lie on no cycle
+pub record LeavesNoCycle (reads : List (List ℕ)) (count : ℕ) (marks : List Bool) : Type 0 where
+  pub all : length marks ≡ count
+  pub others : (port : ℕ) → port < count → slice_index_or marks port false ≡ false → IsOffCycles reads port
