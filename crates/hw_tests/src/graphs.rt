@@ -4,13 +4,15 @@ ghost use Rattle.hw_graph.specs.inside.Components.{AreBelow};
 ghost use Rattle.hw_graph.specs.Graph.{AreInRange};
 
 use hw_bits::Memory;
-use hw_graph::{Entry, Groups, OrderEnd, Reach, gather, lesser_of, order_or_least_loop};
+use hw_graph::{
+    Entry, Groups, OrderEnd, Reach, gather, least_loop_among, lesser_of, order_or_least_loop,
+};
 use hw_names::Names;
 use std::alloc::Global;
 use std::test::Fail;
 
 /// What reads what, by the numbers of ports.
-type Reads = &'static [(usize, usize)];
+pub(crate) type Reads = &'static [(usize, usize)];
 
 /// Names of ports and what reads what; whether there is an order, and its ports or those of the least loop.
 const GRAPHS: [(&[&str], Reads, bool, &[usize]); 5] = [
@@ -43,7 +45,7 @@ fn names_of(alloc: Global, texts: &[&str]) -> Result<Names, Memory> {
 }
 
 /// An entry for each read.
-fn entries_of(alloc: Global, reads: &[(usize, usize)]) -> Result<Vec<Entry>, Memory> {
+pub(crate) fn entries_of(alloc: Global, reads: &[(usize, usize)]) -> Result<Vec<Entry>, Memory> {
     let mut entries = Vec::new(alloc);
     for (key, value) in reads {
         entries.push(Entry {
@@ -55,7 +57,7 @@ fn entries_of(alloc: Global, reads: &[(usize, usize)]) -> Result<Vec<Entry>, Mem
 }
 
 /// Whether all entries are of ports below a count.
-fn are_below(entries: &[Entry], count: usize) -> bool
+pub(crate) fn are_below(entries: &[Entry], count: usize) -> bool
     ensures { IsTrue result → AreBelow count entries.now }
 {
     entries
@@ -64,7 +66,7 @@ fn are_below(entries: &[Entry], count: usize) -> bool
 }
 
 /// A graph of so many ports.
-fn graph(alloc: Global, reads: &[(usize, usize)], count: usize) -> Result<Groups, Memory>
+pub(crate) fn graph(alloc: Global, reads: &[(usize, usize)], count: usize) -> Result<Groups, Memory>
     ensures all { IfOk result (λ graph. length graph ≡ count) }
     ensures in_range { IfOk result (λ graph. AreInRange graph) }
 {
@@ -90,7 +92,7 @@ fn end_of(
 }
 
 /// What is reached from each port, by one search.
-fn all_reached(alloc: Global, graph: &Groups) -> Result<Vec<Vec<usize>>, Memory>
+pub(crate) fn all_reached(alloc: Global, graph: &Groups) -> Result<Vec<Vec<usize>>, Memory>
     requires { AreInRange graph.now }
 {
     let mut reach = Reach::new(alloc, graph)?;
@@ -108,6 +110,25 @@ fn the_order_or_the_least_loop_is_told(rt: HostRuntime) -> Result<(), Fail> {
         let (ports, ordered) = end_of(rt.alloc(), &names, reads)?;
         assert_eq!(rt; ordered, has_order, "{texts:?}");
         assert_eq!(rt; ports.as_slice(), told, "{texts:?}");
+    }
+    Ok(())
+}
+
+#[test]
+fn the_least_loop_of_those_with_names_is_told(rt: HostRuntime) -> Result<(), Fail> {
+    // Two loops: one of the nodes 0 and 3, and one of 4 and 5, which have no names; port 1 reads the one, and port 2 the other.
+    let reads: [(usize, usize); 6] = [(0, 3), (3, 0), (1, 0), (4, 5), (5, 4), (2, 4)];
+    let told: [(&[&str], &[usize]); 2] = [(&["c", "b", "a"], &[0, 3]), (&[], &[])];
+    let graph = graph(rt.alloc(), &reads, 6)?;
+    for (texts, ports) in told {
+        let names = names_of(rt.alloc(), texts)?;
+        if names.len() > 6 {
+            return Err("too many names".into());
+        }
+        match least_loop_among(rt.alloc(), &graph, &names)? {
+            Some(found) => assert_eq!(rt; found.as_slice(), ports, "{texts:?}"),
+            None => assert!(rt; ports.is_empty(), "{texts:?}"),
+        }
     }
     Ok(())
 }

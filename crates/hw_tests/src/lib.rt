@@ -1,6 +1,6 @@
-//! Tests of values, names, graphs, files, tokens, terminals and primitives: tables, one file for each subject.
+//! Tests of values, names, graphs, levels, cells, files, tokens, terminals and primitives: tables, one file for each subject.
 //!
-//! Tests alone, of the crates `hw_bits`, `hw_names`, `hw_graph`, `hw_io`, `hw_lex`, `hw_grammar` and `hw_prims`. They stand in a
+//! Tests alone, of the crates `hw_bits`, `hw_names`, `hw_graph`, `hw_levels`, `hw_cells`, `hw_io`, `hw_lex`, `hw_grammar` and `hw_prims`. They stand in a
 //! crate of their own, since a crate with tests would be proved twice. Each table has what goes in and what comes out, told by
 //! hand; so it is also a list of examples to read:
 //!
@@ -11,6 +11,8 @@
 
 #[cfg(test)]
 mod bits;
+#[cfg(test)]
+mod cells;
 #[cfg(test)]
 mod files;
 #[cfg(test)]

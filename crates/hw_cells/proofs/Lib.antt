@@ -1,0 +1,5 @@
+pub mod WayLemmas
+pub mod LoopLemmas
+pub mod CopyLemmas
+pub mod PairLemmas
+pub mod FlatLemmas

@@ -1,0 +1,60 @@
+-- Ports that read one another, at once or through cells that have graphs of their own. This project's.
+use Rattle.std.specs.Prelude.{◌≡◌, ◌⊎◌, ◌↔◌, ℕ, ◌+◌, ◌-◌, ◌<◌, ◌≤◌, nat_lt, Bool, List, length, filter, slice_index, All, Contains}
+use Rattle.hw_graph.specs.Graph as graph
+use Rattle.hw_graph.specs.Graph.{AreInRange}
+use Rattle.hw_graph.specs.declared.groups.Entry.{Entry}
+use Rattle.hw_cells.specs.declared.cell.Cell.{Cell}
+use Rattle.hw_cells.specs.declared.cell.Pin.{Pin}
+
+-- the nodes are one, or the one reaches the other
+abbrev pub IsOrReaches : List (List ℕ) → ℕ → ℕ → Type 0
+IsOrReaches reads node other = (node ≡ other) ⊎ graph.Reaches reads node other
+
+-- through the cell the one port reads the other: it is an output, the other an input, and in the cell's graph the node of the one reaches that of the other
+pub record ReadsThrough (cell : Cell) (port other : ℕ) : Type 0 where
+  pub output : Pin
+  pub input : Pin
+  pub has_output : Contains cell.outputs.items output
+  pub has_input : Contains cell.inputs.items input
+  pub is_output : output.port ≡ port
+  pub is_input : input.port ≡ other
+  pub reaches : IsOrReaches cell.reads.now output.node input.node
+
+-- the port reads the other, as an entry says or through a cell
+abbrev pub Reads : List Entry → List Cell → ℕ → ℕ → Type 0
+Reads entries cells port other =
+    Contains entries (record { key = port; value = other }) ⊎ ((cell : Cell) × Contains cells cell × ReadsThrough cell port other)
+
+-- the port reads the other, directly or through others
+pub data Reaches (entries : List Entry) (cells : List Cell) : ℕ → ℕ → Type 0 where
+  Directly : (port other : ℕ) → Reads entries cells port other → Reaches entries cells port other
+  Through : (port next other : ℕ) → Reads entries cells port next → Reaches entries cells next other → Reaches entries cells port other
+
+-- distinct ports, of which each reads the next, and the last the first
+pub record IsLoop (entries : List Entry) (cells : List Cell) (ports : List ℕ) : Type 0 where
+  pub some : 0 < length ports
+  pub along : (i : ℕ) → i + 1 < length ports → Reads entries cells (slice_index ports i) (slice_index ports (i + 1))
+  pub back : Reads entries cells (slice_index ports (length ports - 1)) (slice_index ports 0)
+  pub once : (i j : ℕ) → i < length ports → j < length ports → slice_index ports i ≡ slice_index ports j → i ≡ j
+
+-- the pin is one of so many ports, and its node one of so many nodes
+abbrev pub IsPinWithin : ℕ → ℕ → Pin → Type 0
+IsPinWithin ports nodes pin = (pin.port < ports) × (pin.node < nodes)
+
+-- a cell of a holder that has so many ports
+pub record IsFit (ports : ℕ) (cell : Cell) : Type 0 where
+  pub in_range : AreInRange cell.reads.now
+  pub outputs : All (IsPinWithin ports (length cell.reads.now)) cell.outputs.items
+  pub inputs : All (IsPinWithin ports (length cell.reads.now)) cell.inputs.items
+
+-- whether the number is below the count
+abbrev pub is_below : ℕ → ℕ → Bool
+is_below count number = nat_lt number count
+
+-- a graph whose first nodes are the ports: between them it leads as they read one another, and a loop of it that starts with a port is one of theirs, but
+-- for the nodes between
+pub record IsFlat (entries : List Entry) (ports : ℕ) (cells : List Cell) (reads : List (List ℕ)) : Type 0 where
+  pub in_range : AreInRange reads
+  pub all : ports ≤ length reads
+  pub reaches : (port other : ℕ) → port < ports → other < ports → graph.Reaches reads port other ↔ Reaches entries cells port other
+  pub loops : (nodes : List ℕ) → graph.IsCycle reads nodes → slice_index nodes 0 < ports → IsLoop entries cells (filter (is_below ports) nodes)

@@ -1,0 +1,19 @@
+//! Cells with graphs of their own.
+
+use hw_graph::Groups;
+
+/// A port of a holder that is one of a cell: its number among the holder's ports, and its node in the cell's graph.
+#[derive(Clone, Copy, Debug)]
+pub struct Pin {
+    pub port: usize,
+    pub node: usize,
+}
+
+/// A cell: the graph of what it is made of, and its outputs and inputs. An output reads what its node reaches.
+#[derive(Drop)]
+pub struct Cell<'a> {
+    /// For each node of the graph the nodes that it reads.
+    pub reads: &'a Groups,
+    pub outputs: Vec<Pin>,
+    pub inputs: Vec<Pin>,
+}

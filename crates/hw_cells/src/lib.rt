@@ -1,0 +1,24 @@
+//! Graphs of ports that read one another, at once or through cells that have graphs of their own.
+//!
+//! In: for each port of a holder the ports that it reads, as entries by number; and its cells, each with the graph of what it is
+//! made of, and the nodes in that graph of those of the holder's ports that are the cell's outputs and inputs (`Cell`). Out: one graph
+//! for all, in which ports reach ports exactly as they do at once and through cells (`flatten`).
+//!
+//!     a reads x.o, x.i reads a           the cell x: o reads w, w reads i
+//!     flat: a reads x.o, x.o reads o', o' reads w', w' reads i', i' reads x.i, x.i reads a
+//!
+//! What a cell's outputs reach of its inputs can be as many pairs as there are outputs times inputs, where the graph of what it is made
+//! of has some entries a port. So each cell gets a copy of that graph: its nodes are numbered behind the ports, each of the
+//! cell's outputs reads its node, and the node of each input reads the input. Where outputs are few, and the pairs of an output and an input
+//! at most as many as the graph has nodes, no copy is made: a search from each output gives the inputs that it reads, and they are added alone.
+//!
+//! What the layer above uses: `flatten` gives a graph (`IsFlat`) whose first nodes are the ports; between them it reaches exactly what is
+//! reached at once and through cells, and a loop in it that starts with a port is one of ports, but for the nodes between.
+#![tactic(auto)]
+
+mod cell;
+mod flat;
+mod pairs;
+
+pub use cell::{Cell, Pin};
+pub use flat::flatten;
