@@ -24,8 +24,7 @@ use Rattle.cal_check.specs.declared.signature.Signature.{Signature}
 use Rattle.cal_check.specs.declared.wire_graph.WireGraph.{WireGraph}
 use Rattle.cal_check.proofs.FirstLemmas.{slice_get-front, slice_get-last}
 use Rattle.cal_check.proofs.FoundLemmas.{found_first, from_map}
-use Rattle.cal_check.proofs.KeyLemmas.{same_port}
-use Rattle.cal_check.proofs.LevelLemmas.{same_pin}
+use Rattle.cal_check.proofs.KeyLemmas.{same_pin}
 use Rattle.cal_check.proofs.NamingLemmas.{names_both}
 use Rattle.cal_check.proofs.NestLemmas.{first_named, one_first}
 use Rattle.cal_check.proofs.PlaceLemmas.{made_at_first}
@@ -68,7 +67,7 @@ module _ (design : Design) (c : Component) (g : WireGraph) (levels : List Levels
         let here : slice_get g.ports.keys port.node ≡ Some (key_of (APort (port_of cell pin))) = ap (slice_get g.ports.keys) same ∙ at in
         let keys : key_of (APort (port_of is.cell is.pin)) ≡ key_of (APort (port_of cell pin)) =
         same_Some (key_of (APort (port_of is.cell is.pin))) (key_of (APort (port_of cell pin))) (sym is.number.at ∙ here) in
-        same_pin is.cell cell is.pin pin (same_port (port_of is.cell is.pin) (port_of cell pin) keys)
+        same_pin is.cell cell is.pin pin keys
 
     -- the number of its cell
     pub cell_told : (r : Option ℕ) → TellsFirst (cell_names c.cells) cell r → r ≡ Some port.cell

@@ -295,10 +295,6 @@ module _ {X : Type 0} (R : ℕ → X → Node → Node → Type 0) where
   pub grows_start : (xs : List X) (g : WireGraph) → Grows (AnyAt R (take 0 xs)) g g
   grows_start xs g = grows_none (AnyAt R []) g (at_none R)
 
-  -- keys are added first
-  pub grows_first : (xs : List X) (a b : WireGraph) → Grows NoPair a b → Grows (AnyAt R (take 0 xs)) a b
-  grows_first xs a b grows = grows_same NoPair (AnyAt R []) a b (λ n o. (λ none. absurd none, λ r. at_none R n o r)) grows
-
   pub grows_next : (xs : List X) (i : ℕ) (x : X) (a b c : WireGraph) → slice_get xs i ≡ Some x → Grows (AnyAt R (take i xs)) a b → Grows (R i x) b c → Grows (AnyAt R (take (i + 1) xs)) a c
   grows_next xs i x a b c at first second = record { adds = adds_next R xs i x a b c at first.adds second.adds; holes = second.holes ∙ first.holes }
 

@@ -5,12 +5,13 @@ use Rattle.std.specs.Prelude.{◌==◌}
 use Rattle.std.proofs.lemmas.List.{take_more}
 use Rattle.std.proofs.lemmas.List.Concat.{flat_map-append}
 use Rattle.std.proofs.lemmas.Nat.{from_be_bytes-to_be_bytes_8}
+use Rattle.std.proofs.lemmas.Option.{same_Some}
 use Rattle.std.specs.Cmp.Lexicographic.{slice_cmp}
 use Rattle.std.specs.Ordering.{nat_cmp, ordering_then}
 use Rattle.std.specs.declared.cmp.Ordering.{Ordering}
 use Rattle.std.specs.declared.cmp.Ordering.TheVariants.{Less, Equal, Greater}
 use Rattle.hw_names.specs.Name.{Text, dot}
-use Rattle.cal_ast.specs.Tree.{PortName}
+use Rattle.cal_ast.specs.Tree.{PortName, port_of}
 use Rattle.cal_ast.specs.Wires.{shown}
 use Rattle.cal_check.specs.inside.Nodes.{APort, AHole, Node, HasKey, IsName, cell_key, key_of, marked}
 use Rattle.cal_check.specs.declared.keys.TheConstants.{BYTE, END, HOLE}
@@ -75,6 +76,12 @@ same_port p q e =
         let cell : c ≡ d = cc in
         let pins : x ≡ y = after_same c x y (same ∙ ap (λ t. t ++ dot ∷ y) (sym cell)) in
         cc
+
+-- so a key tells the cell and the port that it is of
+pub same_pin : (cell other pin name : Text) → key_of (APort (port_of cell pin)) ≡ key_of (APort (port_of other name)) → (cell ≡ other) × (pin ≡ name)
+same_pin cell other pin name e =
+    let same = same_port (port_of cell pin) (port_of other name) e in
+    (same_Some cell other (ap (λ p. p.cell) same), ap (λ p. p.pin) same)
 
 -- a port's key is no hole's
 pub port_no_hole : (p : PortName) (k : ℕ) → key_of (APort p) ≡ key_of (AHole k) → ⊥

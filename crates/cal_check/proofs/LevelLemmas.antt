@@ -1,5 +1,5 @@
 -- Levels of a graph that keep those of cells show that the component has no loop, and are levels of its own ports.
-use Rattle.std.proofs.Common.{◌≡◌, inl, inr, ℕ, ◌+◌, ◌<◌, ◌≤◌, true, false, List, [], ◌∷◌, ◌++◌, Some, length, slice_get, Contains, refl, sym, ap, subst, subst₂, ◌∙◌, arith}
+use Rattle.std.proofs.Common.{◌≡◌, ◌⊎◌, inl, inr, ℕ, ◌+◌, ◌<◌, ◌≤◌, true, false, List, [], ◌∷◌, ◌++◌, Some, length, slice_get, Contains, refl, sym, ap, subst, subst₂, ◌∙◌, arith}
 use Rattle.std.specs.Prelude.{slice_index}
 use Rattle.std.proofs.lemmas.Option.{none-some, same_Some, slice_get_within}
 use Rattle.hw_levels.specs.Levels.{AreLevels, IsBelow}
@@ -17,43 +17,28 @@ use Rattle.cal_ast.specs.Tree.{CellDef, Component, Design, PortName, own, port_o
 use Rattle.cal_ast.specs.Wires.{AtOnce, HasNoLoop, Over, Reaches}
 use Rattle.cal_check.specs.Firsts.{IsFirst}
 use Rattle.cal_check.specs.Nests.{HasPart}
-use Rattle.cal_check.specs.inside.Levels.{IsCellPort, IsGraphBut, IsLower, KeepsOwn, ReadsByPart, ShowsLevels, ShowsPartLevels}
+use Rattle.cal_check.specs.inside.Levels.{IsCellPort, IsLower, KeepsOwn, ReadsByPart, ShowsLevels, ShowsPartLevels}
 use Rattle.cal_check.specs.inside.Nodes.{AHole, APort, Node, key_of, ports_in}
+use Rattle.cal_check.specs.inside.Readings.{HasOwnReadings}
 use Rattle.cal_check.specs.inside.WireGraphs.{HasNumber, HasReading, NodeReads}
 use Rattle.cal_check.specs.declared.levels.Levels.{Levels}
 use Rattle.cal_check.specs.declared.wire_graph.WireGraph.{WireGraph}
-use Rattle.cal_check.proofs.DependLemmas.{input_named, output_named}
-use Rattle.cal_check.proofs.FoundLemmas.{first_at, from_map}
+use Rattle.cal_check.proofs.DependLemmas.{input_place, output_place}
+use Rattle.cal_check.proofs.FoundLemmas.{first_at}
 use Rattle.cal_check.proofs.GraphLemmas.{exists_at}
+use Rattle.cal_check.proofs.KeyLemmas.{same_pin}
 use Rattle.cal_check.proofs.NodeLemmas.{NodesAlong, along_reaches, through_nodes}
 use Rattle.cal_check.proofs.PartsLemmas.{first_of_name}
-use Rattle.cal_check.proofs.PortLemmas.{next_absent}
-
--- ---- first places
-
--- where names are distinct each is the first of its own
-pub distinct_first : (list : List Text) (k : ℕ) (name : Text) → AreDistinct list → slice_get list k ≡ Some name → IsFirst list name k
-distinct_first list k name distinct at = record { here = at; new = next_absent list k name distinct at }
+use Rattle.cal_check.proofs.PortLemmas.{distinct_first}
+use Rattle.cal_check.proofs.SaidLemmas.{is_said}
 
 -- ---- a port's place among the ports of its component
-
-named_input : (ins outs : List Pin) (name : Text) → Contains (pin_names ins) name → (j : ℕ) × (j < length ins) × (slice_get (pin_names (ins ++ outs)) j ≡ Some name)
-named_input ins outs name has =
-    let i = place_of (pin_names ins) name has in
-    let pin = from_map (λ (q : Pin). q.name) ins i.0 name i.1 in
-    (i.0, slice_get_within ins i.0 pin.0 pin.1, input_named ins outs i.0 pin.0 pin.1 ∙ ap Some pin.2)
-
-named_output : (ins outs : List Pin) (name : Text) → Contains (pin_names outs) name → (j : ℕ) × (length ins ≤ j) × (slice_get (pin_names (ins ++ outs)) j ≡ Some name)
-named_output ins outs name has =
-    let i = place_of (pin_names outs) name has in
-    let pin = from_map (λ (q : Pin). q.name) outs i.0 name i.1 in
-    (length ins + i.0, omega arith, output_named ins outs i.0 pin.0 pin.1 ∙ ap Some pin.2)
 
 -- no port is an input and an output
 no_both : (ins outs : List Pin) (name : Text) → AreDistinct (pin_names (ins ++ outs)) → Contains (pin_names ins) name → Contains (pin_names outs) name → ⊥
 no_both ins outs name distinct input output =
-    let i = named_input ins outs name input in
-    let o = named_output ins outs name output in
+    let i = input_place ins outs name input in
+    let o = output_place ins outs name output in
     let same = same_number (pin_names (ins ++ outs)) i.0 o.0 name distinct i.2 o.2 in
     omega (arith, i.1, o.1, same)
 
@@ -62,9 +47,6 @@ port_is a b e = cc
 
 own_no_cell : (name cell pin : Text) → own name ≡ port_of cell pin → ⊥
 own_no_cell name cell pin e = none-some cell (ap (λ (p : PortName). p.cell) e)
-
-pub same_pin : (cell other pin name : Text) → port_of cell pin ≡ port_of other name → (cell ≡ other) × (pin ≡ name)
-same_pin cell other pin name e = (same_Some cell other (ap (λ (p : PortName). p.cell) e), ap (λ (p : PortName). p.pin) e)
 
 -- ---- paths of nodes
 
@@ -97,9 +79,9 @@ module _ (design : Design) (c : Component) where
   along_more x [] y z along reads = (along, reads)
   along_more x (w ∷ nodes) y z along reads = (along.0, along_more w nodes y z along.1 reads)
 
--- ---- levels fall
+-- ---- ports that have numbers
 
-module _ (design : Design) (keeps : KeepsRules design) (n : ℕ) (c : Component) (at : slice_get design n ≡ Some c) (g : WireGraph) (distinct : AreDistinct g.ports.keys) (is : IsGraphBut design c g) where
+module _ (design : Design) (keeps : KeepsRules design) (c : Component) (g : WireGraph) (is : HasOwnReadings design c g) where
   -- the part's ports have names of their own
   part_distinct : (part : Component) (cell : Text) → part_in design c cell ≡ Some part → AreDistinct (ports_in part)
   part_distinct part cell made =
@@ -110,43 +92,54 @@ module _ (design : Design) (keeps : KeepsRules design) (n : ℕ) (c : Component)
   not_both : (x y z : Node) → ReadsByPart design c x y → ReadsByPart design c y z → ⊥
   not_both x y z r s =
       let port : r.input ≡ s.port = port_is r.input s.port (sym r.is_input ∙ s.is_port) in
-      let names = same_pin r.crosses.cell s.crosses.cell r.input_name s.output_name (sym r.crosses.is_input ∙ port ∙ s.crosses.is_output) in
+      let names = same_pin r.crosses.cell s.crosses.cell r.input_name s.output_name (ap (λ (p : PortName). key_of (APort p)) (sym r.crosses.is_input ∙ port ∙ s.crosses.is_output)) in
       let part : r.part ≡ s.part = same_Some r.part s.part (sym r.crosses.made ∙ ap (part_in design c) names.0 ∙ s.crosses.made) in
       let output : Contains (pin_names (outputs_in r.part)) r.input_name =
       subst₂ (λ (d : Component) (t : Text). Contains (pin_names (outputs_in d)) t) (sym part) (sym names.1) s.crosses.has_output in
       no_both (inputs_in r.part) (outputs_in r.part) r.input_name (part_distinct r.part r.crosses.cell r.crosses.made) r.crosses.has_input output
 
+  -- what is read has an entry, or it is read through a cell of a component
+  pub entry_or_part : (x y : Node) → NodeReads design c x y → HasReading g x y ⊎ ReadsByPart design c x y
+  entry_or_part x y reads =
+      elim (is_said design c x y reads) [
+        | inl said ↦ inl ((is.reads x y).1 said)
+        | inr by_part ↦ inr by_part
+      ]
+
   -- the node has a number
-  abbrev Named : Node → Type 0
+  abbrev pub Named : Node → Type 0
   Named node = (k : ℕ) × HasNumber g node k
 
   -- so a node between two readings has one
-  between : (x y z : Node) → NodeReads design c x y → NodeReads design c y z → Named y
+  pub between : (x y z : Node) → NodeReads design c x y → NodeReads design c y z → Named y
   between x y z first second =
-      elim (is.reads x y first) [
+      elim (entry_or_part x y first) [
         | inl r ↦ (r.entry.value, r.value)
-        | inr by_part ↦ elim (is.reads y z second) [
+        | inr by_part ↦ elim (entry_or_part y z second) [
           | inl s ↦ (s.entry.key, s.key)
           | inr again ↦ absurd (not_both x y z by_part again)
         ]
       ]
 
   -- an own port that reads or is read has one
-  own_reads : (name : Text) (y : Node) → NodeReads design c (APort (own name)) y → Named (APort (own name))
+  pub own_reads : (name : Text) (y : Node) → NodeReads design c (APort (own name)) y → Named (APort (own name))
   own_reads name y reads =
-      elim (is.reads (APort (own name)) y reads) [
+      elim (entry_or_part (APort (own name)) y reads) [
         | inl r ↦ (r.entry.key, r.key)
         | inr r ↦ absurd (own_no_cell name r.crosses.cell r.output_name (port_is (own name) r.port r.is_port ∙ r.crosses.is_output))
       ]
 
-  own_read : (name : Text) (x : Node) → NodeReads design c x (APort (own name)) → Named (APort (own name))
+  pub own_read : (name : Text) (x : Node) → NodeReads design c x (APort (own name)) → Named (APort (own name))
   own_read name x reads =
-      elim (is.reads x (APort (own name)) reads) [
+      elim (entry_or_part x (APort (own name)) reads) [
         | inl r ↦ (r.entry.value, r.value)
         | inr r ↦ absurd (own_no_cell name r.crosses.cell r.input_name (port_is (own name) r.input r.is_input ∙ r.crosses.is_input))
       ]
 
-  module _ (parts : List Levels) (shows : ShowsPartLevels design n parts) (cells : List CellPort) (all : (port : CellPort) → IsCellPort design c g parts port → Contains cells port) (levels : List ℕ) (are : AreLevels g.entries.items cells levels) where
+  -- ---- levels fall
+
+  module _ (distinct : AreDistinct g.ports.keys) (n : ℕ) (at : slice_get design n ≡ Some c) (parts : List Levels) (shows : ShowsPartLevels design n parts) (cells : List CellPort) (all : (port : CellPort) → IsCellPort design c g parts port → Contains cells port)
+      (levels : List ℕ) (are : AreLevels g.entries.items cells levels) where
     -- the second has a lower level, where both have numbers
     abbrev Falls : Node → Node → Type 0
     Falls x y = (k j : ℕ) → HasNumber g x k → HasNumber g y j → IsBelow levels j k
@@ -194,10 +187,10 @@ module _ (design : Design) (keeps : KeepsRules design) (n : ℕ) (c : Component)
         known = exists_at parts m.0 (omega (arith, shows.all, slice_get_within design m.0 r.part m.1))
 
         o : (i : ℕ) × (length ins ≤ i) × (slice_get (ports_in r.part) i ≡ Some r.output_name)
-        o = named_output ins outs r.output_name r.crosses.has_output
+        o = output_place ins outs r.output_name r.crosses.has_output
 
         i : (i : ℕ) × (i < length ins) × (slice_get (ports_in r.part) i ≡ Some r.input_name)
-        i = named_input ins outs r.input_name r.crosses.has_input
+        i = input_place ins outs r.input_name r.crosses.has_input
 
         lower : IsLower known.0 i.0 o.0
         lower = shows.each m.0 r.part known.0 has m.1 known.1 o.0 i.0 r.output_name r.input_name o.2 i.2 r.reaches
@@ -251,7 +244,7 @@ module _ (design : Design) (keeps : KeepsRules design) (n : ℕ) (c : Component)
 
     reads_fall : (x y : Node) → NodeReads design c x y → Falls x y
     reads_fall x y reads =
-        elim (is.reads x y reads) [
+        elim (entry_or_part x y reads) [
           | inl r ↦ by_wire x y r
           | inr r ↦ by_cell x y r
         ]

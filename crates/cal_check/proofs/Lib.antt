@@ -1,5 +1,7 @@
 pub mod BelowLemmas
 pub mod BranchLemmas
+pub mod CellLemmas
+pub mod CellPinLemmas
 pub mod CellPortLemmas
 pub mod ComponentLemmas
 pub mod DependLemmas
@@ -8,6 +10,7 @@ pub mod DrivenLemmas
 pub mod EachLemmas
 pub mod EntryLemmas
 pub mod FirstLemmas
+pub mod FlatLemmas
 pub mod FoundLemmas
 pub mod GainLemmas
 pub mod GraphLemmas
@@ -15,12 +18,12 @@ pub mod GroupLemmas
 pub mod GuardLemmas
 pub mod HolderLemmas
 pub mod InputLemmas
+pub mod InsideLemmas
 pub mod InvokeLemmas
 pub mod InvokedLemmas
 pub mod JudgeLemmas
 pub mod KeyLemmas
 pub mod KindLemmas
-pub mod LeadLemmas
 pub mod LeastLemmas
 pub mod ListLemmas
 pub mod LevelLemmas

@@ -1,10 +1,10 @@
 -- The first component that has a loop, where components are judged after their parts.
-use Rattle.std.proofs.Common.{◌≡◌, ◌≢◌, ◌↔◌, ◌⊎◌, inl, inr, ℕ, ◌+◌, ◌<◌, ◌≤◌, Bool, true, false, List, [], ◌∷◌, ◌++◌, Option, Some, None, Vec, Global, Contains, length, take, get_or, set, slice_get, not, ◌==◌, refl, sym, ap, subst, subst₂, ◌∙◌, arith}
-use Rattle.std.specs.Prelude.{IsTrue, MatchOption}
+use Rattle.std.proofs.Common.{◌≡◌, ◌≢◌, ◌↔◌, ◌⊎◌, inl, inr, ℕ, zero, suc, ◌+◌, ◌<◌, ◌≤◌, Bool, true, false, List, [], ◌∷◌, ◌++◌, Option, Some, None, Vec, Global, Contains, length, take, get_or, set, slice_get, not, ◌==◌, refl, sym, ap, subst, subst₂, ◌∙◌, arith}
+use Rattle.std.specs.Prelude.{IfSome, IsSome, IsTrue, MatchOption, replicate}
 use Rattle.std.proofs.lemmas.Bool.{cases_eq, cases_lt, ne_eqb}
 use Rattle.std.proofs.lemmas.List.{take_more, length-set, get_or-set_same, get_or-set_other}
 use Rattle.std.proofs.lemmas.List.Elements.{Contains-push_cases}
-use Rattle.std.proofs.lemmas.Option.{same_Some, slice_get_within, slice_get-get_or, get_or_from_slice_get}
+use Rattle.std.proofs.lemmas.Option.{none-some, same_Some, slice_get_within, slice_get-get_or, get_or_from_slice_get}
 use Rattle.hw_graph.specs.Graph.{HasRead}
 use Rattle.hw_names.specs.Name.{Text}
 use Rattle.cal_ast.proofs.ListLemmas.{Contains-none}
@@ -13,11 +13,11 @@ use Rattle.cal_ast.specs.Tree.{Component, Design}
 use Rattle.cal_ast.specs.Wires.{HasNoLoop, shown}
 use Rattle.cal_check.specs.inside.FirstLoop.{TellsFirstLoop, TellsFirstLooped}
 use Rattle.cal_check.specs.Nests.{ArePartsFirst, HasPart, ShowsOrder}
-use Rattle.cal_check.specs.inside.Wiring.{DependsOn, ShowsParts, TellsLoop}
+use Rattle.cal_check.specs.inside.Wiring.{IsInside, ShowsParts, TellsLoop}
 use Rattle.cal_check.specs.declared.check.Looped.{Looped}
+use Rattle.cal_check.specs.declared.inside.Inside.{Inside}
 use Rattle.cal_check.specs.declared.nesting.PartOrder.{PartOrder}
 use Rattle.cal_check.specs.declared.nesting.PartOrder.TheVariants.{Loop, Parts}
-use Rattle.cal_check.specs.declared.wires.Wires.{Wires}
 use Rattle.cal_check.proofs.GraphLemmas.{exists_at}
 use Rattle.cal_check.proofs.PartsLemmas.{no_loop}
 
@@ -127,30 +127,66 @@ parts_first design order parts is shows = subst (λ (o : PartOrder). ShowsOrder 
 
 -- ---- what is known of the parts
 
--- of the first i components in the order, that are parts, it is known what their outputs depend on
-abbrev pub KnowsParts : Design → List ℕ → List Wires → Type 0
-KnowsParts design judged wires =
-    (n m : ℕ) (part : Component) (w : Wires) → Contains judged m → HasPart design n m → slice_get design m ≡ Some part → slice_get wires m ≡ Some w → DependsOn design part w
+-- of the components that are judged those that are parts are known; no more is known than holds
+pub record KnowsParts (design : Design) (judged : List ℕ) (insides : List (Option Inside)) : Type 0 where
+  pub known : (n m : ℕ) → Contains judged m → HasPart design n m → (inside : Inside) × (slice_get insides m ≡ Some (Some inside))
+  pub each : (m : ℕ) (part : Component) (inside : Inside) → slice_get design m ≡ Some part → slice_get insides m ≡ Some (Some inside) → IsInside design part inside
 
-pub knows_none : (design : Design) (wires : List Wires) → KnowsParts design [] wires
-knows_none design wires n m part w has p at at_w = absurd (Contains-none m has)
+nothing_known : (count m : ℕ) (inside : Inside) → slice_get (replicate count None) m ≡ Some (Some inside) → ⊥
+nothing_known zero m inside at = absurd (cc)
+nothing_known (suc count) zero inside at = none-some inside (same_Some None (Some inside) at)
+nothing_known (suc count) (suc m) inside at = nothing_known count m inside at
 
--- one component more is judged: what its outputs depend on is kept
-knows_more : (design : Design) (judged : List ℕ) (number : ℕ) (c : Component) (wires : List Wires) (own : Wires) → slice_get design number ≡ Some c → number < length wires
-    → ((n : ℕ) → HasPart design n number → DependsOn design c own) → KnowsParts design judged wires → KnowsParts design (judged ++ number ∷ []) (set wires number own)
-knows_more design judged number c wires own at within here knows n m part w has p at_m at_w = by (cases_eq m number)
-  where
-    by : (m ≡ number) ⊎ (m ≢ number) → DependsOn design part w
-    by (inl same) =
-        let w_is : own ≡ w = sym (get_or-set_same wires number own w within) ∙ ap (λ (k : ℕ). get_or (set wires number own) k w) (sym same) ∙ get_or_from_slice_get (set wires number own) m w w at_w in
-        let c_is : c ≡ part = same_Some c part (sym at ∙ ap (slice_get design) (sym same) ∙ at_m) in
-        let q : HasPart design n number = subst (HasPart design n) same p in
-        subst (λ (x : Component). DependsOn design x w) c_is (subst (λ (x : Wires). DependsOn design c x) w_is (here n q))
-    by (inr apart) =
-        let before : Contains judged m = (elim (Contains-push_cases judged number m has) [ inl b ↦ b | inr same ↦ absurd (apart (sym same)) ]) in
-        let lt : m < length wires = omega (arith, slice_get_within (set wires number own) m w at_w, length-set wires number own) in
-        let old : slice_get wires m ≡ Some w = slice_get-get_or wires m w lt ∙ ap Some (sym (get_or-set_other wires number m own w apart) ∙ get_or_from_slice_get (set wires number own) m w w at_w) in
-        knows n m part w before p at_m old
+pub knows_none : (design : Design) (count : ℕ) (insides : List (Option Inside)) → insides ≡ replicate count None → KnowsParts design [] insides
+knows_none design count insides none = record {
+  known = λ n m has part. absurd (Contains-none m has);
+  each = λ m part inside at there. absurd (nothing_known count m inside (subst (λ (l : List (Option Inside)). slice_get l m ≡ Some (Some inside)) none there));
+}
+
+-- ---- one component more is judged
+
+set_same : (insides : List (Option Inside)) (number : ℕ) (own : Option Inside) → number < length insides → slice_get (set insides number own) number ≡ Some own
+set_same insides number own within =
+    let lt : number < length (set insides number own) = omega (arith, within, length-set insides number own) in
+    slice_get-get_or (set insides number own) number own lt ∙ ap Some (get_or-set_same insides number own own within)
+
+set_other : (insides : List (Option Inside)) (number m : ℕ) (own : Option Inside) → m ≢ number → m < length insides → slice_get (set insides number own) m ≡ slice_get insides m
+set_other insides number m own apart within =
+    let lt : m < length (set insides number own) = omega (arith, within, length-set insides number own) in
+    slice_get-get_or (set insides number own) m own lt ∙ ap Some (get_or-set_other insides number m own own apart) ∙ sym (slice_get-get_or insides m own within)
+
+some_of : (own : Option Inside) → IsSome own → (inside : Inside) × (own ≡ Some inside)
+some_of None some = absurd (cc)
+some_of (Some inside) some = (inside, refl)
+
+module _ (design : Design) (judged : List ℕ) (number : ℕ) (c : Component) (insides : List (Option Inside)) (own : Option Inside) (at : slice_get design number ≡ Some c) (within : number < length insides) (knows : KnowsParts design judged insides) where
+  known_more : ((n : ℕ) → HasPart design n number → IsSome own) → (n m : ℕ) → Contains (judged ++ number ∷ []) m → HasPart design n m → (inside : Inside) × (slice_get (set insides number own) m ≡ Some (Some inside))
+  known_more some n m has part = by (cases_eq m number)
+    where
+      by : (m ≡ number) ⊎ (m ≢ number) → (inside : Inside) × (slice_get (set insides number own) m ≡ Some (Some inside))
+      by (inl same) =
+          let is = some_of own (some n (subst (HasPart design n) same part)) in
+          (is.0, ap (slice_get (set insides number own)) same ∙ set_same insides number own within ∙ ap Some is.1)
+      by (inr apart) =
+          let before : Contains judged m = (elim (Contains-push_cases judged number m has) [ inl b ↦ b | inr same ↦ absurd (apart (sym same)) ]) in
+          let old = knows.known n m before part in
+          (old.0, set_other insides number m own apart (slice_get_within insides m (Some old.0) old.1) ∙ old.1)
+
+  each_more : IfSome own (IsInside design c) → (m : ℕ) (part : Component) (inside : Inside) → slice_get design m ≡ Some part → slice_get (set insides number own) m ≡ Some (Some inside) → IsInside design part inside
+  each_more here m part inside at_m there = by (cases_eq m number)
+    where
+      by : (m ≡ number) ⊎ (m ≢ number) → IsInside design part inside
+      by (inl same) =
+          let is : own ≡ Some inside = same_Some own (Some inside) (sym (set_same insides number own within) ∙ ap (slice_get (set insides number own)) (sym same) ∙ there) in
+          let c_is : c ≡ part = same_Some c part (sym at ∙ ap (slice_get design) (sym same) ∙ at_m) in
+          let shows : IsInside design c inside = subst (λ (o : Option Inside). IfSome o (IsInside design c)) is here in
+          subst (λ (x : Component). IsInside design x inside) c_is shows
+      by (inr apart) =
+          let lt : m < length insides = omega (arith, slice_get_within (set insides number own) m (Some inside) there, length-set insides number own) in
+          knows.each m part inside at_m (sym (set_other insides number m own apart lt) ∙ there)
+
+  knows_more : ((n : ℕ) → HasPart design n number → IsSome own) → IfSome own (IsInside design c) → KnowsParts design (judged ++ number ∷ []) (set insides number own)
+  knows_more some here = record { known = known_more some; each = each_more here }
 
 -- the numbers so far, and one more
 pub numbers_next : (order : List ℕ) (i : ℕ) → i < length order → take i order ++ get_or order i 0 ∷ [] ≡ take (i + 1) order
@@ -163,25 +199,26 @@ in_order design order items i same first lt =
     own.in_range i lt
 
 -- the parts of a component are known when it is judged
-pub parts_shown : (design : Design) (order items : List ℕ) (i : ℕ) (wires shown : List Wires) → items ≡ order → ArePartsFirst design order → i < length items → length wires ≡ length design → KnowsParts design (take i items) wires
-    → shown ≡ wires → ShowsParts design (get_or items i 0) shown
-parts_shown design order items i wires shown same first lt sized knows is =
+pub parts_shown : (design : Design) (order items : List ℕ) (i : ℕ) (insides shown : List (Option Inside)) → items ≡ order → ArePartsFirst design order → i < length items → length insides ≡ length design → KnowsParts design (take i items) insides
+    → shown ≡ insides → ShowsParts design (get_or items i 0) shown
+parts_shown design order items i insides shown same first lt sized knows is =
     let own : ArePartsFirst design items = subst (ArePartsFirst design) (sym same) first in
-    let shows : ShowsParts design (get_or items i 0) wires = record {
+    let shows : ShowsParts design (get_or items i 0) insides = record {
       all = sized;
-      each = λ m part w p at at_w. knows (get_or items i 0) m part w (own.after i m lt p) p at at_w;
+      known = λ m part. knows.known (get_or items i 0) m (own.after i m lt part) part;
+      each = knows.each;
     } in
     subst (ShowsParts design (get_or items i 0)) (sym is) shows
 
 -- one component more is judged
-pub knows_next : (design : Design) (order items : List ℕ) (i : ℕ) (wires new : List Wires) (own : Wires) → items ≡ order → ArePartsFirst design order → i < length items → length wires ≡ length design → KnowsParts design (take i items) wires
-    → ((c : Component) (holder : ℕ) → slice_get design (get_or items i 0) ≡ Some c → HasPart design holder (get_or items i 0) → DependsOn design c own)
-    → new ≡ set wires (get_or items i 0) own → KnowsParts design (take (i + 1) items) new
-knows_next design order items i wires new own same first lt sized knows judged put =
+pub knows_next : (design : Design) (order items : List ℕ) (i : ℕ) (insides new : List (Option Inside)) (own : Option Inside) → items ≡ order → ArePartsFirst design order → i < length items → length insides ≡ length design → KnowsParts design (take i items) insides
+    → ((holder : ℕ) → HasPart design holder (get_or items i 0) → IsSome own) → ((c : Component) → slice_get design (get_or items i 0) ≡ Some c → IfSome own (IsInside design c))
+    → new ≡ set insides (get_or items i 0) own → KnowsParts design (take (i + 1) items) new
+knows_next design order items i insides new own same first lt sized knows some shows put =
     let number = get_or items i 0 in
     let in_range = in_order design order items i same first lt in
     let c = exists_at design number in_range in
-    let more = knows_more design (take i items) number c.0 wires own c.1 (omega (arith, in_range, sized)) (λ n held. judged c.0 n c.1 held) knows in
+    let more = knows_more design (take i items) number c.0 insides own c.1 (omega (arith, in_range, sized)) knows some (shows c.0 c.1) in
     subst₂ (KnowsParts design) (numbers_next items i lt) (sym put) more
 
 -- a component that has a holder is a part

@@ -14,6 +14,7 @@ use Rattle.hw_names.specs.declared.names.NameId.{NameId}
 use Rattle.cal_ast.proofs.ListLemmas.{Contains-cases_first, Contains-map, Contains-none, place_of}
 use Rattle.net_core.specs.Numbers.{IsNumberOf}
 use Rattle.cal_ast.specs.Tree.{PortName, own, port_of}
+use Rattle.cal_check.specs.Firsts.{IsFirst}
 use Rattle.cal_check.specs.inside.Nodes.{AHole, APort, AreDifferent, AreNumbers, HasKey, IsFit, Node, key_of, node_in, pin_text, port_by}
 use Rattle.cal_check.specs.contracts.ports.NodeKeyPartialEq.TheImpl.{eq-value}
 use Rattle.cal_check.specs.declared.ports.NodeKey.{NodeKey}
@@ -250,6 +251,10 @@ next_absent keys i key distinct at has =
     let j = place_of (take i keys) key has in
     let there = get_take i keys j.0 key j.1 in
     omega (arith, there.0, same_number keys j.0 i key distinct there.1 at)
+
+-- so each is the first of its own
+pub distinct_first : (keys : List Text) (i : ℕ) (key : Text) → AreDistinct keys → slice_get keys i ≡ Some key → IsFirst keys key i
+distinct_first keys i key distinct at = record { here = at; new = next_absent keys i key distinct at }
 
 pub next_key : (keys : List Text) (i : ℕ) (key : Text) → slice_get keys i ≡ Some key → take i keys ++ key ∷ [] ≡ take (i + 1) keys
 next_key keys i key at = ap (λ (t : Text). take i keys ++ t ∷ []) (sym (get_or_from_slice_get keys i key key at)) ∙ sym (take_more keys i key (slice_get_within keys i key at))

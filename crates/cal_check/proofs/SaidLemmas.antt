@@ -1,4 +1,4 @@
--- What the parts of a component say of its graph of ports and holes, and that this is all that the graph has.
+-- What a port or hole reads is said by the component's own text or by a cell that is made of a component; the graph has what the text says, and nothing else.
 use Rattle.std.proofs.Common.{◌≡◌, ◌⊎◌, inl, inr, ℕ, List, [], ◌++◌, Some, None, refl, sym, ap, subst, subst₂, ◌∙◌, zero-add}
 use Rattle.std.specs.Prelude.{All, Contains, codes, slice_get}
 use Rattle.std.proofs.lemmas.List.Elements.{All-nil}
@@ -7,22 +7,18 @@ use Rattle.hw_names.specs.Name.{Text}
 use Rattle.hw_prims.specs.Table.{inputs_of, outputs_of, pin_names}
 use Rattle.hw_prims.specs.declared.prim.Primitive.{Primitive}
 use Rattle.cal_ast.proofs.ListLemmas.{Contains-at, Contains-none, place_of}
-use Rattle.cal_ast.proofs.LookupLemmas.{cell_named-Some, part_in-Some, primitive_in-Some}
+use Rattle.cal_ast.proofs.LookupLemmas.{cell_named-Some, primitive_in-Some}
 use Rattle.cal_ast.specs.Items.{control_statements}
-use Rattle.cal_ast.specs.Ports.{part_in, primitive_in}
+use Rattle.cal_ast.specs.Ports.{primitive_in}
 use Rattle.cal_ast.specs.Tree.{PortName, own, port_of, CellDef, Assignment, GroupDef, Component, Design}
-use Rattle.cal_ast.specs.Wires.{CrossesCell, IsAssignmentOf, all_groups, set_ports, done_ports}
-use Rattle.cal_check.specs.inside.Levels.{IsGraphBut, ReadsByPart}
+use Rattle.cal_ast.specs.Wires.{IsAssignmentOf, all_groups, set_ports, done_ports}
+use Rattle.cal_check.specs.inside.Levels.{ReadsByPart}
 use Rattle.cal_check.specs.inside.Nodes.{Node, APort, AHole, IsKey}
-use Rattle.cal_check.specs.inside.Readings.{AddsGroups, ReadsEach, ReadsGroup, ReadsGroups, ReadsInCell, ReadsInCells, ReadsInPart, ReadsInPrimitive, ReadsPrimitives, ReadsSet, ReadsSets, groups_invoked}
-use Rattle.cal_check.specs.inside.WireGraphs.{Adds, Grows, HasReading, IsGraphOf, IsPair, NodeReads, NoPair, BySet, InGroup, OfDone, OfGo, OfPrimitive, OfPart}
+use Rattle.cal_check.specs.inside.Readings.{AddsGroups, HasOwnReadings, ReadsEach, ReadsGroup, ReadsGroups, ReadsInPrimitive, ReadsOwn, ReadsPrimitive, ReadsPrimitives, ReadsSet, ReadsSets, groups_invoked}
+use Rattle.cal_check.specs.inside.WireGraphs.{Adds, Grows, IsPair, NodeReads, NoPair, BySet, InGroup, OfDone, OfGo, OfPrimitive, OfPart}
 use Rattle.cal_check.specs.declared.wire_graph.WireGraph.{WireGraph}
 use Rattle.cal_check.proofs.GainLemmas.{adds_after, adds_both, groups_both}
 use Rattle.cal_check.proofs.InvokedLemmas.{groups_are}
-
--- what the continuous assignments, the groups and the cells say
-abbrev Said : Design → Component → Node → Node → Type 0
-Said design c n o = (ReadsSets None c.sets n o ⊎ ReadsGroups design c 0 (all_groups design c) n o) ⊎ ReadsInCells design c n o
 
 -- ---- a reading is said
 
@@ -38,21 +34,22 @@ module _ (design : Design) (c : Component) where
   in_group : (k : ℕ) (g : GroupDef) (n o : Node) → slice_get (all_groups design c) k ≡ Some g → ReadsGroup design c k g n o → ReadsGroups design c 0 (all_groups design c) n o
   in_group k g n o at r = (k, g, at, subst (λ (m : ℕ). ReadsGroup design c m g n o) (sym (zero-add k)) r)
 
-  in_cell : (name : Text) (cell : CellDef) (n o : Node) → Contains c.cells cell → cell.name ≡ name → ReadsInCell design c name n o → ReadsInCells design c n o
-  in_cell name cell n o has named r = let i = place_of c.cells cell has in (i.0, cell, i.1, subst (λ (t : Text). ReadsInCell design c t n o) (sym named) r)
+  in_primitive : (name : Text) (cell : CellDef) (n o : Node) → Contains c.cells cell → cell.name ≡ name → ReadsPrimitive c name n o → ReadsPrimitives c n o
+  in_primitive name cell n o has named r = let i = place_of c.cells cell has in (i.0, cell, i.1, subst (λ (t : Text). ReadsPrimitive c t n o) (sym named) r)
 
-  is_said : (n o : Node) → NodeReads design c n o → Said design c n o
+  pub is_said : (n o : Node) → NodeReads design c n o → ReadsOwn design c n o ⊎ ReadsByPart design c n o
   is_said n o (BySet a other (inl continuous) reads) =
       let i = place_of c.sets a continuous in
-      inl (inl (i.0, a, i.1, inl (said_port (APort a.dst) (set_ports a) other reads)))
+      inl (inl (inl (i.0, a, i.1, inl (said_port (APort a.dst) (set_ports a) other reads))))
   is_said n o (BySet a other (inr (g, is, has)) reads) =
       let k = place_of (all_groups design c) g is in
-      inl (inr (in_group k.0 g (APort a.dst) (APort other) k.1 (inl (inr (said_set g.sets k.0 a (APort a.dst) (APort other) has (inl (said_port (APort a.dst) (set_ports a) other reads)))))))
-  is_said n o (InGroup k g a at has) = inl (inr (in_group k g (APort a.dst) (AHole k) at (inl (inr (said_set g.sets k a (APort a.dst) (AHole k) has (inr (refl, refl)))))))
+      let said = inl (said_port (APort a.dst) (set_ports a) other reads) in
+      inl (inl (inr (in_group k.0 g (APort a.dst) (APort other) k.1 (inl (inr (said_set g.sets k.0 a (APort a.dst) (APort other) has said))))))
+  is_said n o (InGroup k g a at has) = inl (inl (inr (in_group k g (APort a.dst) (AHole k) at (inl (inr (said_set g.sets k a (APort a.dst) (AHole k) has (inr (refl, refl))))))))
   is_said n o (OfDone k g d other at has reads) =
       let i = place_of g.dones d has in
-      inl (inr (in_group k g (AHole k) (APort other) at (inr (i.0, d, i.1, said_port (AHole k) (done_ports d) other reads))))
-  is_said n o (OfGo k g at is) = inl (inr (in_group k g (AHole k) (APort (own (codes "go"))) at (inl (inl (is, (refl, refl))))))
+      inl (inl (inr (in_group k g (AHole k) (APort other) at (inr (i.0, d, i.1, said_port (AHole k) (done_ports d) other reads)))))
+  is_said n o (OfGo k g at is) = inl (inl (inr (in_group k g (AHole k) (APort (own (codes "go"))) at (inl (inl (is, (refl, refl)))))))
   is_said n o (OfPrimitive port other r) =
       let found = primitive_in-Some c r.cell r.prim r.made in
       let named = cell_named-Some c.cells r.cell found.0 found.1 in
@@ -60,19 +57,18 @@ module _ (design : Design) (c : Component) where
       let input = place_of (pin_names (inputs_of r.prim)) r.input r.depends.is_input in
       let reads : ReadsInPrimitive r.cell r.prim (APort port) (APort other) =
       (output.0, r.output, output.1, (input.0, r.input, input.1, (r.depends.through, (ap APort (sym r.is_output), ap APort (sym r.is_input))))) in
-      inr (in_cell r.cell found.0 (APort port) (APort other) named.0 named.1 (inl (r.prim, r.made, reads)))
-  is_said n o (OfPart part port other output input r reaches) =
-      let found = part_in-Some design c r.cell part r.made in
-      let named = cell_named-Some c.cells r.cell found.0 found.1 in
-      let reads : ReadsInPart design r.cell part (APort port) (APort other) = record {
-        output = output;
-        input = input;
-        is_output = r.has_output;
-        is_input = r.has_input;
-        reaches = reaches;
-        pair = (ap APort (sym r.is_output), ap APort (sym r.is_input));
-      } in
-      inr (in_cell r.cell found.0 (APort port) (APort other) named.0 named.1 (inr (part, r.made, reads)))
+      inl (inr (in_primitive r.cell found.0 (APort port) (APort other) named.0 named.1 (r.prim, r.made, reads)))
+  is_said n o (OfPart part port other output input crosses reaches) = inr (record {
+    part = part;
+    port = port;
+    input = other;
+    is_port = refl;
+    is_input = refl;
+    output_name = output;
+    input_name = input;
+    crosses = crosses;
+    reaches = reaches;
+  })
 
   -- ---- what is said is a reading
 
@@ -111,32 +107,31 @@ module _ (design : Design) (c : Component) where
         is_input = refl;
       }))
 
-  of_part : (cell : Text) (part : Component) (n o : Node) → part_in design c cell ≡ Some part → ReadsInPart design cell part n o → NodeReads design c n o
-  of_part cell part n o made r =
-      let crosses : CrossesCell design c part (port_of cell r.output) (port_of cell r.input) r.output r.input =
-      record { cell = cell; made = made; has_output = r.is_output; has_input = r.is_input; is_output = refl; is_input = refl } in
-      as_nodes (APort (port_of cell r.output)) (APort (port_of cell r.input)) n o r.pair (OfPart part (port_of cell r.output) (port_of cell r.input) r.output r.input crosses r.reaches)
+  of_primitives : (n o : Node) → ReadsPrimitives c n o → NodeReads design c n o
+  of_primitives n o (j, cell, at, (prim, made, reads)) = of_primitive cell.name prim n o made reads
 
-  of_cells : (n o : Node) → ReadsInCells design c n o → NodeReads design c n o
-  of_cells n o (j, cell, at, inl (prim, made, reads)) = of_primitive cell.name prim n o made reads
-  of_cells n o (j, cell, at, inr (part, made, reads)) = of_part cell.name part n o made reads
+  pub own_reading : (n o : Node) → ReadsOwn design c n o → NodeReads design c n o
+  own_reading n o (inl (inl sets)) = of_sets n o sets
+  own_reading n o (inl (inr groups)) = of_groups n o groups
+  own_reading n o (inr primitives) = of_primitives n o primitives
 
-  is_reading : (n o : Node) → Said design c n o → NodeReads design c n o
-  is_reading n o (inl (inl sets)) = of_sets n o sets
-  is_reading n o (inl (inr groups)) = of_groups n o groups
-  is_reading n o (inr cells) = of_cells n o cells
+  pub part_reading : (n o : Node) → ReadsByPart design c n o → NodeReads design c n o
+  part_reading n o r =
+      as_nodes (APort r.port) (APort r.input) n o (sym r.is_port, sym r.is_input) (OfPart r.part r.port r.input r.output_name r.input_name r.crosses r.reaches)
+
+  -- ---- the graph of the text
 
   -- the graph has all that was added
-  pub whole_graph : (start inputs sets groups control g : WireGraph) → start.ports.keys ≡ [] → start.entries.items ≡ [] → start.holes ≡ 0 → Grows NoPair start inputs → Grows (ReadsSets None c.sets) inputs sets → AddsGroups design c c.groups sets groups
-      → AddsGroups design c (groups_invoked design c (control_statements c.control)) groups control → Grows (ReadsInCells design c) control g → IsGraphOf design c g
-  whole_graph start inputs sets groups control g no_keys empty none first second third fourth fifth = record {
+  pub own_graph : (start inputs sets groups control g : WireGraph) → start.ports.keys ≡ [] → start.entries.items ≡ [] → start.holes ≡ 0 → Grows NoPair start inputs → Grows (ReadsSets None c.sets) inputs sets → AddsGroups design c c.groups sets groups
+      → AddsGroups design c (groups_invoked design c (control_statements c.control)) groups control → Grows (ReadsPrimitives c) control g → HasOwnReadings design c g
+  own_graph start inputs sets groups control g no_keys empty none first second third fourth fifth = record {
     nodes = all.nodes (subst (All IsKey) (sym no_keys) (All-nil IsKey));
     reads = λ n o. (
       λ h. elim ((all.has n o).0 h) [
         | inl old ↦ absurd (Contains-none old.entry (subst (λ (es : List Entry). Contains es old.entry) empty old.there))
-        | inr said ↦ is_reading n o said
+        | inr said ↦ said
       ],
-      λ reads. (all.has n o).1 (inr (is_said n o reads)),
+      λ said. (all.has n o).1 (inr said),
     );
   }
     where
@@ -149,50 +144,8 @@ module _ (design : Design) (c : Component) where
       all_of : Adds (ReadsGroups design c 0 (all_groups design c)) sets control
       all_of = subst₂ (λ (k : ℕ) (gs : List GroupDef). Adds (ReadsGroups design c k gs) sets control) fresh (groups_are design c) both.adds
 
-      all : Adds (Said design c) start g
-      all =
-          adds_both (λ n o. ReadsSets None c.sets n o ⊎ ReadsGroups design c 0 (all_groups design c) n o) (ReadsInCells design c) start control g
-          (adds_both (ReadsSets None c.sets) (ReadsGroups design c 0 (all_groups design c)) start sets control (adds_after (ReadsSets None c.sets) start inputs sets first.adds second.adds) all_of)
-          fifth.adds
-
-  -- what they say but for cells that are made of components
-  abbrev SaidBut : Node → Node → Type 0
-  SaidBut n o = (ReadsSets None c.sets n o ⊎ ReadsGroups design c 0 (all_groups design c) n o) ⊎ ReadsPrimitives c n o
-
-  -- the graph has all that was added, and lacks only what is read through such cells
-  pub graph_but : (start sets groups control g : WireGraph) → start.ports.keys ≡ [] → start.holes ≡ 0 → Grows (ReadsSets None c.sets) start sets → AddsGroups design c c.groups sets groups
-      → AddsGroups design c (groups_invoked design c (control_statements c.control)) groups control → Grows (ReadsPrimitives c) control g → IsGraphBut design c g
-  graph_but start sets groups control g no_keys none second third fourth fifth = record {
-    nodes = all.nodes (subst (All IsKey) (sym no_keys) (All-nil IsKey));
-    reads = λ n o reads. split n o (is_said n o reads);
-  }
-    where
-      both : AddsGroups design c (c.groups ++ groups_invoked design c (control_statements c.control)) sets control
-      both = groups_both design c c.groups (groups_invoked design c (control_statements c.control)) sets groups control third fourth
-
-      fresh : sets.holes ≡ 0
-      fresh = second.holes ∙ none
-
-      all_of : Adds (ReadsGroups design c 0 (all_groups design c)) sets control
-      all_of = subst₂ (λ (k : ℕ) (gs : List GroupDef). Adds (ReadsGroups design c k gs) sets control) fresh (groups_are design c) both.adds
-
-      all : Adds SaidBut start g
+      all : Adds (ReadsOwn design c) start g
       all =
           adds_both (λ n o. ReadsSets None c.sets n o ⊎ ReadsGroups design c 0 (all_groups design c) n o) (ReadsPrimitives c) start control g
-          (adds_both (ReadsSets None c.sets) (ReadsGroups design c 0 (all_groups design c)) start sets control second.adds all_of)
+          (adds_both (ReadsSets None c.sets) (ReadsGroups design c 0 (all_groups design c)) start sets control (adds_after (ReadsSets None c.sets) start inputs sets first.adds second.adds) all_of)
           fifth.adds
-
-      split : (n o : Node) → Said design c n o → HasReading g n o ⊎ ReadsByPart design c n o
-      split n o (inl lines) = inl ((all.has n o).1 (inr (inl lines)))
-      split n o (inr (j, cell, at, inl primitive)) = inl ((all.has n o).1 (inr (inr (j, cell, at, primitive))))
-      split n o (inr (j, cell, at, inr (part, made, r))) = inr (record {
-        part = part;
-        port = port_of cell.name r.output;
-        input = port_of cell.name r.input;
-        is_port = sym r.pair.0;
-        is_input = sym r.pair.1;
-        output_name = r.output;
-        input_name = r.input;
-        crosses = record { cell = cell.name; made = made; has_output = r.is_output; has_input = r.is_input; is_output = refl; is_input = refl };
-        reaches = r.reaches;
-      })

@@ -1,4 +1,6 @@
 -- What only the functions inside the crate are specified by.
+pub mod CellPins
+pub mod Cells
 pub mod Entries
 pub mod FirstLoop
 pub mod Groups

@@ -1,5 +1,5 @@
 //! The rules of a design.
-ghost use Rattle.std.specs.Prelude.{◌≡◌, ◌<◌, ◌∷◌, ◌++◌, [], ℕ, List, Some, false, length, slice_get, slice_set, ◌↔◌, IfErr, IfOk, IsTrue, MatchOption, OnOk};
+ghost use Rattle.std.specs.Prelude.{◌≡◌, ◌<◌, ◌∷◌, ◌++◌, [], ℕ, List, Some, None, false, length, replicate, slice_get, slice_set, ◌↔◌, IfErr, IfOk, IfSome, IsSome, IsTrue, MatchOption, OnOk};
 ghost use Rattle.cal_ast.specs.Numbers.{HasNumbers};
 ghost use Rattle.cal_ast.specs.Rules.{CalRules, KeepsRules};
 ghost use Rattle.cal_ast.specs.Tree.{Component, Design, design_of};
@@ -7,15 +7,16 @@ ghost use Rattle.cal_check.specs.inside.FirstLoop.{TellsFirstLoop, TellsFirstLoo
 ghost use Rattle.cal_check.specs.Nests.{HasPart, ShowsNesting};
 ghost use Rattle.cal_check.specs.Tables.{ShowsTables};
 ghost use Rattle.cal_check.specs.Told.{ComponentIs, TellsRefusal};
-ghost use Rattle.cal_check.specs.inside.Wiring.{DependsOn, ShowsParts, TellsLoop};
+ghost use Rattle.cal_check.specs.inside.Wiring.{IsInside, ShowsParts, TellsLoop};
 
 use crate::component::judge_component;
+use crate::inside::Inside;
 use crate::levels::have_levels;
+use crate::loops::{Judged, judge_loops};
 use crate::nesting::{Nesting, PartOrder};
-use crate::place::Place;
+use crate::place::{Overview, Place};
 use crate::rule::{CalEnd, CompEnd};
 use crate::tables::Tables;
-use crate::wires::{Judged, Wires, judge_wires};
 use cal_ast::{CalDesign, CalOk};
 use hw_bits::Memory;
 use hw_names::{NameId, Word};
@@ -69,30 +70,22 @@ fn earlier(found: Option<Looped>, number: usize, least_loop: Option<Vec<Word>>) 
 
 /// The first component in text order that has a loop, where C1 to C11 are kept. Components are judged after their parts,
 /// since a cell's outputs depend on those inputs that they reach in its component.
-fn first_looped(
-    alloc: Global,
-    design: &CalDesign,
-    tables: &Tables,
-    nesting: &Nesting,
-) -> Result<Option<Looped>, Memory>
-    requires numbers { HasNumbers design.now }
-    requires tables { ShowsTables (design_of design.now) tables.now }
-    requires nesting { ShowsNesting (design_of design.now) nesting.now }
-    requires kept { KeepsRules (design_of design.now) }
-    ensures { IfOk result (TellsFirstLoop (design_of design.now)) }
+fn first_looped(alloc: Global, overview: &Overview) -> Result<Option<Looped>, Memory>
+    requires numbers { HasNumbers overview.now.design.now }
+    requires tables { ShowsTables (design_of overview.now.design.now) overview.now.tables.now }
+    requires nesting { ShowsNesting (design_of overview.now.design.now) overview.now.nesting.now }
+    requires kept { KeepsRules (design_of overview.now.design.now) }
+    ensures { IfOk result (TellsFirstLoop (design_of overview.now.design.now)) }
 {
-    let PartOrder::Parts(order) = &nesting.order else {
+    let PartOrder::Parts(order) = &overview.nesting.order else {
         unreachable!();
     };
-    let mut wires = no_wires(alloc, design.comps.len())?;
+    let mut insides = none_known(alloc, overview.design.comps.len())?;
     let mut looped = None;
     for number in order {
-        let judged = judge_number(alloc, design, tables, nesting, &wires, *number)?;
-        let Judged {
-            wires: own,
-            least_loop,
-        } = judged;
-        keep_wires(&mut wires, *number, own);
+        let judged = judge_number(alloc, overview, &insides, *number)?;
+        let Judged { inside, least_loop } = judged;
+        keep_inside(&mut insides, *number, inside);
         looped = earlier(looped, *number, least_loop);
     }
     Ok(looped)
@@ -101,63 +94,56 @@ fn first_looped(
 /// Judges the component of this number by C12, where the components that it has cells of are judged.
 fn judge_number(
     alloc: Global,
-    design: &CalDesign,
-    tables: &Tables,
-    nesting: &Nesting,
-    wires: &[Wires],
+    overview: &Overview,
+    insides: &[Option<Inside>],
     number: usize,
 ) -> Result<Judged, Memory>
-    requires numbers { HasNumbers design.now }
-    requires tables { ShowsTables (design_of design.now) tables.now }
-    requires nesting { ShowsNesting (design_of design.now) nesting.now }
-    requires kept { KeepsRules (design_of design.now) }
-    requires number { number < length design.now.comps.items }
-    requires parts { ShowsParts (design_of design.now) number wires.now }
-    ensures wires { (c : Component) (holder : ℕ) → slice_get (design_of design.now) number ≡ Some c → HasPart (design_of design.now) holder number
-        → IfOk result (λ judged. DependsOn (design_of design.now) c judged.wires) }
-    ensures cycle { (c : Component) → slice_get (design_of design.now) number ≡ Some c
-        → IfOk result (λ judged. TellsLoop (design_of design.now) c judged.least_loop) }
+    requires numbers { HasNumbers overview.now.design.now }
+    requires tables { ShowsTables (design_of overview.now.design.now) overview.now.tables.now }
+    requires nesting { ShowsNesting (design_of overview.now.design.now) overview.now.nesting.now }
+    requires kept { KeepsRules (design_of overview.now.design.now) }
+    requires number { number < length overview.now.design.now.comps.items }
+    requires parts { ShowsParts (design_of overview.now.design.now) number insides.now }
+    ensures inside { (holder : ℕ) → HasPart (design_of overview.now.design.now) holder number → IfOk result (λ judged. IsSome judged.inside) }
+    ensures shows { (c : Component) → slice_get (design_of overview.now.design.now) number ≡ Some c
+        → IfOk result (λ judged. IfSome judged.inside (IsInside (design_of overview.now.design.now) c)) }
+    ensures cycle { (c : Component) → slice_get (design_of overview.now.design.now) number ≡ Some c
+        → IfOk result (λ judged. TellsLoop (design_of overview.now.design.now) c judged.least_loop) }
 {
-    let place = Place::of(alloc, design, tables, nesting, number)?;
-    let is_part = !nesting.holders.get(number).is_empty();
-    judge_wires(alloc, &place, wires, is_part)
+    let place = Place::of(alloc, overview, number)?;
+    let is_part = !overview.nesting.holders.get(number).is_empty();
+    judge_loops(alloc, &place, insides, is_part)
 }
 
 /// Keeps what is known of the component of this number.
-fn keep_wires(wires: &mut Vec<Wires>, number: usize, own: Wires)
-    requires { number < length wires.old.items }
-    ensures { wires.new.items ≡ slice_set wires.old.items number own }
+fn keep_inside(insides: &mut Vec<Option<Inside>>, number: usize, own: Option<Inside>)
+    requires { number < length insides.old.items }
+    ensures { insides.new.items ≡ slice_set insides.old.items number own }
 {
-    wires[number] = own;
+    insides[number] = own;
 }
 
-/// So many components, of whose outputs nothing is known.
-fn no_wires(alloc: Global, count: usize) -> Result<Vec<Wires>, Memory>
-    ensures { IfOk result (λ wires. length wires.items ≡ count) }
+/// So many components, of which nothing is known.
+fn none_known(alloc: Global, count: usize) -> Result<Vec<Option<Inside>>, Memory>
+    ensures { IfOk result (λ insides. insides.items ≡ replicate count None) }
 {
-    let mut wires = Vec::new(alloc);
+    let mut insides = Vec::new(alloc);
     for _ in 0..count {
-        let feeds = Vec::new(alloc);
-        wires.push(Wires { feeds })?;
+        insides.push(None)?;
     }
-    Ok(wires)
+    Ok(insides)
 }
 
 /// Judges the components by C1 to C11, in text order.
-fn judge_components(
-    alloc: Global,
-    design: &CalDesign,
-    tables: &Tables,
-    nesting: &Nesting,
-) -> Result<(), CalEnd>
-    requires numbers { HasNumbers design.now }
-    requires tables { ShowsTables (design_of design.now) tables.now }
-    requires nesting { ShowsNesting (design_of design.now) nesting.now }
-    ensures kept { OnOk result (KeepsRules (design_of design.now)) }
-    ensures refused { IfErr result (TellsRefusal design.now) }
+fn judge_components(alloc: Global, overview: &Overview) -> Result<(), CalEnd>
+    requires numbers { HasNumbers overview.now.design.now }
+    requires tables { ShowsTables (design_of overview.now.design.now) overview.now.tables.now }
+    requires nesting { ShowsNesting (design_of overview.now.design.now) overview.now.nesting.now }
+    ensures kept { OnOk result (KeepsRules (design_of overview.now.design.now)) }
+    ensures refused { IfErr result (TellsRefusal overview.now.design.now) }
 {
-    for (number, comp) in design.comps.iter().enumerate() {
-        let place = Place::of(alloc, design, tables, nesting, number)?;
+    for (number, comp) in overview.design.comps.iter().enumerate() {
+        let place = Place::of(alloc, overview, number)?;
         match judge_component(alloc, &place) {
             Ok(()) => {}
             Err(end) => return Err(in_component(alloc, comp.name, end)),
@@ -179,11 +165,16 @@ pub fn check_calyx<'a>(alloc: Global, design: &'a CalDesign) -> Result<CalOk<'a>
 {
     let tables = Tables::of(alloc, design)?;
     let nesting = Nesting::of(alloc, &tables.made)?;
-    judge_components(alloc, design, &tables, &nesting)?;
-    if have_levels(alloc, design, &tables, &nesting)? {
+    let overview = Overview {
+        design,
+        tables: &tables,
+        nesting: &nesting,
+    };
+    judge_components(alloc, &overview)?;
+    if have_levels(alloc, &overview)? {
         return Ok(CalOk::new(design));
     }
-    match first_looped(alloc, design, &tables, &nesting)? {
+    match first_looped(alloc, &overview)? {
         None => Ok(CalOk::new(design)),
         Some(looped) => Err(CalEnd::Refused {
             rule: 12,

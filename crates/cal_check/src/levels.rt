@@ -2,30 +2,26 @@
 //!
 //! A component's levels are those of its graph, to which its cells give only what the levels of their components say. So no more
 //! is kept of a component than a number for each port, and a cell costs as many steps as the text names ports of it.
-ghost use Rattle.std.specs.Prelude.{◌≡◌, ◌<◌, ◌≤◌, ℕ, All, Contains, Some, length, slice_get, slice_index, slice_set, IfOk, IfSome, IsTrue, OnOk};
+ghost use Rattle.std.specs.Prelude.{◌≡◌, ◌<◌, ◌≤◌, ℕ, All, Contains, Some, length, slice_get, slice_index, slice_set, IfOk, IfSome, IsTrue};
 ghost use Rattle.hw_names.specs.Name.{AreDistinct};
 ghost use Rattle.cal_ast.specs.Numbers.{HasNumbers};
 ghost use Rattle.cal_ast.specs.Rules.{HasNoLoops, KeepsRules};
-ghost use Rattle.cal_ast.specs.Tree.{CellDef, Component, design_of, own};
+ghost use Rattle.cal_ast.specs.Tree.{Component, design_of, own};
 ghost use Rattle.cal_ast.specs.Wires.{HasNoLoop};
-ghost use Rattle.cal_check.specs.Around.{comp_at, design_at, names_at};
+ghost use Rattle.cal_check.specs.Around.{comp_at, design_at};
 ghost use Rattle.cal_check.specs.Nests.{ShowsNesting};
 ghost use Rattle.cal_check.specs.Tables.{ShowsTables};
-ghost use Rattle.cal_check.specs.inside.Levels.{IsCellPort, IsGraphBut, KeepsOwn, ShowsLevels, ShowsPartLevels};
+ghost use Rattle.cal_check.specs.inside.Levels.{IsCellPort, KeepsOwn, ShowsLevels, ShowsPartLevels};
 ghost use Rattle.cal_check.specs.inside.Nodes.{APort, key_of};
-ghost use Rattle.cal_check.specs.inside.Readings.{ReadsPrimitive, ReadsPrimitives};
-ghost use Rattle.cal_check.specs.inside.WireGraphs.{Grows};
 ghost use Rattle.hw_levels.specs.declared.cells.CellPort as specs_port;
 
-use crate::made::{Made, component_of};
-use crate::nesting::{Nesting, PartOrder};
-use crate::pin_name::PinName;
-use crate::place::Place;
+use crate::inside::own_node;
+use crate::made::component_of;
+use crate::nesting::PartOrder;
+use crate::place::{Overview, Place};
 use crate::ports::Ports;
-use crate::tables::Tables;
 use crate::wire_graph::WireGraph;
-use crate::wires::{add_control, add_groups, add_primitive, add_sets, own_port, port_names};
-use cal_ast::CalDesign;
+use crate::wires::{port_names, text_graph};
 use hw_bits::Memory;
 use hw_levels::{CellPort, levels_of};
 use hw_texts::text_at;
@@ -35,48 +31,6 @@ use std::alloc::Global;
 #[derive(Drop)]
 pub struct Levels {
     pub ports: Vec<Option<usize>>,
-}
-
-/// Adds on which inputs the outputs of the cell of this number depend, if it is of a primitive.
-fn add_primitive_cell(graph: &mut WireGraph, place: &Place, number: usize) -> Result<(), Memory>
-    requires names { graph.old.ports.names ≡ names_at place.now }
-    requires kept { KeepsRules (design_at place.now) }
-    requires number { number < length (comp_at place.now).cells }
-    ensures { (cell : CellDef) → slice_get (comp_at place.now).cells number ≡ Some cell
-        → OnOk result (Grows (ReadsPrimitive (comp_at place.now) cell.name) graph.old graph.new) }
-{
-    let name = place.comp().cells[number].name;
-    match place.made(number) {
-        Some(Made::Primitive(prim)) => add_primitive(graph, name, prim),
-        Some(Made::Component(_part)) => Ok(()),
-        None => Ok(()),
-    }
-}
-
-/// Adds on which inputs the outputs of the component's cells of primitives depend.
-fn add_primitives(graph: &mut WireGraph, place: &Place) -> Result<(), Memory>
-    requires names { graph.old.ports.names ≡ names_at place.now }
-    requires kept { KeepsRules (design_at place.now) }
-    ensures { OnOk result (Grows (ReadsPrimitives (comp_at place.now)) graph.old graph.new) }
-{
-    for number in 0..place.comp().cells.len() {
-        add_primitive_cell(graph, place, number)?;
-    }
-    Ok(())
-}
-
-/// Which port of the component reads which within a row, but for cells that are made of components.
-fn graph_but<'a>(alloc: Global, place: &Place<'a>) -> Result<WireGraph<'a>, Memory>
-    requires kept { KeepsRules (design_at place.now) }
-    ensures { IfOk result (IsGraphBut (design_at place.now) (comp_at place.now)) }
-{
-    let comp = place.comp();
-    let mut graph = WireGraph::new(alloc, place.names());
-    add_sets(&mut graph, place, None, &comp.sets)?;
-    add_groups(&mut graph, place, &comp.groups)?;
-    add_control(&mut graph, place, &comp.control)?;
-    add_primitives(&mut graph, place)?;
-    Ok(graph)
 }
 
 /// The port of this number in the graph, if it is one of a cell that is made of a component, and has a level there.
@@ -145,7 +99,7 @@ fn own_level(ports: &Ports, levels: &[usize], name: &[u8]) -> Option<usize>
     requires distinct { AreDistinct ports.now.keys }
     ensures { (node : ℕ) → slice_get ports.now.keys node ≡ Some (key_of (APort (own name.now))) → result ≡ Some (slice_index levels.now node) }
 {
-    let node = ports.find(own_port(PinName::Text(name)))?;
+    let node = own_node(ports, name)?;
     Some(levels[node])
 }
 
@@ -158,7 +112,7 @@ fn levels_in(alloc: Global, place: &Place, levels: &[Levels]) -> Result<Option<L
 {
     // The component stands in the design.
     let _comp = place.comp();
-    let graph = graph_but(alloc, place)?;
+    let graph = text_graph(alloc, place)?;
     let cells = cell_ports(place, &graph, levels)?;
     let WireGraph { ports, entries, .. } = graph;
     match levels_of(alloc, entries, cells, ports.len())? {
@@ -170,24 +124,22 @@ fn levels_in(alloc: Global, place: &Place, levels: &[Levels]) -> Result<Option<L
 /// Levels of the ports of the component of this number, where those of the components that it has cells of are known.
 fn levels_at(
     alloc: Global,
-    design: &CalDesign,
-    tables: &Tables,
-    nesting: &Nesting,
+    overview: &Overview,
     levels: &[Levels],
     number: usize,
 ) -> Result<Option<Levels>, Memory>
-    requires numbers { HasNumbers design.now }
-    requires tables { ShowsTables (design_of design.now) tables.now }
-    requires nesting { ShowsNesting (design_of design.now) nesting.now }
-    requires kept { KeepsRules (design_of design.now) }
-    requires number { number < length design.now.comps.items }
-    requires parts { ShowsPartLevels (design_of design.now) number levels.now }
-    ensures levels { (c : Component) → slice_get (design_of design.now) number ≡ Some c
-        → IfOk result (λ found. IfSome found (ShowsLevels (design_of design.now) c)) }
-    ensures no_loop { (c : Component) → slice_get (design_of design.now) number ≡ Some c
-        → IfOk result (λ found. IfSome found (λ _. HasNoLoop (design_of design.now) c)) }
+    requires numbers { HasNumbers overview.now.design.now }
+    requires tables { ShowsTables (design_of overview.now.design.now) overview.now.tables.now }
+    requires nesting { ShowsNesting (design_of overview.now.design.now) overview.now.nesting.now }
+    requires kept { KeepsRules (design_of overview.now.design.now) }
+    requires number { number < length overview.now.design.now.comps.items }
+    requires parts { ShowsPartLevels (design_of overview.now.design.now) number levels.now }
+    ensures levels { (c : Component) → slice_get (design_of overview.now.design.now) number ≡ Some c
+        → IfOk result (λ found. IfSome found (ShowsLevels (design_of overview.now.design.now) c)) }
+    ensures no_loop { (c : Component) → slice_get (design_of overview.now.design.now) number ≡ Some c
+        → IfOk result (λ found. IfSome found (λ _. HasNoLoop (design_of overview.now.design.now) c)) }
 {
-    let place = Place::of(alloc, design, tables, nesting, number)?;
+    let place = Place::of(alloc, overview, number)?;
     levels_in(alloc, &place, levels)
 }
 
@@ -200,24 +152,19 @@ fn keep_levels(levels: &mut Vec<Levels>, number: usize, own: Levels)
 }
 
 /// Whether each component has levels, where C1 to C11 are kept: then none has a loop. Where the answer is no, nothing is known.
-pub fn have_levels(
-    alloc: Global,
-    design: &CalDesign,
-    tables: &Tables,
-    nesting: &Nesting,
-) -> Result<bool, Memory>
-    requires numbers { HasNumbers design.now }
-    requires tables { ShowsTables (design_of design.now) tables.now }
-    requires nesting { ShowsNesting (design_of design.now) nesting.now }
-    requires kept { KeepsRules (design_of design.now) }
-    ensures { IfOk result (λ have. IsTrue have → HasNoLoops (design_of design.now)) }
+pub fn have_levels(alloc: Global, overview: &Overview) -> Result<bool, Memory>
+    requires numbers { HasNumbers overview.now.design.now }
+    requires tables { ShowsTables (design_of overview.now.design.now) overview.now.tables.now }
+    requires nesting { ShowsNesting (design_of overview.now.design.now) overview.now.nesting.now }
+    requires kept { KeepsRules (design_of overview.now.design.now) }
+    ensures { IfOk result (λ have. IsTrue have → HasNoLoops (design_of overview.now.design.now)) }
 {
-    let PartOrder::Parts(order) = &nesting.order else {
+    let PartOrder::Parts(order) = &overview.nesting.order else {
         unreachable!();
     };
-    let mut levels = no_levels(alloc, design.comps.len())?;
+    let mut levels = no_levels(alloc, overview.design.comps.len())?;
     for number in order {
-        match levels_at(alloc, design, tables, nesting, &levels, *number)? {
+        match levels_at(alloc, overview, &levels, *number)? {
             Some(own) => keep_levels(&mut levels, *number, own),
             None => return Ok(false),
         }

@@ -15,20 +15,22 @@
 //! the order of the text (`component`, `item`), the rules of an item by number: `naming`, `typing`, `sides`, `controlling`. A
 //! `Place` has what travels with an item. At last comes C12. `levels` asks `hw_levels` for levels of each component's ports, parts
 //! first, from those of its parts: where all have them none has a loop, and the design is accepted. Where one has none,
-//! `wires` makes the graph of a component's ports anew, from the sets of inputs that its parts' outputs reach, and asks
-//! `hw_graph` for an order. A port there is known by the numbers of its names (`ports`). Only where there is a loop are the
-//! ports put in the order of their full names (`loops`, by `short_names` and `ranks`); full names are made of the least loop's
-//! ports alone, which is told.
+//! `hw_cells` makes one graph of a component's own text (`wires`) and of its cells' graphs (`cells`), which is what is kept of
+//! it for its holders (`inside`), and `hw_graph` is asked for an order. A port there is known by the numbers of its names
+//! (`ports`). Only where there is a loop are the ports put in the order of their full names (`loops`, by `short_names` and
+//! `ranks`); full names are made of the least loop's ports alone, which is told.
 //!
 //! What the layer above uses is `check_calyx`: it is `Ok` exactly where the design keeps the rules (`CalRules`), and its
 //! refusal is the first rule that is broken (`TellsRefusal`). `cal_weight` and `cal_words` are the weight and the words of
 //! memories, at most `2^64 - 1`.
 #![tactic(auto)]
 
+mod cells;
 mod check;
 mod component;
 mod controlling;
 mod first_places;
+mod inside;
 mod item;
 mod keys;
 mod levels;

@@ -21,6 +21,16 @@ use hw_names::{NameId, Names};
 use std::alloc::Global;
 use std::marker::Model;
 
+/// A design, and what is known of it as a whole.
+#[derive(Clone, Copy)]
+pub struct Overview<'a> {
+    pub design: &'a CalDesign,
+    /// What its names mean.
+    pub tables: &'a Tables,
+    /// Which components have cells of which.
+    pub nesting: &'a Nesting,
+}
+
 /// A component of a design, and what the names mean that its lines name.
 #[derive(Drop)]
 pub struct Place<'a> {
@@ -114,29 +124,24 @@ impl<'a> Place<'a> {
     ghost use Rattle.cal_check.specs.inside.Nodes.{pin_text, ports_in};
 
     /// The place of the component of this number.
-    pub fn of(
-        alloc: Global,
-        design: &'a CalDesign,
-        tables: &'a Tables,
-        nesting: &Nesting,
-        number: usize,
-    ) -> Result<Place<'a>, Memory>
-        requires numbers { HasNumbers design.now }
-        requires tables { ShowsTables (design_of design.now) tables.now }
-        requires nesting { ShowsNesting (design_of design.now) nesting.now }
-        requires number { number < length design.now.comps.items }
-        ensures names { IfOk result (λ place. names_at place ≡ design.now.names) }
-        ensures design { IfOk result (λ place. design_at place ≡ design_of design.now) }
+    pub fn of(alloc: Global, overview: &Overview<'a>, number: usize) -> Result<Place<'a>, Memory>
+        requires numbers { HasNumbers overview.now.design.now }
+        requires tables { ShowsTables (design_of overview.now.design.now) overview.now.tables.now }
+        requires nesting { ShowsNesting (design_of overview.now.design.now) overview.now.nesting.now }
+        requires number { number < length overview.now.design.now.comps.items }
+        ensures names { IfOk result (λ place. names_at place ≡ overview.now.design.now.names) }
+        ensures design { IfOk result (λ place. design_at place ≡ design_of overview.now.design.now) }
         ensures number { IfOk result (λ place. place.number ≡ number) }
-        ensures comp { IfOk result (λ place. slice_get (design_of design.now) number ≡ Some (comp_at place)) }
+        ensures comp { IfOk result (λ place. slice_get (design_of overview.now.design.now) number ≡ Some (comp_at place)) }
     {
+        let design = overview.design;
         let comp = &design.comps[number];
         let cells = cells_of(alloc, &design.names, &comp.cells)?;
         let groups = groups_of(alloc, &design.names, &comp.groups)?;
-        let holders = nesting.holders_of(alloc, number)?;
+        let holders = overview.nesting.holders_of(alloc, number)?;
         Ok(Place {
             design,
-            tables,
+            tables: overview.tables,
             number,
             comp,
             cells,

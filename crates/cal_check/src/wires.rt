@@ -1,7 +1,5 @@
-//! C12: which ports of a component read which within a row, and its least loop.
-ghost use Rattle.std.specs.Prelude.{◌≡◌, ◌↔◌, ℕ, List, ◌+◌, ◌<◌, [], ◌∷◌, ◌++◌, Option, Some, length, map, option_map, slice_get, All, Contains, IfOk, IfSome, IsTrue, OnOk};
-ghost use Rattle.hw_graph.specs.Graph.{AreInRange};
-ghost use Rattle.hw_graph.specs.Groups.{IsGathered};
+//! Which ports of a component read which within a row, by its own text.
+ghost use Rattle.std.specs.Prelude.{◌≡◌, List, ◌+◌, ◌<◌, [], ◌∷◌, ◌++◌, Option, Some, length, map, option_map, slice_get, All, IfOk, IfSome, OnOk};
 ghost use Rattle.hw_names.specs.Name.{AreDistinct, KeepsTexts, Text, text_of};
 ghost use Rattle.hw_prims.specs.Table.{IsMade, inputs_of, name_at, outputs_of, pin_names, pins_of};
 ghost use Rattle.net_core.specs.Numbers.{IsNumberOf};
@@ -10,16 +8,14 @@ ghost use Rattle.cal_ast.specs.Items.{control_statements, statements_in, stateme
 ghost use Rattle.cal_ast.specs.Numbers.{ControlHasNumbers, DoneHasNumbers, GroupHasNumbers, InHasNumbers, OutHasNumbers, PortHasNumbers, SetHasNumbers, StatementHasNumbers};
 ghost use Rattle.cal_ast.specs.Ports.{inputs_in, outputs_in};
 ghost use Rattle.cal_ast.specs.Rules.{KeepsRules};
-ghost use Rattle.cal_ast.specs.Tree.{CellDef, Component, Invoke, assignment_tree, control_tree, done_tree, group_tree, in_tree, out_tree, own, port_of, port_tree, statement_tree};
+ghost use Rattle.cal_ast.specs.Tree.{CellDef, Invoke, assignment_tree, control_tree, done_tree, group_tree, in_tree, out_tree, own, port_of, port_tree, statement_tree};
 ghost use Rattle.cal_check.specs.Around.{comp_at, design_at, names_at};
-ghost use Rattle.cal_check.specs.inside.Nodes.{AreNumbers, Node, PinHasNumber, input_key, pin_text, port_by, ports_in};
-ghost use Rattle.cal_check.specs.inside.Readings.{AddsGroups, ReadsDones, ReadsEach, ReadsGo, ReadsInCell, ReadsInCells, ReadsInPart, ReadsInPrimitive, ReadsNumbers, ReadsOutput, ReadsSet, ReadsSets, ReadsThrough, group_invoked, groups_invoked};
+ghost use Rattle.cal_check.specs.inside.Nodes.{AreNumbers, Node, PinHasNumber, input_key, pin_text, port_by};
+ghost use Rattle.cal_check.specs.inside.Readings.{AddsGroups, HasOwnReadings, ReadsDones, ReadsEach, ReadsGo, ReadsInPrimitive, ReadsOutput, ReadsPrimitive, ReadsPrimitives, ReadsSet, ReadsSets, ReadsThrough, group_invoked, groups_invoked};
 ghost use Rattle.cal_check.specs.inside.Walks.{statements_from};
-ghost use Rattle.cal_check.specs.inside.WireGraphs.{Adds, Grows, HasHole, HasNumber, IsGraphOf, LeadsTo, NoPair};
-ghost use Rattle.cal_check.specs.inside.Wiring.{DependsOn, ShowsParts, TellsLoop, feeds_of};
+ghost use Rattle.cal_check.specs.inside.WireGraphs.{Adds, Grows, HasHole, HasNumber, NoPair};
 ghost use Rattle.cal_check.specs.declared.wire_graph.Hole.{Hole};
 
-use crate::loops::least_loop;
 use crate::made::Made;
 use crate::pin_name::PinName;
 use crate::place::Place;
@@ -28,35 +24,11 @@ use crate::reads::ports_read;
 use crate::wire_graph::{Hole, WireGraph};
 use cal_ast::{Assign, CalPort, Control, ControlPart, DoneSet, Group, InBind, OutBind};
 use hw_bits::Memory;
-use hw_graph::{Groups, Reach, gather};
-use hw_names::{NameId, Names, Word};
+use hw_names::{NameId, Names};
 use hw_prims::Prim;
 use hw_texts::text_at;
 use net_core::Src;
 use std::alloc::Global;
-
-/// An output of a component and the inputs that it reaches within a row, by their numbers among the outputs and inputs.
-#[derive(Drop)]
-pub struct Feeds {
-    pub output: usize,
-    pub inputs: Vec<usize>,
-}
-
-/// On which inputs the outputs of a component depend within a row.
-#[derive(Drop)]
-pub struct Wires {
-    /// The outputs that reach an input, in their order.
-    pub feeds: Vec<Feeds>,
-}
-
-/// What is known of C12 for a component.
-#[derive(Drop)]
-pub struct Judged {
-    pub wires: Wires,
-    /// Full names of ports: the least loop, if there is a loop. Each port reads the next within a row, and the last reads
-    /// the first.
-    pub least_loop: Option<Vec<Word>>,
-}
 
 /// A port that a line names.
 fn line_port(port: CalPort) -> Port<'static>
@@ -141,7 +113,7 @@ fn add_set(
 }
 
 /// Adds what assignments say.
-pub(crate) fn add_sets(
+fn add_sets(
     graph: &mut WireGraph,
     place: &Place,
     hole: Option<Hole>,
@@ -205,11 +177,7 @@ fn add_group(graph: &mut WireGraph, place: &Place, group: &Group) -> Result<(), 
 }
 
 /// Adds what groups say.
-pub(crate) fn add_groups(
-    graph: &mut WireGraph,
-    place: &Place,
-    groups: &[Group],
-) -> Result<(), Memory>
+fn add_groups(graph: &mut WireGraph, place: &Place, groups: &[Group]) -> Result<(), Memory>
     requires names { graph.old.ports.names ≡ names_at place.now }
     requires groups { All (GroupHasNumbers (names_at place.now)) groups.now }
     ensures { OnOk result (AddsGroups (design_at place.now) (comp_at place.now) (map (group_tree (names_at place.now)) groups.now) graph.old graph.new) }
@@ -375,11 +343,7 @@ fn add_statements(graph: &mut WireGraph, place: &Place, list: &[Control]) -> Res
 }
 
 /// Adds what the invokes of a component's control say.
-pub(crate) fn add_control(
-    graph: &mut WireGraph,
-    place: &Place,
-    control: &ControlPart,
-) -> Result<(), Memory>
+fn add_control(graph: &mut WireGraph, place: &Place, control: &ControlPart) -> Result<(), Memory>
     requires names { graph.old.ports.names ≡ names_at place.now }
     requires control { ControlHasNumbers (names_at place.now) control.now }
     ensures { OnOk result (AddsGroups (design_at place.now) (comp_at place.now) (groups_invoked (design_at place.now) (comp_at place.now) (control_statements (control_tree (names_at place.now) control.now))) graph.old graph.new) }
@@ -449,7 +413,7 @@ fn add_primitive_output(
 }
 
 /// Adds on which inputs the outputs of a cell of a primitive depend.
-pub(crate) fn add_primitive(graph: &mut WireGraph, cell: NameId, prim: Prim) -> Result<(), Memory>
+fn add_primitive(graph: &mut WireGraph, cell: NameId, prim: Prim) -> Result<(), Memory>
     requires cell { IsNumberOf graph.old.ports.names cell }
     requires made { IsMade prim }
     ensures { (names : List Text) → graph.old.ports.names ≡ names
@@ -461,101 +425,30 @@ pub(crate) fn add_primitive(graph: &mut WireGraph, cell: NameId, prim: Prim) -> 
     Ok(())
 }
 
-/// A cell that is made of a component: the number of its name, and that of the component.
-#[derive(Clone, Copy)]
-struct PartCell {
-    name: NameId,
-    part: usize,
-}
-
-/// Adds that a port of a cell reads others of it, by their places.
-fn add_part_output(
-    graph: &mut WireGraph,
-    place: &Place,
-    cell: PartCell,
-    output: usize,
-    inputs: &[usize],
-) -> Result<(), Memory>
-    requires names { graph.old.ports.names ≡ names_at place.now }
-    requires cell { IsNumberOf (names_at place.now) cell.name }
-    requires part { cell.part < length (design_at place.now) }
-    requires output { (c : Component) → slice_get (design_at place.now) cell.part ≡ Some c → output < length (ports_in c) }
-    requires inputs { (c : Component) → slice_get (design_at place.now) cell.part ≡ Some c → All (λ input. input < length (ports_in c)) inputs.now }
-    ensures { (c : Component) → slice_get (design_at place.now) cell.part ≡ Some c
-        → OnOk result (Grows (ReadsNumbers (text_of (names_at place.now) cell.name) (ports_in c) output inputs.now) graph.old graph.new) }
-{
-    let number = graph.port(cell_port(cell.name, place.pin_of(cell.part, output)))?;
-    for input in inputs {
-        let other = graph.port(cell_port(cell.name, place.pin_of(cell.part, *input)))?;
-        graph.add(number, other)?;
-    }
-    Ok(())
-}
-
-/// Adds on which inputs the outputs of a cell depend that is made of a component with these wires.
-fn add_part(
-    graph: &mut WireGraph,
-    place: &Place,
-    cell: PartCell,
-    wires: &Wires,
-) -> Result<(), Memory>
-    requires names { graph.old.ports.names ≡ names_at place.now }
-    requires cell { IsNumberOf (names_at place.now) cell.name }
-    requires part { cell.part < length (design_at place.now) }
-    requires wires { (c : Component) → slice_get (design_at place.now) cell.part ≡ Some c → DependsOn (design_at place.now) c wires.now }
-    ensures { (c : Component) → slice_get (design_at place.now) cell.part ≡ Some c
-        → OnOk result (Grows (ReadsInPart (design_at place.now) (text_of (names_at place.now) cell.name) c) graph.old graph.new) }
-{
-    let inputs = place.signature_of(cell.part).inputs;
-    for feeds in &wires.feeds {
-        let number = inputs + feeds.output;
-        add_part_output(graph, place, cell, number, &feeds.inputs)?;
-    }
-    Ok(())
-}
-
-/// The wires of the component of this number.
-fn wires_at(wires: &[Wires], number: usize) -> &Wires
-    requires { number < length wires.now }
-    ensures { slice_get wires.now number ≡ Some result.now }
-{
-    &wires[number]
-}
-
-/// Adds on which inputs the outputs of a cell of the component depend.
-fn add_cell(
-    graph: &mut WireGraph,
-    place: &Place,
-    wires: &[Wires],
-    number: usize,
-) -> Result<(), Memory>
+/// Adds on which inputs the outputs of the cell of this number depend, if it is of a primitive.
+fn add_primitive_cell(graph: &mut WireGraph, place: &Place, number: usize) -> Result<(), Memory>
     requires names { graph.old.ports.names ≡ names_at place.now }
     requires kept { KeepsRules (design_at place.now) }
-    requires parts { ShowsParts (design_at place.now) place.now.number wires.now }
     requires number { number < length (comp_at place.now).cells }
     ensures { (cell : CellDef) → slice_get (comp_at place.now).cells number ≡ Some cell
-        → OnOk result (Grows (ReadsInCell (design_at place.now) (comp_at place.now) cell.name) graph.old graph.new) }
+        → OnOk result (Grows (ReadsPrimitive (comp_at place.now) cell.name) graph.old graph.new) }
 {
     let name = place.comp().cells[number].name;
     match place.made(number) {
         Some(Made::Primitive(prim)) => add_primitive(graph, name, prim),
-        Some(Made::Component(part)) => {
-            add_part(graph, place, PartCell { name, part }, wires_at(wires, part))
-        }
+        Some(Made::Component(_part)) => Ok(()),
         None => Ok(()),
     }
 }
 
-/// Adds on which inputs the outputs of the component's cells depend, where `wires` are those of all components before it
-/// in the order of parts, by their numbers.
-fn add_cells(graph: &mut WireGraph, place: &Place, wires: &[Wires]) -> Result<(), Memory>
+/// Adds on which inputs the outputs of the component's cells of primitives depend.
+fn add_primitives(graph: &mut WireGraph, place: &Place) -> Result<(), Memory>
     requires names { graph.old.ports.names ≡ names_at place.now }
     requires kept { KeepsRules (design_at place.now) }
-    requires parts { ShowsParts (design_at place.now) place.now.number wires.now }
-    ensures { OnOk result (Grows (ReadsInCells (design_at place.now) (comp_at place.now)) graph.old graph.new) }
+    ensures { OnOk result (Grows (ReadsPrimitives (comp_at place.now)) graph.old graph.new) }
 {
     for number in 0..place.comp().cells.len() {
-        add_cell(graph, place, wires, number)?;
+        add_primitive_cell(graph, place, number)?;
     }
     Ok(())
 }
@@ -574,15 +467,11 @@ fn add_inputs(graph: &mut WireGraph, place: &Place) -> Result<(), Memory>
     Ok(())
 }
 
-/// Which port of the component reads which within a row. Its own inputs are the first ports, by their numbers.
-fn wire_graph<'a>(
-    alloc: Global,
-    place: &Place<'a>,
-    wires: &[Wires],
-) -> Result<WireGraph<'a>, Memory>
+/// Which port of the component reads which within a row, by its own text: but for cells that are made of components. Its own
+/// inputs are the first ports, by their numbers.
+pub(crate) fn text_graph<'a>(alloc: Global, place: &Place<'a>) -> Result<WireGraph<'a>, Memory>
     requires kept { KeepsRules (design_at place.now) }
-    requires parts { ShowsParts (design_at place.now) place.now.number wires.now }
-    ensures reads { IfOk result (IsGraphOf (design_at place.now) (comp_at place.now)) }
+    ensures reads { IfOk result (HasOwnReadings (design_at place.now) (comp_at place.now)) }
     ensures inputs { IfOk result (λ graph. KeepsTexts (map input_key (inputs_in (comp_at place.now))) graph.ports.keys) }
 {
     let comp = place.comp();
@@ -591,116 +480,6 @@ fn wire_graph<'a>(
     add_sets(&mut graph, place, None, &comp.sets)?;
     add_groups(&mut graph, place, &comp.groups)?;
     add_control(&mut graph, place, &comp.control)?;
-    add_cells(&mut graph, place, wires)?;
+    add_primitives(&mut graph, place)?;
     Ok(graph)
-}
-
-/// Those of the ports whose number is below `count`.
-fn below(alloc: Global, ports: &[usize], count: usize) -> Result<Vec<usize>, Memory>
-    ensures { IfOk result (λ few. (i : ℕ) → Contains few.items i ↔ ((i < count) × Contains ports.now i)) }
-{
-    let mut few = Vec::new(alloc);
-    for port in ports {
-        if *port < count {
-            few.push(*port)?;
-        }
-    }
-    Ok(few)
-}
-
-/// The inputs that an output of the component reaches.
-fn inputs_of(
-    graph: &WireGraph,
-    reads: &Groups,
-    reach: &mut Reach,
-    output: &[u8],
-    inputs: usize,
-) -> Result<Vec<usize>, Memory>
-    requires in_range { AreInRange reads.now }
-    requires size { reach.old ≡ length reads.now }
-    requires keys { length reads.now ≡ length graph.now.ports.keys }
-    requires distinct { AreDistinct graph.now.ports.keys }
-    ensures reached { IfOk result (λ numbers. (i : ℕ) → Contains numbers.items i ↔ ((i < inputs) × LeadsTo graph.now reads.now output.now i)) }
-    ensures size { reach.new ≡ reach.old }
-{
-    match graph.ports.find(own_port(PinName::Text(output))) {
-        Some(start) => {
-            let reached = reach.from(graph.alloc, reads, start)?;
-            below(graph.alloc, &reached, inputs)
-        }
-        None => Ok(Vec::new(graph.alloc)),
-    }
-}
-
-/// Puts an output last with the inputs that it reaches, if it reaches any.
-fn add_feeds(feeds: &mut Vec<Feeds>, output: usize, inputs: Vec<usize>) -> Result<(), Memory>
-    ensures { OnOk result (feeds.new.items ≡ feeds.old.items ++ feeds_of output inputs) }
-{
-    if inputs.is_empty() {
-        return Ok(());
-    }
-    feeds.push(Feeds { output, inputs })?;
-    Ok(())
-}
-
-/// The outputs of the component that reach an input, with all that they reach.
-fn wires_of(place: &Place, graph: &WireGraph, reads: &Groups) -> Result<Wires, Memory>
-    requires kept { KeepsRules (design_at place.now) }
-    requires graph { IsGraphOf (design_at place.now) (comp_at place.now) graph.now }
-    requires inputs { KeepsTexts (map input_key (inputs_in (comp_at place.now))) graph.now.ports.keys }
-    requires distinct { AreDistinct graph.now.ports.keys }
-    requires reads { IsGathered graph.now.entries.items (length graph.now.ports.keys) reads.now }
-    ensures { IfOk result (DependsOn (design_at place.now) (comp_at place.now)) }
-{
-    let ports = port_names(place);
-    let count = place.signature().inputs;
-    let mut reach = Reach::new(graph.alloc, reads)?;
-    let mut feeds = Vec::new(graph.alloc);
-    for port in count..ports.len() {
-        let pin = text_at(ports, port);
-        let inputs = inputs_of(graph, reads, &mut reach, pin, count)?;
-        add_feeds(&mut feeds, port - count, inputs)?;
-    }
-    Ok(Wires { feeds })
-}
-
-/// What the outputs of the component depend on, where it is a part; nothing is looked for where it is none.
-fn part_wires(
-    place: &Place,
-    graph: &WireGraph,
-    reads: &Groups,
-    is_part: bool,
-) -> Result<Wires, Memory>
-    requires kept { KeepsRules (design_at place.now) }
-    requires graph { IsGraphOf (design_at place.now) (comp_at place.now) graph.now }
-    requires inputs { KeepsTexts (map input_key (inputs_in (comp_at place.now))) graph.now.ports.keys }
-    requires distinct { AreDistinct graph.now.ports.keys }
-    requires reads { IsGathered graph.now.entries.items (length graph.now.ports.keys) reads.now }
-    ensures { IsTrue is_part → IfOk result (DependsOn (design_at place.now) (comp_at place.now)) }
-{
-    if is_part {
-        return wires_of(place, graph, reads);
-    }
-    let feeds = Vec::new(graph.alloc);
-    Ok(Wires { feeds })
-}
-
-/// Judges a component of a design that keeps C1 to C11 by C12, where `wires` are those of its parts, by the numbers of
-/// the components. What its outputs depend on is looked for only where it is a part itself.
-pub fn judge_wires(
-    alloc: Global,
-    place: &Place,
-    wires: &[Wires],
-    is_part: bool,
-) -> Result<Judged, Memory>
-    requires kept { KeepsRules (design_at place.now) }
-    requires parts { ShowsParts (design_at place.now) place.now.number wires.now }
-    ensures wires { IsTrue is_part → IfOk result (λ judged. DependsOn (design_at place.now) (comp_at place.now) judged.wires) }
-    ensures cycle { IfOk result (λ judged. TellsLoop (design_at place.now) (comp_at place.now) judged.least_loop) }
-{
-    let graph = wire_graph(alloc, place, wires)?;
-    let reads = gather(alloc, graph.entries.as_slice(), graph.ports.len())?;
-    let least_loop = least_loop(&graph, &reads)?;
-    let wires = part_wires(place, &graph, &reads, is_part)?;
-    Ok(Judged { wires, least_loop })
 }

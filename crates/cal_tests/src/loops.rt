@@ -73,6 +73,17 @@ component over(a: 1) -> (q: 1) { cells { c = pass(); } wires { c.a = a; q = c.q;
 component main() -> () { cells { c = over(); d = pass(); } wires { c.a = d.p; d.b = c.q; } }",
         "refused C12 main item 0 loop c.a d.p d.b c.q",
     ),
+    // Four outputs that all read four inputs, by one wire; and outputs of which each reads the inputs up to its own.
+    (
+        "component main(x: 1) -> (p: 1, q: 1, r: 1) { cells { c = hub(); } wires { c.a0 = c.o3; c.a1 = x; c.a2 = x; c.a3 = x; p = c.o0; q = c.o1; r = c.o2; } }
+component hub(a0: 1, a1: 1, a2: 1, a3: 1) -> (o0: 1, o1: 1, o2: 1, o3: 1) { cells { w = std_wire(1); } wires { w.in = a0 & a1 & a2 & a3 ? 1'd1; o0 = w.out; o1 = w.out; o2 = w.out; o3 = w.out; } }",
+        "refused C12 main item 0 loop c.a0 c.o3",
+    ),
+    (
+        "component stairs(a0: 1, a1: 1, a2: 1) -> (o0: 1, o1: 1, o2: 1) { cells { v = std_or(1); w = std_or(1); } wires { v.left = a0; v.right = a1; w.left = v.out; w.right = a2; o0 = a0; o1 = v.out; o2 = w.out; } }
+component main() -> () { cells { c = stairs(); d = stairs(); } wires { c.a2 = c.o1; c.a1 = c.o0; c.a0 = d.o0; d.a0 = c.o2; d.a1 = d.o2; d.a2 = d.o0; } }",
+        "refused C12 main item 0 loop c.a0 d.o0 d.a0 c.o2",
+    ),
     // The component's own go, where an output is assigned in a group: with control, and in a bare component that has a `go`.
     (
         "component main() -> () { cells { c = unit(); } wires { c.go = c.q; } }
@@ -141,6 +152,15 @@ component c() -> () { cells { v = std_wire(1); } wires { v.in = v.out; } }",
         "component a() -> () { cells { c = b(); } wires { } } component b() -> () { cells { w = std_wire(1); } wires { w.in = w.out; } }",
         "refused C12 b item 0 loop w.in w.out",
     ),
+    // A part with a loop that is no port's of the component that has the cell, which stands before or after it.
+    (
+        "component a(i: 1) -> (q: 1) { cells { c = b(); } wires { c.i = i; q = c.q; } } component b(i: 1) -> (q: 1) { cells { w = std_wire(1); } wires { w.in = w.out; q = i; } }",
+        "refused C12 b item 0 loop w.in w.out",
+    ),
+    (
+        "component b(i: 1) -> (q: 1) { cells { w = std_wire(1); } wires { w.in = w.out & i ? i; q = w.out; } } component a(i: 1) -> (q: 1) { cells { c = b(); } wires { c.i = c.q; q = c.q; } }",
+        "refused C12 b item 0 loop w.in w.out",
+    ),
 ];
 
 /// Ports that read one another, but in no row themselves.
@@ -154,6 +174,9 @@ const NO_LOOPS: &[&str] = &[
     "component main(a: 1) -> (q: 1) { cells { w = std_wire(1); } wires { group g { q = w.out; g[done] = w.out; } w.in = a; } control { g; } }",
     // An output that is no output of this input.
     "component main() -> () { cells { c = pass(); } wires { c.a = c.p; c.b = 1'd1; } } component pass(a: 1, b: 1) -> (p: 1, q: 1) { cells { } wires { p = b; q = a; } }",
+    // Each output reads the inputs up to its own, and an input reads the output before it.
+    "component main(x: 1) -> (q: 1) { cells { c = stairs(); } wires { c.a0 = x; c.a1 = c.o0; c.a2 = c.o1; q = c.o2; } }
+component stairs(a0: 1, a1: 1, a2: 1) -> (o0: 1, o1: 1, o2: 1) { cells { v = std_or(1); w = std_or(1); } wires { v.left = a0; v.right = a1; w.left = v.out; w.right = a2; o0 = a0; o1 = v.out; o2 = w.out; } }",
     // The `done` of a component that is not bare reads nothing, and control's conditions make no edges.
     "component main() -> () { cells { c = unit(); } wires { c.go = !c.done ? 1'd1; c.a = c.done; } control { seq { } } }
 component unit(a: 1) -> () { cells { } wires { group g { g[done] = a; } } control { if a { g; } } }",

@@ -1,5 +1,5 @@
 -- Levels of a component's ports, as code has them: what is read within a row has a lower one. This project's.
-use Rattle.std.specs.Prelude.{◌≡◌, ◌⊎◌, ◌↔◌, ℕ, ◌<◌, List, length, slice_get, slice_index, Some, All, IsTrue}
+use Rattle.std.specs.Prelude.{◌≡◌, ◌↔◌, ℕ, ◌<◌, List, length, slice_get, slice_index, Some, IsTrue}
 use Rattle.hw_levels.specs.declared.cells.CellPort.{CellPort}
 use Rattle.hw_names.specs.Name.{Text}
 use Rattle.cal_ast.specs.Naming.{cell_names, component_names}
@@ -8,8 +8,8 @@ use Rattle.cal_ast.specs.Tree.{Component, Design, PortName, own, port_of}
 use Rattle.cal_ast.specs.Wires.{CrossesCell, Reaches}
 use Rattle.cal_check.specs.Firsts.{IsFirst}
 use Rattle.cal_check.specs.Nests.{HasPart}
-use Rattle.cal_check.specs.inside.Nodes.{APort, IsKey, Node, key_of, ports_in}
-use Rattle.cal_check.specs.inside.WireGraphs.{HasNumber, HasReading, NodeReads}
+use Rattle.cal_check.specs.inside.Nodes.{APort, Node, key_of, ports_in}
+use Rattle.cal_check.specs.inside.WireGraphs.{HasNumber}
 use Rattle.cal_check.specs.declared.levels.Levels.{Levels}
 use Rattle.cal_check.specs.declared.wire_graph.WireGraph.{WireGraph}
 
@@ -47,11 +47,6 @@ pub record ReadsByPart (design : Design) (c : Component) (node other : Node) : T
   pub input_name : Text
   pub crosses : CrossesCell design c part port input output_name input_name
   pub reaches : Reaches design part (own output_name) (own input_name)
-
--- the graph has all readings of the component, but for those through cells that are made of components
-pub record IsGraphBut (design : Design) (c : Component) (g : WireGraph) : Type 0 where
-  pub nodes : All IsKey g.ports.keys
-  pub reads : (node other : Node) → NodeReads design c node other → HasReading g node other ⊎ ReadsByPart design c node other
 
 -- the port of a cell that is made of a component, by the number of the cell, its level in the component, and its number in the graph of c
 pub record IsCellPort (design : Design) (c : Component) (g : WireGraph) (levels : List Levels) (port : CellPort) : Type 0 where

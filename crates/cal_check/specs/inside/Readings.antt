@@ -1,17 +1,17 @@
 -- What each part of a component says of which port or hole reads which within a row. This project's.
-use Rattle.std.specs.Prelude.{◌≡◌, ◌⊎◌, ℕ, ◌+◌, true, List, [], ◌∷◌, length, slice_get, slice_index_or, codes, Option, Some, None, Contains}
+use Rattle.std.specs.Prelude.{◌≡◌, ◌⊎◌, ◌↔◌, ℕ, ◌+◌, true, List, [], ◌∷◌, length, slice_get, codes, Option, Some, None, All}
 use Rattle.std.specs.List.{flat_map}
 use Rattle.hw_names.specs.Name.{Text}
 use Rattle.hw_prims.specs.Meaning.{is_through}
 use Rattle.hw_prims.specs.Table.{inputs_of, outputs_of, pin_names}
 use Rattle.hw_prims.specs.declared.prim.Primitive.{Primitive}
 use Rattle.cal_ast.specs.Invoking.{invoke_group}
-use Rattle.cal_ast.specs.Ports.{inputs_in, outputs_in, part_in, primitive_in}
+use Rattle.cal_ast.specs.Ports.{primitive_in}
 use Rattle.cal_ast.specs.Sides.{IsSource}
 use Rattle.cal_ast.specs.Tree.{PortName, own, port_of, CellDef, Assignment, DoneLine, GroupDef, Statement, Invoke, Component, Design}
-use Rattle.cal_ast.specs.Wires.{Reaches, done_ports, set_ports}
-use Rattle.cal_check.specs.inside.Nodes.{Node, APort, AHole}
-use Rattle.cal_check.specs.inside.WireGraphs.{Adds, IsPair}
+use Rattle.cal_ast.specs.Wires.{all_groups, done_ports, set_ports}
+use Rattle.cal_check.specs.inside.Nodes.{Node, APort, AHole, IsKey}
+use Rattle.cal_check.specs.inside.WireGraphs.{Adds, HasReading, IsPair}
 use Rattle.cal_check.specs.declared.wire_graph.WireGraph.{WireGraph}
 
 -- the readings of each of a list, by its place in it
@@ -77,33 +77,6 @@ ReadsOutput cell prim output = AnyOf (ReadsThrough cell prim output) (pin_names 
 abbrev pub ReadsInPrimitive : Text → Primitive → Node → Node → Type 0
 ReadsInPrimitive cell prim = AnyOf (ReadsOutput cell prim) (pin_names (outputs_of prim))
 
--- an output of a cell of a component reads the inputs that it reaches there
-pub record ReadsInPart (design : Design) (cell : Text) (part : Component) (n o : Node) : Type 0 where
-  pub output : Text
-  pub input : Text
-  pub is_output : Contains (pin_names (outputs_in part)) output
-  pub is_input : Contains (pin_names (inputs_in part)) input
-  pub reaches : Reaches design part (own output) (own input)
-  pub pair : IsPair (APort (port_of cell output)) (APort (port_of cell input)) n o
-
--- a port of a cell by its number in a list of names
-abbrev pub numbered : Text → List Text → ℕ → Node
-numbered cell ports number = APort (port_of cell (slice_index_or ports number []))
-
--- a port of a cell reads others of it, by their numbers
-abbrev pub ReadsNumbers : Text → List Text → ℕ → List ℕ → Node → Node → Type 0
-ReadsNumbers cell ports output inputs = AnyOf (λ input. IsPair (numbered cell ports output) (numbered cell ports input)) inputs
-
--- so of the cell of a name
-abbrev pub ReadsInCell : Design → Component → Text → Node → Node → Type 0
-ReadsInCell design c cell n o =
-    ((prim : Primitive) × (primitive_in c cell ≡ Some prim) × ReadsInPrimitive cell prim n o)
-    ⊎ ((part : Component) × (part_in design c cell ≡ Some part) × ReadsInPart design cell part n o)
-
--- and of each cell of the component
-abbrev pub ReadsInCells : Design → Component → Node → Node → Type 0
-ReadsInCells design c = AnyOf (λ (cell : CellDef). ReadsInCell design c cell.name) c.cells
-
 -- so of the cell of a name, if it is of a primitive
 abbrev pub ReadsPrimitive : Component → Text → Node → Node → Type 0
 ReadsPrimitive c cell n o = (prim : Primitive) × (primitive_in c cell ≡ Some prim) × ReadsInPrimitive cell prim n o
@@ -111,3 +84,12 @@ ReadsPrimitive c cell n o = (prim : Primitive) × (primitive_in c cell ≡ Some 
 -- and of each cell of the component
 abbrev pub ReadsPrimitives : Component → Node → Node → Type 0
 ReadsPrimitives c = AnyOf (λ (cell : CellDef). ReadsPrimitive c cell.name) c.cells
+
+-- what the component's own text says: its assignments, its groups with those of invokes, and its cells of primitives
+abbrev pub ReadsOwn : Design → Component → Node → Node → Type 0
+ReadsOwn design c n o = (ReadsSets None c.sets n o ⊎ ReadsGroups design c 0 (all_groups design c) n o) ⊎ ReadsPrimitives c n o
+
+-- the graph has this and nothing else
+pub record HasOwnReadings (design : Design) (c : Component) (g : WireGraph) : Type 0 where
+  pub nodes : All IsKey g.ports.keys
+  pub reads : (n o : Node) → HasReading g n o ↔ ReadsOwn design c n o

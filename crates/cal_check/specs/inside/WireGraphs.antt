@@ -50,12 +50,6 @@ IsPair node other n o = (node ≡ n) × (other ≡ o)
 abbrev pub HasOrder : List (List ℕ) → Type 0
 HasOrder reads = (order : List ℕ) × graph.IsReadOrder reads order
 
--- from the component's port of this name the graph leads to number i
-pub record LeadsTo (g : WireGraph) (reads : List (List ℕ)) (name : Text) (i : ℕ) : Type 0 where
-  pub start : ℕ
-  pub is : HasNumber g (APort (own name)) start
-  pub reaches : graph.Reaches reads start i
-
 -- group k of the component, those of its invokes among them
 abbrev pub IsGroupAt : Design → Component → ℕ → GroupDef → Type 0
 IsGroupAt design c k g = slice_get (all_groups design c) k ≡ Some g
@@ -74,8 +68,3 @@ pub data NodeReads (design : Design) (c : Component) : Node → Node → Type 0 
   OfPrimitive : (port other : PortName) → ReadsByPrimitive c port other → NodeReads design c (APort port) (APort other)
   OfPart : (part : Component) (port other : PortName) (output input : Text) → CrossesCell design c part port other output input →
       Reaches design part (own output) (own input) → NodeReads design c (APort port) (APort other)
-
--- the graph has the readings of the component and no others
-pub record IsGraphOf (design : Design) (c : Component) (g : WireGraph) : Type 0 where
-  pub nodes : All IsKey g.ports.keys
-  pub reads : (node other : Node) → HasReading g node other ↔ NodeReads design c node other

@@ -4,10 +4,10 @@ use Rattle.cal_check.specs.inside.FirstLoop.{TellsFirstLooped}
 use Rattle.cal_check.proofs.LoopedLemmas.{KnowsParts}
 use Rattle.cal_check.proofs.check.first_looped.Given as goal
 
--- so many components are judged: the first that has a loop, and on what the outputs of those depend that are parts
+-- so many components are judged: the first that has a loop, and what holders need to know of those that are parts
 abbrev pub invariant-loop-number : goal.invariant-loop-number
 invariant-loop-number l = record {
-  sized : length l.wires.items ≡ length (design_of l.design);
-  knows : KnowsParts (design_of l.design) (take l.number-index l.number-items) l.wires.items;
-  looped : TellsFirstLooped (design_of l.design) (take l.number-index l.number-items) l.looped;
+  sized : length l.insides.items ≡ length (design_of l.overview.design.now);
+  knows : KnowsParts (design_of l.overview.design.now) (take l.number-index l.number-items) l.insides.items;
+  looped : TellsFirstLooped (design_of l.overview.design.now) (take l.number-index l.number-items) l.looped;
 }

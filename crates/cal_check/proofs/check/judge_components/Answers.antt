@@ -12,11 +12,11 @@ of-requires-clause-number c = omega (arith, c.loop-number-test.true, ap length c
 
 pub returns-in_err-place-clause-refused : goal.returns-in_err-place-clause-refused
 returns-in_err-place-clause-refused c =
-    passed_up c.from_residual.result design.Memory (TellsRefusal c.args.design.now) c.from_residual.ensures.1 tt
+    passed_up c.from_residual.result design.Memory (TellsRefusal c.args.overview.now.design.now) c.from_residual.ensures.1 tt
 
 pub returns-in-Err-clause-refused : goal.returns-in-Err-clause-refused
 returns-in-Err-clause-refused c =
-    let d = c.args.design.now in
+    let d = c.args.overview.now.design.now in
     let n = c.loop-number.number in
     let e = c.in_ok-place.ensures in
     let at : slice_get (design_of d) n ≡ Some (component_tree d.names c.comp-item.result) =
@@ -25,14 +25,14 @@ returns-in-Err-clause-refused c =
 
 pub loop-number-preserved : goal.loop-number-preserved
 loop-number-preserved c =
-    let d = c.args.design.now in
+    let d = c.args.overview.now.design.now in
     let n = c.loop-number.number in
     let e = c.in_ok-place.ensures in
     keep_more (design_of d) n _ e.comp (component_kept c.in_ok-place.place (design_of d) n e.design e.number c.in-Ok.ensures.kept) c.loop-number.invariant
 
 pub returns-clause-kept : goal.returns-clause-kept
 returns-clause-kept c =
-    let d = c.args.design.now in
+    let d = c.args.overview.now.design.now in
     let end : length (design_of d) ≤ c.loop-number.number =
     omega (arith, c.loop-number-test.false, ap length c.deref-comp-items.ensures.value, length-map d.comps.items (component_tree d.names)) in
     all_keep (design_of d) c.loop-number.number end c.loop-number.invariant

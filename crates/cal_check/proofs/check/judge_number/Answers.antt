@@ -1,43 +1,48 @@
 use Rattle.std.proofs.Common.{◌≡◌, IfOk, sym, subst, subst₂, ◌∙◌, arith}
+use Rattle.std.specs.Prelude.{IfSome}
 use Rattle.std.proofs.lemmas.List.{length-map}
 use Rattle.std.proofs.lemmas.Option.{same_Some}
 use Rattle.cal_ast.specs.Rules.{KeepsRules}
 use Rattle.cal_ast.specs.Tree.{Component, Design, component_tree, design_of}
 use Rattle.cal_check.specs.Around.{comp_at}
-use Rattle.cal_check.specs.inside.Wiring.{DependsOn, ShowsParts, TellsLoop}
-use Rattle.cal_check.specs.declared.wires.Judged.{Judged}
+use Rattle.cal_check.specs.inside.Wiring.{IsInside, ShowsParts, TellsLoop}
+use Rattle.cal_check.specs.declared.loops.Judged.{Judged}
 use Rattle.cal_check.proofs.LoopedLemmas.{told_part}
 use Rattle.cal_check.proofs.check.judge_number.Goals as goal
 
 pub get-requires : goal.get-requires
 get-requires c =
-    let design = c.args.design.now in
+    let design = c.args.overview.now.design.now in
     omega (arith, c.requires.nesting.sized, length-map design.comps.items (component_tree design.names))
 
-pub judge_wires-requires-clause-kept : goal.judge_wires-requires-clause-kept
-judge_wires-requires-clause-kept c =
+pub judge_loops-requires-clause-kept : goal.judge_loops-requires-clause-kept
+judge_loops-requires-clause-kept c =
     let K : Design → Type 0 = λ d. KeepsRules d in
     subst K (sym c.in_ok-place.ensures.design) c.requires.kept
 
-pub judge_wires-requires-clause-parts : goal.judge_wires-requires-clause-parts
-judge_wires-requires-clause-parts c =
-    subst₂ (λ d n. ShowsParts d n c.args.wires.now) (sym c.in_ok-place.ensures.design) (sym c.in_ok-place.ensures.number) c.requires.parts
+pub judge_loops-requires-clause-parts : goal.judge_loops-requires-clause-parts
+judge_loops-requires-clause-parts c =
+    subst₂ (λ d n. ShowsParts d n c.args.insides.now) (sym c.in_ok-place.ensures.design) (sym c.in_ok-place.ensures.number) c.requires.parts
 
-pub returns-clause-wires : goal.returns-clause-wires
-returns-clause-wires c = λ comp holder at held.
-    let d = design_of c.args.design.now in
+pub returns-clause-inside : goal.returns-clause-inside
+returns-clause-inside c = λ holder held.
+    let d = design_of c.args.overview.now.design.now in
+    let nesting = c.args.overview.now.nesting.now in
+    let part = told_part d nesting.holders holder c.args.number c.get.result.now c.is_empty-is_part.result c.requires.nesting.holders held c.get.ensures c.is_empty-is_part.ensures in
+    c.judge_loops.ensures.inside part
+
+pub returns-clause-shows : goal.returns-clause-shows
+returns-clause-shows c = λ comp at.
     let e = c.in_ok-place.ensures in
     let p = c.in_ok-place.place in
-    let nesting = c.args.nesting.now in
     let same : comp_at p ≡ comp = same_Some (comp_at p) comp (sym e.comp ∙ at) in
-    let part = told_part d nesting.holders holder c.args.number c.get.result.now c.is_empty-is_part.result c.requires.nesting.holders held c.get.ensures c.is_empty-is_part.ensures in
-    let J : Design → Component → Type 0 = λ design x. IfOk c.judge_wires.result (λ (judged : Judged). DependsOn design x judged.wires) in
-    subst₂ J e.design same (c.judge_wires.ensures.wires part)
+    let J : Design → Component → Type 0 = λ design x. IfOk c.judge_loops.result (λ (judged : Judged). IfSome judged.inside (IsInside design x)) in
+    subst₂ J e.design same c.judge_loops.ensures.shows
 
 pub returns-clause-cycle : goal.returns-clause-cycle
 returns-clause-cycle c = λ comp at.
     let e = c.in_ok-place.ensures in
     let p = c.in_ok-place.place in
     let same : comp_at p ≡ comp = same_Some (comp_at p) comp (sym e.comp ∙ at) in
-    let J : Design → Component → Type 0 = λ design x. IfOk c.judge_wires.result (λ (judged : Judged). TellsLoop design x judged.least_loop) in
-    subst₂ J e.design same c.judge_wires.ensures.cycle
+    let J : Design → Component → Type 0 = λ design x. IfOk c.judge_loops.result (λ (judged : Judged). TellsLoop design x judged.least_loop) in
+    subst₂ J e.design same c.judge_loops.ensures.cycle

@@ -11,11 +11,11 @@ use Rattle.cal_check.proofs.OrderLemmas.{clear_next, levels_next, levels_none, p
 use Rattle.cal_check.proofs.levels.have_levels.Goals as goal
 
 pub unreachable-requires : goal.unreachable-requires
-unreachable-requires c = no_other_order (design_of c.args.design.now) c.requires.kept c.args.nesting.now.order c.requires.nesting.order c.in_default.not-Parts
+unreachable-requires c = no_other_order (design_of c.args.overview.now.design.now) c.requires.kept c.args.overview.now.nesting.now.order c.requires.nesting.order c.in_default.not-Parts
 
 pub loop-number-init : goal.loop-number-init
 loop-number-init c =
-    let design = c.args.design.now in
+    let design = c.args.overview.now.design.now in
     let d = design_of design in
     record {
       sized = omega (arith, c.in_ok-levels.ensures, c.len.ensures, design.comps.ok.0, length-map design.comps.items (component_tree design.names));
@@ -25,39 +25,39 @@ loop-number-init c =
 
 pub levels_at-requires-clause-number : goal.levels_at-requires-clause-number
 levels_at-requires-clause-number c =
-    let design = c.args.design.now in
+    let design = c.args.overview.now.design.now in
     let d = design_of design in
     let items = c.deref-number-items.result.now in
     let k = c.loop-number.number-index in
-    let first = parts_first d c.args.nesting.now.order c.in-Parts.order c.in-Parts.is c.requires.nesting.order in
+    let first = parts_first d c.args.overview.now.nesting.now.order c.in-Parts.order c.in-Parts.is c.requires.nesting.order in
     let lt : k < length items = omega arith in
     omega (arith, in_order d c.in-Parts.order.items items k c.deref-number-items.ensures.value first lt, length-map design.comps.items (component_tree design.names))
 
 pub levels_at-requires-clause-parts : goal.levels_at-requires-clause-parts
 levels_at-requires-clause-parts c =
-    let d = design_of c.args.design.now in
+    let d = design_of c.args.overview.now.design.now in
     let items = c.deref-number-items.result.now in
     let k = c.loop-number.number-index in
-    let first = parts_first d c.args.nesting.now.order c.in-Parts.order c.in-Parts.is c.requires.nesting.order in
+    let first = parts_first d c.args.overview.now.nesting.now.order c.in-Parts.order c.in-Parts.is c.requires.nesting.order in
     let lt : k < length items = omega arith in
     parts_levelled d c.in-Parts.order.items items k c.deref-number-items.ensures.value first lt c.loop-number.levels.items c.deref.result.now c.loop-number.invariant.sized c.loop-number.invariant.knows c.deref.ensures.value
 
 pub keep_levels-requires : goal.keep_levels-requires
 keep_levels-requires c =
-    let d = design_of c.args.design.now in
+    let d = design_of c.args.overview.now.design.now in
     let items = c.deref-number-items.result.now in
     let k = c.loop-number.number-index in
-    let first = parts_first d c.args.nesting.now.order c.in-Parts.order c.in-Parts.is c.requires.nesting.order in
+    let first = parts_first d c.args.overview.now.nesting.now.order c.in-Parts.order c.in-Parts.is c.requires.nesting.order in
     let lt : k < length items = omega arith in
     omega (arith, in_order d c.in-Parts.order.items items k c.deref-number-items.ensures.value first lt, c.loop-number.invariant.sized)
 
 pub loop-number-preserved : goal.loop-number-preserved
 loop-number-preserved c =
-    let d = design_of c.args.design.now in
+    let d = design_of c.args.overview.now.design.now in
     let items = c.deref-number-items.result.now in
     let k = c.loop-number.number-index in
     let same = c.deref-number-items.ensures.value in
-    let first = parts_first d c.args.nesting.now.order c.in-Parts.order c.in-Parts.is c.requires.nesting.order in
+    let first = parts_first d c.args.overview.now.nesting.now.order c.in-Parts.order c.in-Parts.is c.requires.nesting.order in
     let lt : k < length items = omega arith in
     let levels = c.loop-number.levels.items in
     let own = c.in-Some.own in
@@ -73,9 +73,9 @@ loop-number-preserved c =
 
 pub returns : goal.returns
 returns c =
-    let d = design_of c.args.design.now in
+    let d = design_of c.args.overview.now.design.now in
     let items = c.deref-number-items.result.now in
     let order = c.in-Parts.order.items in
-    let first = parts_first d c.args.nesting.now.order c.in-Parts.order c.in-Parts.is c.requires.nesting.order in
+    let first = parts_first d c.args.overview.now.nesting.now.order c.in-Parts.order c.in-Parts.is c.requires.nesting.order in
     let all : take c.loop-number.number-index items ≡ order = take_all c.loop-number.number-index items (omega arith) ∙ c.deref-number-items.ensures.value in
     λ told. first_loop_told d c.requires.kept order first.each None (subst (λ (l : List ℕ). TellsFirstLooped d l None) all c.loop-number.invariant.clear)

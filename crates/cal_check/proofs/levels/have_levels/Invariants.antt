@@ -7,7 +7,7 @@ use Rattle.cal_check.proofs.levels.have_levels.Given as goal
 -- so many components have levels, and no loop
 abbrev pub invariant-loop-number : goal.invariant-loop-number
 invariant-loop-number l = record {
-  sized : length l.levels.items ≡ length (design_of l.design);
-  knows : KnowsLevels (design_of l.design) (take l.number-index l.number-items) l.levels.items;
-  clear : TellsFirstLooped (design_of l.design) (take l.number-index l.number-items) None;
+  sized : length l.levels.items ≡ length (design_of l.overview.design.now);
+  knows : KnowsLevels (design_of l.overview.design.now) (take l.number-index l.number-items) l.levels.items;
+  clear : TellsFirstLooped (design_of l.overview.design.now) (take l.number-index l.number-items) None;
 }

@@ -1,4 +1,4 @@
-use Rattle.std.proofs.Common.{◌<◌, ◌≤◌, ℕ, List, Option, Vec, Global, Some, length, sym, subst, arith}
+use Rattle.std.proofs.Common.{◌<◌, ◌≤◌, ℕ, List, Option, Vec, Global, length, sym, subst, arith}
 use Rattle.std.specs.Prelude.{All, IfSome}
 use Rattle.hw_graph.specs.declared.groups.Entry.{Entry}
 use Rattle.hw_levels.specs.Levels.{AreLevels}
@@ -36,7 +36,7 @@ returns-in-Some-clause-levels c =
     let levels = c.in-Some.found.items in
     let are = subst (λ (o : Option (Vec ℕ Global)). IfSome o (λ found. AreLevels g.entries.items c.in_ok-cells.cells.items found.items)) c.in-Some.is c.in_ok-found.ensures.levels in
     let kept = subst (λ (l : List ℕ). KeepsOwn (comp_at p) g.ports.keys l c.in_ok-own_levels-in-Some.field-0) c.deref.ensures.value c.in_ok-own_levels-in-Some.ensures in
-    levels_shown d c.requires.kept p.number (comp_at p) c.comp-comp.ensures.at g c.len.ensures.distinct c.in_ok-graph.ensures c.args.levels.now c.requires.parts c.in_ok-cells.cells.items c.in_ok-cells.ensures.found levels are c.in_ok-own_levels-in-Some.field-0 kept
+    levels_shown d c.requires.kept (comp_at p) g c.in_ok-graph.ensures.reads c.len.ensures.distinct p.number c.comp-comp.ensures.at c.args.levels.now c.requires.parts c.in_ok-cells.cells.items c.in_ok-cells.ensures.found levels are c.in_ok-own_levels-in-Some.field-0 kept
 
 pub returns-in-Some-clause-no_loop : goal.returns-in-Some-clause-no_loop
 returns-in-Some-clause-no_loop c =
@@ -44,4 +44,4 @@ returns-in-Some-clause-no_loop c =
     let g = c.in_ok-graph.graph in
     let levels = c.in-Some.found.items in
     let are = subst (λ (o : Option (Vec ℕ Global)). IfSome o (λ found. AreLevels g.entries.items c.in_ok-cells.cells.items found.items)) c.in-Some.is c.in_ok-found.ensures.levels in
-    levels_no_loop (design_at p) c.requires.kept p.number (comp_at p) c.comp-comp.ensures.at g c.len.ensures.distinct c.in_ok-graph.ensures c.args.levels.now c.requires.parts c.in_ok-cells.cells.items c.in_ok-cells.ensures.found levels are
+    levels_no_loop (design_at p) c.requires.kept (comp_at p) g c.in_ok-graph.ensures.reads c.len.ensures.distinct p.number c.comp-comp.ensures.at c.args.levels.now c.requires.parts c.in_ok-cells.cells.items c.in_ok-cells.ensures.found levels are

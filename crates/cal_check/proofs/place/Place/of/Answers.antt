@@ -13,7 +13,7 @@ use Rattle.cal_check.proofs.place.Place.of.Goals as goal
 
 pub cells_of-requires : goal.cells_of-requires
 cells_of-requires c =
-    let d = c.args.design.now in
+    let d = c.args.overview.now.design.now in
     let x = c.index-comp.result.now in
     let N : CalComp → Type 0 = ComponentHasNumbers d.names in
     let own : ComponentHasNumbers d.names x = subst N (sym c.index-comp.ensures) (c.requires.numbers c.args.number x c.requires.number) in
@@ -21,7 +21,7 @@ cells_of-requires c =
 
 pub groups_of-requires : goal.groups_of-requires
 groups_of-requires c =
-    let d = c.args.design.now in
+    let d = c.args.overview.now.design.now in
     let x = c.index-comp.result.now in
     let N : CalComp → Type 0 = ComponentHasNumbers d.names in
     let own : ComponentHasNumbers d.names x = subst N (sym c.index-comp.ensures) (c.requires.numbers c.args.number x c.requires.number) in
@@ -29,13 +29,13 @@ groups_of-requires c =
 
 pub holders_of-requires : goal.holders_of-requires
 holders_of-requires c =
-    let d = c.args.design.now in
+    let d = c.args.overview.now.design.now in
     let within : c.args.number < length (design_of d) = omega (arith, c.requires.number, length-map d.comps.items (component_tree d.names)) in
     (design_of d, c.requires.nesting, within)
 
 pub invariant_of-result : goal.invariant_of-result
 invariant_of-result c =
-    let d = c.args.design.now in
+    let d = c.args.overview.now.design.now in
     let x = c.index-comp.result.now in
     let C : List CalCell → Type 0 = λ l. ShowsFirsts c.in_ok-cells.cells (cell_names (map (cell_tree d.names) l)) in
     let G : List Group → Type 0 = λ l. ShowsFirsts c.in_ok-groups.groups (group_names (map (group_tree d.names) l)) in
@@ -55,5 +55,5 @@ returns-clause-design c = refl
 pub returns-clause-comp : goal.returns-clause-comp
 unfolding comp_at
 returns-clause-comp c =
-    let d = c.args.design.now in
+    let d = c.args.overview.now.design.now in
     at_mapped (component_tree d.names) d.comps.items d.comps.items c.args.number c.index-comp.result.now refl c.requires.number c.index-comp.ensures

@@ -1,4 +1,4 @@
-use Rattle.std.proofs.Common.{List, Option, Some, length, ap, sym, subst, arith}
+use Rattle.std.proofs.Common.{List, Option, length, ap, sym, subst, arith}
 use Rattle.std.specs.Prelude.{All, IfSome}
 use Rattle.std.proofs.lemmas.Result.{IfOk-weaker}
 use Rattle.hw_names.specs.Name.{Text}

@@ -1,0 +1,129 @@
+//! The cells of a component that are made of components, as its graph of ports has them.
+//!
+//! Only ports that the component's text names are in its graph. A port of a cell that is not named reads nothing or is read by
+//! nothing, so it lies on no way between the component's own ports, and on no loop; and a cell costs nothing unless it is named.
+ghost use Rattle.std.specs.Prelude.{◌≡◌, ◌↔◌, ◌<◌, ℕ, All, Some, length, slice_get, IfOk};
+ghost use Rattle.cal_ast.specs.Rules.{KeepsRules};
+ghost use Rattle.cal_ast.specs.Tree.{Component};
+ghost use Rattle.cal_check.specs.Around.{comp_at, design_at};
+ghost use Rattle.cal_check.specs.inside.CellPins.{AreCellPorts, HasPins, IsPortOfCell, TellsPin};
+ghost use Rattle.cal_check.specs.inside.Cells.{AreCells};
+ghost use Rattle.cal_check.specs.inside.Wiring.{ShowsParts};
+
+use crate::inside::Inside;
+use crate::made::component_of;
+use crate::place::Place;
+use crate::wire_graph::WireGraph;
+use hw_bits::Memory;
+use hw_cells::{Cell, Pin};
+use hw_graph::{Entry, gather};
+
+/// The number of the cell whose port the node is, if that is made of a component.
+fn cell_number(place: &Place, graph: &WireGraph, node: usize) -> Option<usize>
+    requires { node < length graph.now.ports.keys }
+    ensures { (cell : ℕ) → (result ≡ Some cell) ↔ IsPortOfCell (design_at place.now) (comp_at place.now) graph.now cell node }
+{
+    let (cell, _pin) = graph.ports.cell_port(node)?;
+    let number = place.cell(cell)?;
+    let _part = component_of(place.made(number))?;
+    Some(number)
+}
+
+/// For each node that is a port of a cell that is made of a component the number of the cell.
+fn cell_ports(place: &Place, graph: &WireGraph) -> Result<Vec<Entry>, Memory>
+    ensures { IfOk result (λ entries. AreCellPorts (design_at place.now) (comp_at place.now) graph.now entries.items) }
+{
+    let mut entries = Vec::new(graph.alloc);
+    for node in 0..graph.ports.len() {
+        if let Some(number) = cell_number(place, graph, node) {
+            entries.push(Entry {
+                key: number,
+                value: node,
+            })?;
+        }
+    }
+    Ok(entries)
+}
+
+/// A port of a cell, and whether it is an input.
+#[derive(Clone, Copy)]
+pub struct CellPin {
+    pub pin: Pin,
+    pub is_input: bool,
+}
+
+/// The port of a cell that is made of the component of this number: a node of the graph, and its node inside.
+fn cell_pin(
+    place: &Place,
+    graph: &WireGraph,
+    part: usize,
+    inside: &Inside,
+    port: usize,
+) -> Option<CellPin>
+    requires part { part < length (design_at place.now) }
+    requires port { port < length graph.now.ports.keys }
+    ensures { (c : Component) → slice_get (design_at place.now) part ≡ Some c → TellsPin graph.now c inside.now port result }
+{
+    let (_cell, pin) = graph.ports.cell_port(port)?;
+    let signature = place.signature_of(part);
+    let number = signature.names.find(pin)?;
+    let node = inside.nodes.get(number).copied().flatten()?;
+    Some(CellPin {
+        pin: Pin { port, node },
+        is_input: number < signature.inputs,
+    })
+}
+
+/// A cell that is made of the component of this number, with these ports.
+fn cell_of<'w>(
+    place: &Place,
+    graph: &WireGraph,
+    part: usize,
+    inside: &'w Inside,
+    ports: &[usize],
+) -> Result<Cell<'w>, Memory>
+    requires part { part < length (design_at place.now) }
+    requires ports { All (λ port. port < length graph.now.ports.keys) ports.now }
+    ensures { (c : Component) → slice_get (design_at place.now) part ≡ Some c → IfOk result (HasPins graph.now c inside.now ports.now) }
+{
+    let mut cell = Cell {
+        reads: &inside.reads,
+        outputs: Vec::new(graph.alloc),
+        inputs: Vec::new(graph.alloc),
+    };
+    for port in ports {
+        if let Some(found) = cell_pin(place, graph, part, inside, *port) {
+            if found.is_input {
+                cell.inputs.push(found.pin)?;
+            } else {
+                cell.outputs.push(found.pin)?;
+            }
+        }
+    }
+    Ok(cell)
+}
+
+/// The cells that are made of components, each with those of its ports that the graph has. `insides` are those of the components, by
+/// their numbers.
+pub fn cells_of<'w>(
+    place: &Place,
+    graph: &WireGraph,
+    insides: &'w [Option<Inside>],
+) -> Result<Vec<Cell<'w>>, Memory>
+    requires kept { KeepsRules (design_at place.now) }
+    requires parts { ShowsParts (design_at place.now) place.now.number insides.now }
+    ensures { IfOk result (λ cells. AreCells (design_at place.now) (comp_at place.now) graph.now cells.items) }
+{
+    let count = place.comp().cells.len();
+    let entries = cell_ports(place, graph)?;
+    let nodes = gather(graph.alloc, entries.as_slice(), count)?;
+    let mut cells = Vec::new(graph.alloc);
+    for number in 0..count {
+        if let Some(part) = component_of(place.made(number)) {
+            if let Some(inside) = &insides[part] {
+                cells.push(cell_of(place, graph, part, inside, nodes.get(number))?)?;
+            }
+        }
+    }
+    Ok(cells)
+}

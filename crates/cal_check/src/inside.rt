@@ -1,0 +1,48 @@
+//! What the components that have cells of a component need to know of it: which of its outputs reach which of its inputs.
+ghost use Rattle.std.specs.Prelude.{◌≡◌, ◌↔◌, ℕ, Some, slice_get, IfOk};
+ghost use Rattle.hw_names.specs.Name.{AreDistinct};
+ghost use Rattle.cal_ast.specs.Rules.{KeepsRules};
+ghost use Rattle.cal_ast.specs.Tree.{own};
+ghost use Rattle.cal_check.specs.Around.{comp_at, design_at};
+ghost use Rattle.cal_check.specs.inside.Nodes.{APort, key_of};
+ghost use Rattle.cal_check.specs.inside.Wiring.{AreNodes};
+
+use crate::pin_name::PinName;
+use crate::place::Place;
+use crate::ports::Ports;
+use crate::wires::{own_port, port_names};
+use hw_bits::Memory;
+use hw_graph::Groups;
+use hw_texts::text_at;
+use std::alloc::Global;
+
+/// The graph of a component, its cells' graphs among it, and in it the nodes of the component's ports.
+#[derive(Drop)]
+pub struct Inside {
+    /// For each node those that it reads.
+    pub reads: Groups,
+    /// The node of each port by its number, inputs first; none of a port of which the component's text says nothing.
+    pub nodes: Vec<Option<usize>>,
+}
+
+/// The node of the component's own port of this name, if the graph has it.
+pub fn own_node(ports: &Ports, name: &[u8]) -> Option<usize>
+    requires { AreDistinct ports.now.keys }
+    ensures { (node : ℕ) → result ≡ Some node ↔ slice_get ports.now.keys node ≡ Some (key_of (APort (own name.now))) }
+{
+    ports.find(own_port(PinName::Text(name)))
+}
+
+/// The nodes of the component's own ports in a graph.
+pub fn own_nodes(alloc: Global, place: &Place, ports: &Ports) -> Result<Vec<Option<usize>>, Memory>
+    requires kept { KeepsRules (design_at place.now) }
+    requires distinct { AreDistinct ports.now.keys }
+    ensures { IfOk result (λ nodes. AreNodes (comp_at place.now) ports.now.keys nodes.items) }
+{
+    let names = port_names(place);
+    let mut nodes = Vec::new(alloc);
+    for number in 0..names.len() {
+        nodes.push(own_node(ports, text_at(names, number)))?;
+    }
+    Ok(nodes)
+}
