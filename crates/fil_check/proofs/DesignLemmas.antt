@@ -1,8 +1,8 @@
 -- The components of a design, judged one after another.
-use Rattle.std.proofs.Common.{◌≡◌, ◌≢◌, ℕ, zero, suc, ◌+◌, ◌<◌, ◌≤◌, Bool, true, false, List, [], ◌∷◌, ◌++◌, length, map, take, get_or, slice_get, Contains, Result, Some, Ok, option_map, inl, inr, refl, sym, ap, ap₂, subst, ◌∙◌, arith}
+use Rattle.std.proofs.Common.{◌≡◌, ◌≢◌, ℕ, zero, suc, ◌+◌, ◌<◌, ◌≤◌, Bool, true, false, List, [], ◌∷◌, ◌++◌, length, map, take, get_or, slice_get, Contains, Result, Some, Ok, option_map, inl, inr, refl, sym, ap, ap₂, subst, subst₂, ◌∙◌, append_assoc, length-append, arith}
 use Rattle.std.specs.Prelude.{AllPairs}
 use Rattle.std.proofs.lemmas.Bool.{cases_lt}
-use Rattle.std.proofs.lemmas.List.{length-map, length-take, map-append}
+use Rattle.std.proofs.lemmas.List.{get_or_append_left, length-map, length-take, map-append}
 use Rattle.std.proofs.lemmas.List.Elements.{All-map}
 use Rattle.std.proofs.lemmas.Option.{same_Some, slice_get-map, slice_get_read, slice_get_within}
 use Rattle.std.proofs.lemmas.Simd.{map-map}
@@ -25,6 +25,7 @@ use Rattle.fil_check.specs.First.{TellsFirst}
 use Rattle.fil_check.specs.inside.First.{ComponentIs, IsFirstItem, TellsComponent, TellsItem}
 use Rattle.fil_check.specs.Least.{evidence_of}
 use Rattle.fil_check.specs.inside.Outputs.{output_names}
+use Rattle.fil_check.specs.inside.Reached.{input_names, own_port_names}
 use Rattle.fil_check.specs.inside.Wired.{IsFirstLoop}
 use Rattle.fil_check.specs.declared.rules.CompEnd.{CompEnd}
 use Rattle.fil_check.specs.declared.rules.CompEnd.TheVariants as component
@@ -50,6 +51,21 @@ pairs_tail R x xs pairs i j d less below = pairs (suc i) (suc j) d (omega arith)
 pairs_back : {X : Type 0} (R : X → X → Type 0) (xs ys : List X) → AllPairs R (xs ++ ys) → AllPairs R ys
 pairs_back R [] ys pairs = pairs
 pairs_back R (x ∷ xs) ys pairs = pairs_back R xs ys (pairs_tail R x (xs ++ ys) pairs)
+
+pairs_front : {X : Type 0} (R : X → X → Type 0) (xs ys : List X) → AllPairs R (xs ++ ys) → AllPairs R xs
+pairs_front R xs ys pairs i j d less below =
+    subst₂ R (get_or_append_left xs ys d i (omega (arith, less, below))) (get_or_append_left xs ys d j below) (pairs i j d less (omega (arith, below, length-append xs ys)))
+
+-- its ports have different names
+pub ports_differ : (comps : Design) (c : Component) → KeepsComponent all_rules comps c → AreDistinct (own_port_names c)
+ports_differ comps c keeps =
+    let D : List Text → Type 0 = AreDistinct in
+    let before = map (λ (g : Interface). g.name) c.interfaces in
+    let outs = map (λ (p : DataPort). p.name) c.outs in
+    pairs_back (λ (a b : Text). a ≢ b) before (own_port_names c) (subst D (append_assoc before (input_names c) outs) (new_names comps c keeps).ports)
+
+pub inputs_differ : (comps : Design) (c : Component) → KeepsComponent all_rules comps c → AreDistinct (input_names c)
+inputs_differ comps c keeps = pairs_front (λ (a b : Text). a ≢ b) (input_names c) (map (λ (p : DataPort). p.name) c.outs) (ports_differ comps c keeps)
 
 -- its outputs have different names
 pub outputs_differ : (comps : Design) (c : Component) → KeepsComponent all_rules comps c → AreDistinct (output_names (component_signature c))

@@ -11,9 +11,6 @@ module _ {X : Type 0} (P : ℕ → X → Type 0) (xs : List X) where
   abbrev pub EachBelow : ℕ → Type 0
   EachBelow n = (k : ℕ) (x : X) → k < n → slice_get xs k ≡ Some x → P k x
 
-  pub each_none : EachBelow 0
-  each_none k x below at = absurd (omega arith)
-
   pub each_more : (n : ℕ) (x : X) → slice_get xs n ≡ Some x → EachBelow n → P n x → EachBelow (n + 1)
   each_more n x here below holds k y within at = by (cases_lt k n)
     where

@@ -6,7 +6,7 @@ use Rattle.std.proofs.lemmas.Bool.{cases_lt}
 use Rattle.std.proofs.lemmas.List.{reverse-append, reverse-reverse, take_at, take-append-le}
 use Rattle.std.proofs.lemmas.Option.{same_Some, slice_get_within, slice_get-map}
 use Rattle.hw_graph.proofs.MemberLemmas.{In, in_at, at_of, in_of, contains_of, from_map, from_filter}
-use Rattle.hw_names.proofs.NameLemmas.{same_number, Contains-slice_get}
+use Rattle.hw_names.proofs.NameLemmas.{same_number}
 use Rattle.hw_names.specs.Name.{Text, AreDistinct}
 use Rattle.hw_prims.proofs.PortNameLemmas.{keeps_words-made}
 use Rattle.hw_prims.specs.Filament.{is_data_pin}
@@ -25,14 +25,11 @@ use Rattle.fil_ast.specs.Tree.{Component, DataPort, Design}
 use Rattle.fil_ast.specs.Wires.{DependsWithin, OfComponent, OfPrimitive, Reaches, through_before, through_of, whole_scope}
 use Rattle.fil_check.proofs.Lookup.{find_at_place}
 use Rattle.fil_check.proofs.ReadingLemmas.{instance_found}
-use Rattle.fil_check.specs.inside.Levels.{AreAllOrNone}
 use Rattle.fil_check.specs.inside.PortGraph.{Below}
-use Rattle.fil_check.specs.inside.Readings.{ReadsAll, ReadsMade, ReadsWired, ReadsWithin}
+use Rattle.fil_check.specs.inside.Readings.{ReadsAll, ReadsMade, ReadsWithin}
 use Rattle.fil_check.specs.inside.Tables.{IsPlace}
-use Rattle.fil_check.specs.inside.Wiring.{DependsOn, ShowsWires}
 use Rattle.fil_check.specs.declared.tables.Earlier.{Earlier}
 use Rattle.fil_check.specs.declared.tables.Tables.{Tables}
-use Rattle.fil_check.specs.declared.loops.Wires.{Wires}
 use Rattle.fil_ast.specs.declared.tree.FilComp.{FilComp}
 
 -- ---- Filament's primitives: none is a memory, so all outputs of one depend on all inputs, or none on any
@@ -113,12 +110,6 @@ module _ (scope : Scope) (keeps : KeepsRules all_rules scope.comps) where
   pub no_table_at : (made output input : Text) → IsThroughAt scope.comps made output input → table_name made ≡ None
   no_table_at made output input t = no_table_of made (table_name made) refl (ap is_filament_primitive t.is_named ∙ no_primitive t.n t.d t.at)
 
-  pub no_component : (made output input : Text) → is_filament_primitive made ≡ true → IsThroughAt scope.comps made output input → ⊥
-  no_component made output input is t =
-      let none : is_filament_primitive made ≡ false = ap is_filament_primitive t.is_named ∙ no_primitive t.n t.d t.at in
-      let bad : true ≡ false = sym is ∙ none in
-      absurd (cc)
-
 -- ---- lists
 
 pub last_at : {X : Type 0} (xs : List X) (x : X) → slice_get (xs ++ x ∷ []) (length xs) ≡ Some x
@@ -129,11 +120,6 @@ pub front_at : {X : Type 0} (xs ys : List X) (k : ℕ) → k < length xs → sli
 front_at [] ys k lt = absurd (omega arith)
 front_at (x ∷ xs) ys zero lt = refl
 front_at (x ∷ xs) ys (suc k) lt = front_at xs ys k (omega (arith, lt))
-
-there_at : {X : Type 0} (xs : List X) (k : ℕ) → k < length xs → (x : X) × (slice_get xs k ≡ Some x)
-there_at [] k lt = absurd (omega arith)
-there_at (x ∷ xs) zero lt = (x, refl)
-there_at (x ∷ xs) (suc k) lt = there_at xs k (omega (arith, lt))
 
 pub unmap_at : {X Y : Type 0} (f : X → Y) (xs : List X) (k : ℕ) (y : Y) → slice_get (map f xs) k ≡ Some y → (x : X) × (slice_get xs k ≡ Some x) × (f x ≡ y)
 unmap_at f [] k y at = absurd (cc)
@@ -208,120 +194,81 @@ module _ (name output input : Text) where
 
 -- ---- an instance
 
-module _ (names : List Text) (earlier : Earlier) (comp : FilComp) (tables : Tables) (scope : Scope) (place : IsPlace names earlier comp tables scope) (known : Design) (part : AreAllOrNone scope.comps known) (keeps : KeepsRules all_rules scope.comps)
-    (i : Instance) (has : Contains scope.instances i) (sig : Signature) (told : instance_signature scope i.name ≡ Some sig) where
-  signed : signature_in scope.comps i.made i.params ≡ Some sig
-  signed = sym (ap (option_and_then (λ (x : Instance). signature_in scope.comps x.made x.params)) (instance_found scope i place.shows.distinct has)) ∙ told
+-- what is no primitive reads nothing through no components
+pub reads_nothing : (scope : Scope) (i : Instance) → table_name i.made ≡ None → (p o : Text) → ReadsMade (through_before []) scope i p o → ⊥
+reads_nothing scope i no_table p o (sig, told, w) = by w.depends
+  where
+    by : DependsWithin (through_before []) i w.output.name w.input.name → ⊥
+    by (OfPrimitive prim is t) = let bad : ◌≡◌ {A = Option Primitive} None (Some prim) = sym (ap (option_and_then (λ (t : Text). prim_of t i.params)) no_table) ∙ is in absurd (cc)
+    by (OfComponent t) = let nothing : through_before [] i.made w.output.name w.input.name = t in absurd nothing
 
-  of_sig : (through : Text → Text → Text → Type 0) (p o : Text) → ReadsMade through scope i p o → ReadsWithin through i sig p o
-  of_sig through p o (other, there, w) = subst (λ (x : Signature). ReadsWithin through i x p o) (same_Some other sig (sym there ∙ told)) w
+module _ (names : List Text) (earlier : Earlier) (comp : FilComp) (tables : Tables) (scope : Scope) (place : IsPlace names earlier comp tables scope)
+    (i : Instance) (has : Contains scope.instances i) where
+  module _ (sig : Signature) (told : instance_signature scope i.name ≡ Some sig) where
+    signed : signature_in scope.comps i.made i.params ≡ Some sig
+    signed = sym (ap (option_and_then (λ (x : Instance). signature_in scope.comps x.made x.params)) (instance_found scope i place.shows.distinct has)) ∙ told
 
-  told_known : (made output input : Text) → through_before known made output input → IsThroughAt scope.comps made output input
-  told_known made output input t = by part
-    where
-      by : AreAllOrNone scope.comps known → IsThroughAt scope.comps made output input
-      by (inl all) = through_told made output input scope.comps (subst (λ (l : Design). through_before l made output input) all t)
-      by (inr none) = let nothing : through_before [] made output input = subst (λ (l : Design). through_before l made output input) none t in absurd nothing
+    of_sig : (p o : Text) → ReadsMade (through_before []) scope i p o → ReadsWithin (through_before []) i sig p o
+    of_sig p o (other, there, w) = subst (λ (x : Signature). ReadsWithin (through_before []) i x p o) (same_Some other sig (sym there ∙ told)) w
 
-  -- a primitive's
-  module _ (table : Text) (of_table : table_name i.made ≡ Some table) (b : Bool) (flag : IsThrough i.made i.params b) where
-    is_primitive_name : is_filament_primitive i.made ≡ true
-    is_primitive_name = ap is_some of_table
+    -- a primitive's
+    module _ (table : Text) (of_table : table_name i.made ≡ Some table) (b : Bool) (flag : IsThrough i.made i.params b) where
+      is_primitive_name : is_filament_primitive i.made ≡ true
+      is_primitive_name = ap is_some of_table
 
-    prim_signed : primitive_signature i.made i.params ≡ Some sig
-    prim_signed = sym (ap (λ (t : Bool). if t then primitive_signature i.made i.params else option_and_then (bare_signature i.params) (component_named scope.comps i.made)) is_primitive_name) ∙ signed
+      prim_signed : primitive_signature i.made i.params ≡ Some sig
+      prim_signed = sym (ap (λ (t : Bool). if t then primitive_signature i.made i.params else option_and_then (bare_signature i.params) (component_named scope.comps i.made)) is_primitive_name) ∙ signed
 
-    prim_made : (prim : Primitive) × (filament_primitive i.made i.params ≡ Some prim) × (signature_by (timing_of i.made) prim ≡ sig)
-    prim_made = by (filament_primitive i.made i.params) refl prim_signed
-      where
-        by : (r : Option Primitive) → filament_primitive i.made i.params ≡ r → option_map (signature_by (timing_of i.made)) r ≡ Some sig
-            → (prim : Primitive) × (filament_primitive i.made i.params ≡ Some prim) × (signature_by (timing_of i.made) prim ≡ sig)
-        by None at e = absurd (cc)
-        by (Some prim) at e = (prim, at, same_Some (signature_by (timing_of i.made) prim) sig e)
+      prim_made : (prim : Primitive) × (filament_primitive i.made i.params ≡ Some prim) × (signature_by (timing_of i.made) prim ≡ sig)
+      prim_made = by (filament_primitive i.made i.params) refl prim_signed
+        where
+          by : (r : Option Primitive) → filament_primitive i.made i.params ≡ r → option_map (signature_by (timing_of i.made)) r ≡ Some sig
+              → (prim : Primitive) × (filament_primitive i.made i.params ≡ Some prim) × (signature_by (timing_of i.made) prim ≡ sig)
+          by None at e = absurd (cc)
+          by (Some prim) at e = (prim, at, same_Some (signature_by (timing_of i.made) prim) sig e)
 
-    through_is : (input output : SigPort) → Contains sig.ins input → Contains sig.outs output → (prim : Primitive) → filament_primitive i.made i.params ≡ Some prim → is_through prim input.name output.name ≡ b
-    through_is input output ins outs prim is =
-        let same : prim_made.0 ≡ prim = same_Some prim_made.0 prim (sym prim_made.1 ∙ is) in
-        let by_prim : signature_by (timing_of i.made) prim ≡ sig = ap (signature_by (timing_of i.made)) (sym same) ∙ prim_made.2 in
-        let has_ins = pin_within input_port (inputs_of prim) input (subst (λ (s : Signature). Contains s.ins input) (sym by_prim) ins) in
-        let has_outs = pin_within (output_port (timing_of i.made)) (outputs_of prim) output (subst (λ (s : Signature). Contains s.outs output) (sym by_prim) outs) in
-        flag prim input.name output.name is has_ins has_outs
+      through_is : (input output : SigPort) → Contains sig.ins input → Contains sig.outs output → (prim : Primitive) → filament_primitive i.made i.params ≡ Some prim → is_through prim input.name output.name ≡ b
+      through_is input output ins outs prim is =
+          let same : prim_made.0 ≡ prim = same_Some prim_made.0 prim (sym prim_made.1 ∙ is) in
+          let by_prim : signature_by (timing_of i.made) prim ≡ sig = ap (signature_by (timing_of i.made)) (sym same) ∙ prim_made.2 in
+          let has_ins = pin_within input_port (inputs_of prim) input (subst (λ (s : Signature). Contains s.ins input) (sym by_prim) ins) in
+          let has_outs = pin_within (output_port (timing_of i.made)) (outputs_of prim) output (subst (λ (s : Signature). Contains s.outs output) (sym by_prim) outs) in
+          flag prim input.name output.name is has_ins has_outs
 
-    pub reads_all : b ≡ true → (p o : Text) → Below (ReadsAll i.name sig) (length sig.outs) p o ↔ ReadsMade (through_before known) scope i p o
-    reads_all on p o = (from, to)
-      where
-        from : Below (ReadsAll i.name sig) (length sig.outs) p o → ReadsMade (through_before known) scope i p o
-        from (k, lt, r) =
-            let ins = contains_of sig.ins r.reads.input (in_at sig.ins r.k r.reads.input r.reads.taken) in
-            let outs = contains_of sig.outs r.output (in_at sig.outs k r.output r.given) in (
-              sig,
-              told,
-              record {
-                input = r.reads.input;
-                output = r.output;
-                ins = ins;
-                outs = outs;
-                depends = OfPrimitive prim_made.0 prim_made.1 (through_is r.reads.input r.output ins outs prim_made.0 prim_made.1 ∙ on);
-                is_port = r.reads.is_port;
-                is_other = r.reads.is_other;
-              },
-            )
+      pub reads_all : b ≡ true → (p o : Text) → Below (ReadsAll i.name sig) (length sig.outs) p o ↔ ReadsMade (through_before []) scope i p o
+      reads_all on p o = (from, to)
+        where
+          from : Below (ReadsAll i.name sig) (length sig.outs) p o → ReadsMade (through_before []) scope i p o
+          from (k, lt, r) =
+              let ins = contains_of sig.ins r.reads.input (in_at sig.ins r.k r.reads.input r.reads.taken) in
+              let outs = contains_of sig.outs r.output (in_at sig.outs k r.output r.given) in (
+                sig,
+                told,
+                record {
+                  input = r.reads.input;
+                  output = r.output;
+                  ins = ins;
+                  outs = outs;
+                  depends = OfPrimitive prim_made.0 prim_made.1 (through_is r.reads.input r.output ins outs prim_made.0 prim_made.1 ∙ on);
+                  is_port = r.reads.is_port;
+                  is_other = r.reads.is_other;
+                },
+              )
 
-        to : ReadsMade (through_before known) scope i p o → Below (ReadsAll i.name sig) (length sig.outs) p o
-        to reads =
-            let w = of_sig (through_before known) p o reads in
-            let out = at_of sig.outs w.output (in_of sig.outs w.output w.outs) in
-            let inn = at_of sig.ins w.input (in_of sig.ins w.input w.ins) in
-            (out.0, slice_get_within sig.outs out.0 w.output out.1, record { output = w.output; given = out.1; k = inn.0; reads = record { input = w.input; taken = inn.1; is_port = w.is_port; is_other = w.is_other } })
+          to : ReadsMade (through_before []) scope i p o → Below (ReadsAll i.name sig) (length sig.outs) p o
+          to reads =
+              let w = of_sig p o reads in
+              let out = at_of sig.outs w.output (in_of sig.outs w.output w.outs) in
+              let inn = at_of sig.ins w.input (in_of sig.ins w.input w.ins) in
+              (out.0, slice_get_within sig.outs out.0 w.output out.1, record { output = w.output; given = out.1; k = inn.0; reads = record { input = w.input; taken = inn.1; is_port = w.is_port; is_other = w.is_other } })
 
-    pub reads_none : b ≡ false → (p o : Text) → ReadsMade (through_before known) scope i p o → ⊥
-    reads_none off p o reads = let w = of_sig (through_before known) p o reads in by w w.depends
-      where
-        by : (w : ReadsWithin (through_before known) i sig p o) → DependsWithin (through_before known) i w.output.name w.input.name → ⊥
-        by w (OfPrimitive prim is t) = let bad : true ≡ false = sym t ∙ (through_is w.input w.output w.ins w.outs prim is ∙ off) in absurd (cc)
-        by w (OfComponent t) = no_component scope keeps i.made w.output.name w.input.name is_primitive_name (told_known i.made w.output.name w.input.name t)
-
-  -- an earlier component's
-  module _ (no_table : table_name i.made ≡ None) where
-    no_prim : (prim : Primitive) → filament_primitive i.made i.params ≡ Some prim → ⊥
-    no_prim prim is = let bad : ◌≡◌ {A = Option Primitive} None (Some prim) = sym (ap (option_and_then (λ (t : Text). prim_of t i.params)) no_table) ∙ is in absurd (cc)
-
-    -- no component has the name
-    pub reads_nothing : (Contains earlier.names i.made → ⊥) → (p o : Text) → ReadsMade (through_before known) scope i p o → ⊥
-    reads_nothing absent p o reads = let w = of_sig (through_before known) p o reads in by w w.depends
-      where
-        by : (w : ReadsWithin (through_before known) i sig p o) → DependsWithin (through_before known) i w.output.name w.input.name → ⊥
-        by w (OfPrimitive prim is t) = no_prim prim is
-        by w (OfComponent t) =
-            let q = told_known i.made w.output.name w.input.name t in
-            let named_at : slice_get (map (λ (c : Component). c.name) scope.comps) q.n ≡ Some i.made = slice_get-map (λ (c : Component). c.name) scope.comps q.n ∙ (ap (option_map (λ (c : Component). c.name)) q.at ∙ ap Some (sym q.is_named)) in
-            absent (Contains-slice_get earlier.names q.n i.made (ap (λ (ts : List Text). slice_get ts q.n) place.shows.components.names ∙ named_at))
-
-    module _ (distinct : AreDistinct earlier.names) (n : ℕ) (at_name : slice_get earlier.names n ≡ Some i.made) where
+    -- an earlier component's
+    module _ (no_table : table_name i.made ≡ None) (distinct : AreDistinct earlier.names) (n : ℕ) (at_name : slice_get earlier.names n ≡ Some i.made) where
       name_at : slice_get (map (λ (c : Component). c.name) scope.comps) n ≡ Some i.made
       name_at = ap (λ (ts : List Text). slice_get ts n) (sym place.shows.components.names) ∙ at_name
 
       there : (d : Component) × (slice_get scope.comps n ≡ Some d) × (d.name ≡ i.made)
       there = unmap_at (λ (c : Component). c.name) scope.comps n i.made name_at
-
-      component_missing : (wires : List Wires) → ShowsWires scope.comps wires → slice_get wires n ≡ None → ⊥
-      component_missing wires shows none =
-          let within : n < length wires = omega (arith, slice_get_within scope.comps n there.0 there.1, shows.all) in
-          let own = there_at wires n within in
-          let bad : ◌≡◌ {A = Option Wires} None (Some own.0) = sym none ∙ own.1 in
-          absurd (cc)
-
-      -- without wires nothing is read through it
-      pub reads_missing : (wires : List Wires) → ShowsWires known wires → slice_get wires n ≡ None → (p o : Text) → ReadsMade (through_before known) scope i p o → ⊥
-      reads_missing wires shows missing p o reads = by part
-        where
-          of : (w : ReadsWithin (through_before []) i sig p o) → DependsWithin (through_before []) i w.output.name w.input.name → ⊥
-          of w (OfPrimitive prim is t) = no_prim prim is
-          of w (OfComponent t) = let nothing : through_before [] i.made w.output.name w.input.name = t in absurd nothing
-
-          by : AreAllOrNone scope.comps known → ⊥
-          by (inl all) = component_missing wires (subst (λ (l : Design). ShowsWires l wires) all shows) missing
-          by (inr none) = let w = of_sig (through_before []) p o (subst (λ (l : Design). ReadsMade (through_before l) scope i p o) none reads) in of w w.depends
 
       sig_is : component_signature there.0 ≡ sig
       sig_is =
@@ -376,65 +323,10 @@ module _ (names : List Text) (earlier : Earlier) (comp : FilComp) (tables : Tabl
             reaches = subst₂ (λ (a b : Text). ReachesOwn a b) (sym own_out.2) (sym own_in.2) (own_reach output.name input.name q);
           }
 
-      module _ (wires : List Wires) (shows : ShowsWires scope.comps wires) (own : Wires) (at_own : slice_get wires n ≡ Some own) where
-        depends_on : DependsOn (take n scope.comps) there.0 own
-        depends_on = shows.each n there.0 own there.1 at_own
-
-        reads_wired : (p o : Text) → Below (ReadsWired i.name sig own.inputs.items) (length sig.outs) p o ↔ ReadsMade (through_before scope.comps) scope i p o
-        reads_wired p o = (from, to)
-          where
-            from : Below (ReadsWired i.name sig own.inputs.items) (length sig.outs) p o → ReadsMade (through_before scope.comps) scope i p o
-            from (k, lt, r) =
-                let out = out_port_at k r.output r.given in
-                let inn = in_port_at r.reads.number r.reads.input r.reads.taken in
-                let listed = contains_of r.numbers.items r.reads.number (in_at r.numbers.items r.k r.reads.number r.reads.at) in
-                let reach = (depends_on.each k r.reads.number out.0 inn.0 r.numbers out.1 inn.1 r.at).0 listed in
-                let named_reach : ReachesOwn r.output.name r.reads.input.name = subst₂ (λ (a b : Text). ReachesOwn a b) out.2 inn.2 reach in (
-                  sig,
-                  told,
-                  record {
-                    input = r.reads.input;
-                    output = r.output;
-                    ins = contains_of sig.ins r.reads.input (in_at sig.ins r.reads.number r.reads.input r.reads.taken);
-                    outs = contains_of sig.outs r.output (in_at sig.outs k r.output r.given);
-                    depends = OfComponent (through_tells i.made r.output.name r.reads.input.name scope.comps (record { n = n; d = there.0; at = there.1; is_named = sym there.2; reaches = named_reach }));
-                    is_port = r.reads.is_port;
-                    is_other = r.reads.is_other;
-                  },
-                )
-
-            to : ReadsMade (through_before scope.comps) scope i p o → Below (ReadsWired i.name sig own.inputs.items) (length sig.outs) p o
-            to reads = let w = of_sig (through_before scope.comps) p o reads in by w w.depends
-              where
-                by : (w : ReadsWithin (through_before scope.comps) i sig p o) → DependsWithin (through_before scope.comps) i w.output.name w.input.name → Below (ReadsWired i.name sig own.inputs.items) (length sig.outs) p o
-                by w (OfPrimitive prim is t) = absurd (no_prim prim is)
-                by w (OfComponent t) =
-                    let out = at_of sig.outs w.output (in_of sig.outs w.output w.outs) in
-                    let inn = at_of sig.ins w.input (in_of sig.ins w.input w.ins) in
-                    let own_out = out_port_at out.0 w.output out.1 in
-                    let own_in = in_port_at inn.0 w.input inn.1 in
-                    let numbers = there_at own.inputs.items out.0 (omega (arith, slice_get_within there.0.outs out.0 own_out.0 own_out.1, depends_on.all)) in
-                    let reach = own_reach w.output.name w.input.name (through_told i.made w.output.name w.input.name scope.comps t) in
-                    let by_ports : ReachesOwn own_out.0.name own_in.0.name = subst₂ (λ (a b : Text). ReachesOwn a b) (sym own_out.2) (sym own_in.2) reach in
-                    let listed = (depends_on.each out.0 inn.0 own_out.0 own_in.0 numbers.0 own_out.1 own_in.1 numbers.1).1 by_ports in
-                    let k = at_of numbers.0.items inn.0 (in_of numbers.0.items inn.0 listed) in (
-                      out.0,
-                      slice_get_within sig.outs out.0 w.output out.1,
-                      record {
-                        numbers = numbers.0;
-                        output = w.output;
-                        at = numbers.1;
-                        given = out.1;
-                        k = k.0;
-                        reads = record { number = inn.0; input = w.input; at = k.1; taken = inn.1; is_port = w.is_port; is_other = w.is_other };
-                      },
-                    )
-
-      pub reads_known : (wires : List Wires) → ShowsWires known wires → (own : Wires) → slice_get wires n ≡ Some own → (p o : Text) → Below (ReadsWired i.name sig own.inputs.items) (length sig.outs) p o ↔ ReadsMade (through_before known) scope i p o
-      reads_known wires shows own at_own p o = by part
-        where
-          by : AreAllOrNone scope.comps known → Below (ReadsWired i.name sig own.inputs.items) (length sig.outs) p o ↔ ReadsMade (through_before known) scope i p o
-          by (inl all) =
-              subst (λ (l : Design). Below (ReadsWired i.name sig own.inputs.items) (length sig.outs) p o ↔ ReadsMade (through_before l) scope i p o) (sym all)
-              (reads_wired wires (subst (λ (l : Design). ShowsWires l wires) all shows) own at_own p o)
-          by (inr none) = absurd (omega (arith, slice_get_within wires n own at_own, shows.all, ap length none))
+  -- a primitive of which no output depends on any input
+  pub reads_none : (table : Text) → table_name i.made ≡ Some table → IsThrough i.made i.params false → (p o : Text) → ReadsMade (through_before []) scope i p o → ⊥
+  reads_none table of_table flag p o (sig, told, w) = by w.depends
+    where
+      by : DependsWithin (through_before []) i w.output.name w.input.name → ⊥
+      by (OfPrimitive prim is t) = let bad : true ≡ false = sym t ∙ through_is sig told table of_table false flag w.input w.output w.ins w.outs prim is in absurd (cc)
+      by (OfComponent t) = let nothing : through_before [] i.made w.output.name w.input.name = t in absurd nothing

@@ -1,14 +1,14 @@
 -- F14 by levels: along readings levels fall, so none comes back to where it began.
-use Rattle.std.proofs.Common.{◌≡◌, ◌⊎◌, ◌↔◌, inl, inr, ℕ, zero, suc, ◌+◌, ◌<◌, ◌≤◌, Bool, true, false, List, [], ◌∷◌, ◌++◌, Option, Some, Contains, length, map, take, get_or, slice_get, refl, sym, ap, ap₂, subst, subst₂, ◌∙◌, arith}
+use Rattle.std.proofs.Common.{◌≡◌, ◌⊎◌, ◌↔◌, inl, inr, ℕ, ◌+◌, ◌<◌, ◌≤◌, Bool, true, false, List, [], ◌∷◌, Option, Some, length, map, take, get_or, slice_get, refl, sym, ap, ap₂, subst, subst₂, ◌∙◌, arith}
 use Rattle.std.specs.Prelude.{All, IsTrue, slice_index}
-use Rattle.std.proofs.lemmas.List.{length-map, length-take, get_or-take, get_or-append-add, get_or_append_left, length-append}
+use Rattle.std.proofs.lemmas.List.{length-map}
 use Rattle.std.proofs.lemmas.List.Elements.{All-contains}
 use Rattle.std.proofs.lemmas.Option.{same_Some, slice_get_within, get_or_from_slice_get}
 use Rattle.hw_graph.proofs.MemberLemmas.{at_of, in_of}
 use Rattle.hw_levels.specs.Levels.{AreLevels, IsBelow, MayReach}
 use Rattle.hw_levels.specs.declared.cells.CellPort.{CellPort}
-use Rattle.hw_names.proofs.NameLemmas.{Contains-slice_get, KeepsTexts-append, length-KeepsTexts, same_number}
-use Rattle.hw_names.specs.Name.{Text, AreDistinct, HasNoDot, KeepsTexts, dotted}
+use Rattle.hw_names.proofs.NameLemmas.{Contains-slice_get, KeepsTexts-append, same_number}
+use Rattle.hw_names.specs.Name.{Text, AreDistinct, HasNoDot, dotted}
 use Rattle.fil_ast.specs.Naming.{instance_names}
 use Rattle.fil_ast.specs.Rules.{KeepsRules, all_rules}
 use Rattle.fil_ast.specs.Scope.{Instance, Scope}
@@ -19,22 +19,16 @@ use Rattle.fil_check.proofs.GivenLemmas.{mapped_at}
 use Rattle.fil_check.proofs.InstanceLemmas.{IsOwnReading, IsThroughAt, no_table_at, own_reading, through_told}
 use Rattle.fil_check.proofs.PortNumberLemmas.{cut_at_last}
 use Rattle.hw_texts.proofs.TextLemmas.{get_right}
-use Rattle.fil_check.proofs.WiringLemmas.{number_of, numbered_length}
+use Rattle.fil_check.proofs.DependLemmas.{number_of, numbered_length}
+use Rattle.fil_check.proofs.ThroughLemmas.{there_at}
 use Rattle.fil_check.specs.inside.Levels.{AreParts, HasAllPorts, IsPortOfPart, ShowAllLevels, ShowsLevels}
 use Rattle.fil_check.specs.inside.PortGraph.{HasInstances, HasReading}
-use Rattle.fil_check.specs.inside.Reached.{AreNumbered, IsGraphBy, input_names, output_names}
+use Rattle.fil_check.specs.inside.Reached.{AreNumbered, HasOwnReadings, ReadsOwn, input_names, output_names, own_port_names}
 use Rattle.fil_check.specs.inside.Tables.{IsPlace}
-use Rattle.fil_check.specs.inside.Wiring.{ShowsWires}
-use Rattle.fil_check.specs.declared.loops.Wires.{Wires}
 use Rattle.fil_check.specs.declared.loops.graph.PortGraph.{PortGraph}
 use Rattle.fil_check.specs.declared.loops.levels.Levels.{Levels}
 use Rattle.fil_check.specs.declared.tables.Earlier.{Earlier}
 use Rattle.fil_check.specs.declared.tables.Tables.{Tables}
-
-there_at : {X : Type 0} (xs : List X) (k : ℕ) → k < length xs → (x : X) × (slice_get xs k ≡ Some x)
-there_at [] k lt = absurd (omega arith)
-there_at (x ∷ xs) zero lt = (x, refl)
-there_at (x ∷ xs) (suc k) lt = there_at xs k (omega (arith, lt))
 
 -- a reading through an instance: the ports of the component that it is made of, by their numbers there
 pub record IsPartReading (instances : List Text) (parts : List (Option ℕ)) (levels : List Levels) (port other : Text) : Type 0 where
@@ -85,7 +79,7 @@ module _ (comps : Design) (c : Component) (names : List Text) (earlier : Earlier
     inst = i.name;
     instance_at = mapped_at (λ (x : Instance). x.name) scope.instances k.0 i k.1;
     part = q.n;
-    made = are k.0 q.n i q.d k.1 q.at (sym q.is_named);
+    made = (are k.0 q.n).1 (record { instance = i; part = q.d; instance_at = k.1; part_at = q.at; named = sym q.is_named });
     own = own.0;
     known = own.1;
     distinct = shown.distinct;
@@ -117,7 +111,7 @@ module _ (comps : Design) (c : Component) (names : List Text) (earlier : Earlier
       at_name = ap (λ (ts : List Text). slice_get ts q.n) place.shows.components.names ∙ mapped_at (λ (x : Component). x.name) comps q.n q.d q.at ∙ ap Some (sym q.is_named)
 
       o : IsOwnReading comps q.n r.output.name r.input.name
-      o = own_reading names earlier comp tables scope place comps (inl refl) keeps i r.has r.signature r.signed (no_table_at scope keeps i.made r.output.name r.input.name q) distinct q.n at_name r.output r.input r.has_output r.has_input q
+      o = own_reading names earlier comp tables scope place i r.has r.signature r.signed (no_table_at scope keeps i.made r.output.name r.input.name q) distinct q.n at_name r.output r.input r.has_output r.has_input q
 
       own : (l : Levels) × (slice_get levels q.n ≡ Some l)
       own = there_at levels q.n (omega (arith, slice_get_within comps q.n q.d q.at, shows.all))
@@ -137,12 +131,12 @@ module _ (comps : Design) (c : Component) (names : List Text) (earlier : Earlier
           ap₂ (λ (ts : List Text) (n : ℕ). slice_get ts (n + o.o)) shown.names size ∙ get_right (input_names o.d) (output_names o.d) o.o ∙ here ∙ ap Some o.output_named
 
   -- a reading goes through an instance of a component, or does without
-  split : (port other : Text) → ReadsPort (through_before comps) scope port other → ReadsPort (through_before []) scope port other ⊎ PartReading port other
+  split : (port other : Text) → ReadsPort (through_before comps) scope port other → ReadsOwn comps c port other ⊎ PartReading port other
   split port other (ByArgument a) = inl (ByArgument a)
   split port other (ByConnection a) = inl (ByConnection a)
   split port other (ByInstance r) = by r.depends
     where
-      by : DependsWithin (through_before comps) r.instance r.output.name r.input.name → ReadsPort (through_before []) scope port other ⊎ PartReading port other
+      by : DependsWithin (through_before comps) r.instance r.output.name r.input.name → ReadsOwn comps c port other ⊎ PartReading port other
       by (OfComponent t) = inr (part_reading port other r t)
       by (OfPrimitive prim is through) = inl (ByInstance (record {
         instance = r.instance;
@@ -173,7 +167,7 @@ module _ (comps : Design) (c : Component) (names : List Text) (earlier : Earlier
       instances_distinct : AreDistinct (instance_names scope.instances)
       instances_distinct = place.shows.distinct
 
-  module _ (g : PortGraph) (has : HasInstances scope g) (is : IsGraphBy [] comps c g) (ports_distinct : AreDistinct g.ports.names) (cells : List CellPort) (every : HasAllPorts g.ports parts levels cells)
+  module _ (g : PortGraph) (has : HasInstances scope g) (is : HasOwnReadings comps c g) (ports_distinct : AreDistinct g.ports.names) (cells : List CellPort) (every : HasAllPorts g.ports parts levels cells)
       (found : List ℕ) (falling : AreLevels g.entries.items cells found) where
     abbrev IsNamed : Text → Type 0
     IsNamed port = (n : ℕ) × (slice_get g.ports.names n ≡ Some port)
@@ -221,7 +215,7 @@ module _ (comps : Design) (c : Component) (names : List Text) (earlier : Earlier
         } in
         subst₂ (λ (a b : ℕ). IsBelow found a b) inn.2.number out.2.number (falling.cells out.0 inn.0 out.1 inn.1 may)
 
-    direct_falls : (port other : Text) → ReadsPort (through_before []) scope port other → (m n : ℕ) → slice_get g.ports.names m ≡ Some port → slice_get g.ports.names n ≡ Some other → IsBelow found n m
+    direct_falls : (port other : Text) → ReadsOwn comps c port other → (m n : ℕ) → slice_get g.ports.names m ≡ Some port → slice_get g.ports.names n ≡ Some other → IsBelow found n m
     direct_falls port other r m n at_port at_other =
         let h : HasReading g port other = (is port other).1 r in
         let key : h.entry.key ≡ m = same_number g.ports.names h.entry.key m port ports_distinct h.key at_port in
@@ -235,10 +229,10 @@ module _ (comps : Design) (c : Component) (names : List Text) (earlier : Earlier
           | inr through ↦ part_falls port other through m n at_port at_other
         ]
 
-    reader_named : (port other : Text) → ReadsPort (through_before []) scope port other → IsNamed port
+    reader_named : (port other : Text) → ReadsOwn comps c port other → IsNamed port
     reader_named port other r = let h = (is port other).1 r in (h.entry.key, h.key)
 
-    read_named : (port other : Text) → ReadsPort (through_before []) scope port other → IsNamed other
+    read_named : (port other : Text) → ReadsOwn comps c port other → IsNamed other
     read_named port other r = let h = (is port other).1 r in (h.entry.value, h.value)
 
     -- what is read through an instance, and reads, is named
@@ -307,33 +301,26 @@ module _ (comps : Design) (c : Component) (names : List Text) (earlier : Earlier
         omega (arith, bad)
 
     -- the component's own levels
-    module _ (texts : List Text) (are_names : texts ≡ input_names c ++ output_names c) (differ : AreDistinct texts) (no_dots : All HasNoDot texts) (first : KeepsTexts (input_names c) g.ports.names)
-        (outputs : List ℕ) (numbered : AreNumbered g.ports.names outputs (output_names c)) (enough : length g.ports.names ≤ length found) (own : Levels) (own_names : own.names ≡ texts) (inputs_are : own.inputs ≡ length c.ins)
-        (own_levels : own.levels.items ≡ take own.inputs found ++ map (slice_index found) outputs) where
-      few : own.inputs ≤ length found
-      few = omega (arith, inputs_are, length-map c.ins (λ (p : DataPort). p.name), length-KeepsTexts (input_names c) g.ports.names first, enough)
-
-      front : length (take own.inputs found) ≡ own.inputs
-      front = omega (arith, length-take own.inputs found, few)
-
+    module _ (texts : List Text) (are_names : texts ≡ own_port_names c) (differ : AreDistinct texts) (no_dots : All HasNoDot texts)
+        (numbers : List ℕ) (numbered : AreNumbered g.ports.names numbers (own_port_names c)) (own : Levels) (own_names : own.names ≡ texts) (inputs_are : own.inputs ≡ length c.ins)
+        (own_levels : own.levels.items ≡ map (slice_index found) numbers) where
       sized : length own.levels.items ≡ length own.names
-      sized =
-          let of_levels : length own.levels.items ≡ own.inputs + length outputs = ap length own_levels ∙ length-append (take own.inputs found) (map (slice_index found) outputs) ∙ ap₂ ◌+◌ front (length-map outputs (slice_index found)) in
-          let of_names : length own.names ≡ length (input_names c) + length (output_names c) = ap length (own_names ∙ are_names) ∙ length-append (input_names c) (output_names c) in
-          omega (arith, of_levels, of_names, inputs_are, length-map c.ins (λ (p : DataPort). p.name), numbered_length g.ports.names outputs (output_names c) numbered)
+      sized = ap length own_levels ∙ length-map numbers (slice_index found) ∙ numbered_length g.ports.names numbers (own_port_names c) numbered ∙ sym (ap length (own_names ∙ are_names))
 
-      input_level : (i : ℕ) → i < own.inputs → slice_index own.levels.items i ≡ slice_index found i
-      input_level i lt =
-          ap (λ (l : List ℕ). get_or l i 0) own_levels
-          ∙ get_or_append_left (take own.inputs found) (map (slice_index found) outputs) 0 i (omega (arith, lt, front))
-          ∙ get_or-take own.inputs found i 0 lt
+      -- a port's number in the graph has the level that stands at the port's place
+      number_at : (k : ℕ) (port : Text) → slice_get (own_port_names c) k ≡ Some port → (n : ℕ) × (slice_get g.ports.names n ≡ Some port) × (slice_index own.levels.items k ≡ slice_index found n)
+      number_at k port at =
+          let n = number_of g.ports.names numbers (own_port_names c) numbered k port at in
+          let level = get_or_from_slice_get (map (slice_index found) numbers) k (slice_index found n.0) 0 (mapped_at (slice_index found) numbers k n.0 n.1) in
+          (n.0, n.2, ap (λ (l : List ℕ). get_or l k 0) own_levels ∙ level)
 
-      output_level : (o s : ℕ) → slice_get outputs o ≡ Some s → slice_index own.levels.items (own.inputs + o) ≡ slice_index found s
-      output_level o s at =
-          ap (λ (l : List ℕ). get_or l (own.inputs + o) 0) own_levels
-          ∙ ap (λ (n : ℕ). get_or (take own.inputs found ++ map (slice_index found) outputs) (n + o) 0) (sym front)
-          ∙ get_or-append-add (take own.inputs found) (map (slice_index found) outputs) o 0
-          ∙ get_or_from_slice_get (map (slice_index found) outputs) o (slice_index found s) 0 (mapped_at (slice_index found) outputs o s at)
+      input_at : (i : ℕ) (input : DataPort) → slice_get c.ins i ≡ Some input → slice_get (own_port_names c) i ≡ Some input.name
+      input_at i input at = KeepsTexts-append (input_names c) (output_names c) i input.name (mapped_at (λ (p : DataPort). p.name) c.ins i input at)
+
+      output_at : (o : ℕ) (output : DataPort) → slice_get c.outs o ≡ Some output → slice_get (own_port_names c) (own.inputs + o) ≡ Some output.name
+      output_at o output at =
+          let size : own.inputs ≡ length (input_names c) = inputs_are ∙ sym (length-map c.ins (λ (p : DataPort). p.name)) in
+          ap (λ (n : ℕ). slice_get (own_port_names c) (n + o)) size ∙ get_right (input_names c) (output_names c) o ∙ mapped_at (λ (p : DataPort). p.name) c.outs o output at
 
       pub shows_own : ShowsLevels comps c own
       shows_own = record {
@@ -343,19 +330,8 @@ module _ (comps : Design) (c : Component) (names : List Text) (earlier : Earlier
         dotless = subst (All HasNoDot) (sym own_names) no_dots;
         all = sized;
         lower = λ i o input output at_in at_out reach.
-            (let input_at = first i input.name (mapped_at (λ (p : DataPort). p.name) c.ins i input at_in) in
-            let s = number_of g.ports.names outputs (output_names c) numbered o output.name (mapped_at (λ (p : DataPort). p.name) c.outs o output at_out) in
-            let below : IsBelow found i s.0 = falls input.name output.name reach s.0 i s.2 input_at in
-            let lt : i < own.inputs = omega (arith, slice_get_within c.ins i input at_in, inputs_are) in
-            subst₂ (λ (a b : ℕ). a < b) (sym (input_level i lt)) (sym (output_level o s.0 s.1)) below);
+            (let low = number_at i input.name (input_at i input at_in) in
+            let high = number_at (own.inputs + o) output.name (output_at o output at_out) in
+            let below : IsBelow found low.0 high.0 = falls input.name output.name reach high.0 low.0 high.1 low.1 in
+            subst₂ (λ (a b : ℕ). a < b) (sym low.2) (sym high.2) below);
       }
-
--- no wires are those of no components
-pub no_wires : (wires : List Wires) → wires ≡ [] → ShowsWires [] wires
-no_wires wires none = record {
-  all = ap length none;
-  each = λ n c w at. absurd (nothing n c at);
-}
-  where
-    nothing : (n : ℕ) (c : Component) → slice_get [] n ≡ Some c → ⊥
-    nothing n c at = absurd (cc)

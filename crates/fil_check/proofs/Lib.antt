@@ -30,6 +30,7 @@ pub mod SignatureLemmas
 pub mod SpanLemmas
 pub mod StartLemmas
 pub mod StatementLemmas
+pub mod ThroughLemmas
 pub mod TimeLemmas
 pub mod ToldLemmas
 pub mod UseLemmas
@@ -41,9 +42,11 @@ pub mod UnitMeetLemmas
 pub mod KeyLemmas
 pub mod StartsLemmas
 pub mod FirstLemmas
+pub mod FlatLemmas
 pub mod ListedLemmas
 pub mod SpanStartLemmas
 pub mod AddedLemmas
-pub mod PortsLemmas
 pub mod PortNumberLemmas
 pub mod InstanceNumberLemmas
+pub mod CellPinLemmas
+pub mod CellLemmas

@@ -1,48 +1,83 @@
 -- What the functions of levels say, one statement, port or node more at a time.
-use Rattle.std.proofs.Common.{◌≡◌, ◌≢◌, inl, inr, ℕ, ◌+◌, ◌<◌, Bool, true, false, ◌==◌, ◌||◌, List, [], ◌∷◌, ◌++◌, Option, Some, Contains, length, flat_map, map, take, slice_get, refl, sym, ap, subst, ◌∙◌, append_assoc, arith}
-use Rattle.std.specs.List.{list_any}
+use Rattle.std.proofs.Common.{◌≡◌, ◌↔◌, inl, inr, ℕ, ◌+◌, ◌<◌, ◌==◌, ◌||◌, List, [], ◌∷◌, ◌++◌, Option, Some, Contains, length, flat_map, map, take, slice_get, sym, ap, subst, ◌∙◌, append_assoc, arith}
 use Rattle.std.specs.Prelude.{All}
 use Rattle.std.proofs.lemmas.Bool.{cases_lt}
 use Rattle.std.proofs.lemmas.List.{append-nil, length-append}
 use Rattle.std.proofs.lemmas.List.Concat.{flat_map-append}
-use Rattle.std.proofs.lemmas.List.Elements.{All-cons, All-contains, All-nil, All-push, Contains-append_left}
+use Rattle.std.proofs.lemmas.List.Elements.{All-contains, All-push, Contains-append_left}
 use Rattle.hw_graph.proofs.MemberLemmas.{contains_of, in_at}
 use Rattle.hw_levels.specs.declared.cells.CellPort.{CellPort}
-use Rattle.hw_names.specs.Name.{Text, HasNoDot, dot}
+use Rattle.hw_names.specs.Name.{Text, HasNoDot}
 use Rattle.fil_ast.specs.Scope.{Instance, instances_at}
 use Rattle.fil_ast.specs.Tree.{Component, Design, Statement}
 use Rattle.fil_share.proofs.ListLemmas.{take_next}
-use Rattle.fil_check.proofs.GivenLemmas.{unmapped}
+use Rattle.fil_check.proofs.GivenLemmas.{mapped_at, unmapped}
 use Rattle.fil_check.proofs.InstanceLemmas.{front_at, last_at}
 use Rattle.fil_check.proofs.WiredLemmas.{last_or_before}
-use Rattle.fil_check.specs.inside.Levels.{AreParts, IsPortOfPart, TellsPort}
+use Rattle.fil_check.specs.inside.Levels.{AreParts, IsMadeOf, IsPortOfPart, TellsPort}
 use Rattle.fil_check.specs.inside.Ports.{IsFit, PortList, full_name_in}
 use Rattle.fil_check.specs.declared.loops.levels.Levels.{Levels}
 use Rattle.fil_check.specs.declared.loops.ports.PortKey.{PortKey}
 
--- a part for each instance, and each that is made of a component has its number
+-- a part for each instance: exactly of one that is made of a component its number
 pub record HaveParts (comps : Design) (instances : List Instance) (parts : List (Option ℕ)) : Type 0 where
   pub all : length parts ≡ length instances
   pub are : AreParts comps instances parts
 
-pub no_parts : (comps : Design) → HaveParts comps [] []
-no_parts comps = record { all = omega arith; are = λ k n i made at. absurd (none k i at) }
-  where
-    none : (k : ℕ) (i : Instance) → slice_get [] k ≡ Some i → ⊥
-    none k i at = absurd (cc)
+-- the part of an instance: exactly the number of a component that it is made of
+abbrev pub IsPart : Design → Instance → Option ℕ → Type 0
+IsPart comps i o = (n : ℕ) → (o ≡ Some n) ↔ ((part : Component) × (slice_get comps n ≡ Some part) × (part.name ≡ i.made))
 
-pub parts_more : (comps : Design) (instances : List Instance) (i : Instance) (parts : List (Option ℕ)) (o : Option ℕ) → ((n : ℕ) (made : Component) → slice_get comps n ≡ Some made → made.name ≡ i.made → o ≡ Some n)
-    → HaveParts comps instances parts → HaveParts comps (instances ++ i ∷ []) (parts ++ o ∷ [])
+-- by the names of the components
+pub part_told : (comps : Design) (names : List Text) → names ≡ map (λ (c : Component). c.name) comps → (i : Instance) (made : Text) → i.made ≡ made → (o : Option ℕ) → ((n : ℕ) → (o ≡ Some n) ↔ (slice_get names n ≡ Some made)) → IsPart comps i o
+part_told comps names are i made same o tells n = (to, from)
+  where
+    to : o ≡ Some n → (part : Component) × (slice_get comps n ≡ Some part) × (part.name ≡ i.made)
+    to is = let m = unmapped (λ (c : Component). c.name) comps n made (ap (λ (l : List Text). slice_get l n) (sym are) ∙ (tells n).0 is) in (m.0, m.1, m.2 ∙ sym same)
+
+    from : (part : Component) × (slice_get comps n ≡ Some part) × (part.name ≡ i.made) → o ≡ Some n
+    from (part, at, named) = (tells n).1 (ap (λ (l : List Text). slice_get l n) are ∙ mapped_at (λ (c : Component). c.name) comps n part at ∙ ap Some (named ∙ same))
+
+pub parts_more : (comps : Design) (instances : List Instance) (i : Instance) (parts : List (Option ℕ)) (o : Option ℕ) → IsPart comps i o → HaveParts comps instances parts → HaveParts comps (instances ++ i ∷ []) (parts ++ o ∷ [])
 parts_more comps instances i parts o is has = record {
   all = omega (arith, length-append parts (o ∷ []), length-append instances (i ∷ []), has.all);
-  are = λ k n j made at there named.
-      elim (last_or_before instances i k j at) [
-        | inl before ↦ front_at parts (o ∷ []) k (omega (arith, before.0, has.all)) ∙ has.are k n j made before.1 there named
-        | inr last ↦
-            (let here : length parts ≡ k = omega (arith, last.0, has.all) in
-            ap (slice_get (parts ++ o ∷ [])) (sym here) ∙ last_at parts o ∙ ap Some (is n made there (named ∙ ap (λ (x : Instance). x.made) (sym last.1))))
-      ];
+  are = λ k n. (to k n, from k n);
 }
+  where
+    to : (k n : ℕ) → slice_get (parts ++ o ∷ []) k ≡ Some (Some n) → IsMadeOf comps (instances ++ i ∷ []) k n
+    to k n at =
+        elim (last_or_before parts o k (Some n) at) [
+          | inl before ↦
+              (let made = (has.are k n).0 before.1 in
+              record {
+                instance = made.instance;
+                part = made.part;
+                instance_at = front_at instances (i ∷ []) k (omega (arith, before.0, has.all)) ∙ made.instance_at;
+                part_at = made.part_at;
+                named = made.named;
+              })
+          | inr last ↦
+              (let made = (is n).0 last.1 in
+              let here : length instances ≡ k = omega (arith, last.0, has.all) in
+              record {
+                instance = i;
+                part = made.0;
+                instance_at = ap (slice_get (instances ++ i ∷ [])) (sym here) ∙ last_at instances i;
+                part_at = made.1;
+                named = made.2;
+              })
+        ]
+
+    from : (k n : ℕ) → IsMadeOf comps (instances ++ i ∷ []) k n → slice_get (parts ++ o ∷ []) k ≡ Some (Some n)
+    from k n made =
+        elim (last_or_before instances i k made.instance made.instance_at) [
+          | inl before ↦
+              front_at parts (o ∷ []) k (omega (arith, before.0, has.all))
+              ∙ (has.are k n).1 (record { instance = made.instance; part = made.part; instance_at = before.1; part_at = made.part_at; named = made.named })
+          | inr last ↦
+              (let here : length parts ≡ k = omega (arith, last.0, has.all) in
+              ap (slice_get (parts ++ o ∷ [])) (sym here) ∙ last_at parts o ∙ ap Some ((is n).1 (made.part, made.part_at, made.named ∙ ap (λ (x : Instance). x.made) (sym last.1))))
+        ]
 
 next_instances : (body : List Statement) (k : ℕ) (s : Statement) → slice_get body k ≡ Some s → flat_map instances_at (take (k + 1) body) ≡ flat_map instances_at (take k body) ++ instances_at s
 next_instances body k s at =
@@ -50,8 +85,7 @@ next_instances body k s at =
     ∙ ap (λ (l : List Instance). flat_map instances_at (take k body) ++ l) (append-nil (instances_at s))
 
 pub statement_makes : (comps : Design) (body : List Statement) (k : ℕ) (s : Statement) (i : Instance) (parts : List (Option ℕ)) (o : Option ℕ) → slice_get body k ≡ Some s → instances_at s ≡ i ∷ []
-    → ((n : ℕ) (made : Component) → slice_get comps n ≡ Some made → made.name ≡ i.made → o ≡ Some n)
-    → HaveParts comps (flat_map instances_at (take k body)) parts → HaveParts comps (flat_map instances_at (take (k + 1) body)) (parts ++ o ∷ [])
+    → IsPart comps i o → HaveParts comps (flat_map instances_at (take k body)) parts → HaveParts comps (flat_map instances_at (take (k + 1) body)) (parts ++ o ∷ [])
 statement_makes comps body k s i parts o at makes is has =
     subst (λ (l : List Instance). HaveParts comps l (parts ++ o ∷ [])) (sym (next_instances body k s at ∙ ap (λ (l : List Instance). flat_map instances_at (take k body) ++ l) makes))
     (parts_more comps (flat_map instances_at (take k body)) i parts o is has)
@@ -91,19 +125,6 @@ module _ (ports : PortList) (parts : List (Option ℕ)) (levels : List Levels) w
       ]
 
 -- ---- texts without dots
-
-both_false : (x y : Bool) → (x || y) ≡ false → (x ≡ false) × (y ≡ false)
-both_false true y e = absurd (cc)
-both_false false y e = (refl, e)
-
-no_dot : (text : Text) → list_any (λ y. y == dot) text ≡ false → HasNoDot text
-no_dot [] e = All-nil (λ (byte : ℕ). byte ≢ dot)
-no_dot (x ∷ text) e =
-    let both = both_false (x == dot) (list_any (λ y. y == dot) text) e in
-    All-cons (λ (byte : ℕ). byte ≢ dot) x text (λ same. (let yes : (dot == dot) ≡ false = subst (λ (y : ℕ). (y == dot) ≡ false) same both.0 in cc)) (no_dot text both.1)
-
-pub no_dot_told : (text : Text) (has : Bool) → has ≡ list_any (λ y. y == dot) text → has ≡ false → HasNoDot text
-no_dot_told text has is none = no_dot text (sym is ∙ none)
 
 -- one name more stands last
 pub names_more : (old mid new : List Text) (all : List Text) (k : ℕ) (text : Text) → slice_get all k ≡ Some text → mid ≡ old ++ take k all → new ≡ mid ++ text ∷ [] → new ≡ old ++ take (k + 1) all

@@ -1,5 +1,5 @@
 -- Ports by the numbers of texts: a full name has one key.
-use Rattle.std.proofs.Common.{◌≡◌, ◌≢◌, ◌⊎◌, inl, inr, ℕ, zero, suc, ◌+◌, ◌-◌, ◌<◌, ◌≤◌, Bool, true, false, ◌||◌, List, [], ◌∷◌, ◌++◌, Option, None, Some, is_some, Contains, length, map, get_or, slice_get, take, drop, rules, refl, sym, ap, ap₂, subst, ◌∙◌, if◌then◌else◌, length-drop, arith}
+use Rattle.std.proofs.Common.{◌≡◌, ◌≢◌, ◌⊎◌, inl, inr, ℕ, zero, suc, ◌+◌, ◌-◌, ◌<◌, ◌≤◌, Bool, true, false, ◌==◌, ◌||◌, List, [], ◌∷◌, ◌++◌, Option, None, Some, is_some, Contains, length, map, get_or, slice_get, take, drop, rules, refl, sym, ap, ap₂, subst, ◌∙◌, if◌then◌else◌, length-drop, arith}
 use Rattle.std.specs.Prelude.{All, IfNone}
 use Rattle.std.specs.List.{list_any}
 use Rattle.std.proofs.Math.Seq.{drop-length, take-length}
@@ -87,6 +87,19 @@ dotless_more text place next e within apart rest =
 pub dot_here : (text : Text) (place : ℕ) → place < length text → get_or text place 0 ≡ dot → drop place text ≡ dot ∷ drop (place + 1) text
 dot_here text place lt is = drop_more text place 0 lt ∙ ap (λ (byte : ℕ). byte ∷ drop (place + 1) text) is
 
+both_false : (x y : Bool) → (x || y) ≡ false → (x ≡ false) × (y ≡ false)
+both_false true y e = absurd (cc)
+both_false false y e = (refl, e)
+
+no_dot : (text : Text) → list_any (λ y. y == dot) text ≡ false → HasNoDot text
+no_dot [] e = All-nil IsNoDot
+no_dot (x ∷ text) e =
+    let both = both_false (x == dot) (list_any (λ y. y == dot) text) e in
+    All-cons IsNoDot x text (λ same. (let yes' : (dot == dot) ≡ false = subst (λ (y : ℕ). (y == dot) ≡ false) same both.0 in cc)) (no_dot text both.1)
+
+pub no_dot_told : (text : Text) (has : Bool) → has ≡ list_any (λ y. y == dot) text → has ≡ false → HasNoDot text
+no_dot_told text has is none = no_dot text (sym is ∙ none)
+
 -- what holds where no place is found
 pub no_place : (o : Option ℕ) (P : Type 0) → IfNone o P → is_some o ≡ false → P
 no_place None P holds none = holds
@@ -129,6 +142,13 @@ module _ (old new : List Text) (keeps : KeepsTexts old new) where
 -- a name without a dot is that of no instance's port
 pub own_key_apart : (texts : List Text) (n : ℕ) (inst name : Text) → IsFit texts (Own n) → full_name_in texts (Own n) ≡ dotted inst name → ⊥
 own_key_apart texts n inst name fit is = no_dot_in (get_or texts n []) inst name fit.dotless is
+
+-- names that keep their numbers among distinct texts are distinct
+pub distinct_before : (names texts : List Text) → KeepsTexts names texts → AreDistinct texts → AreDistinct names
+distinct_before names texts keeps distinct i j d less within same =
+    let at_i = slice_get-get_or names i d (omega (arith, less, within)) ∙ ap Some same in
+    let at_j = slice_get-get_or names j d within in
+    omega (arith, less, same_number texts i j (get_or names j d) distinct (keeps i (get_or names j d) at_i) (keeps j (get_or names j d) at_j))
 
 module _ (texts : List Text) (distinct : AreDistinct texts) where
   same_text_number : (i j : ℕ) → i < length texts → j < length texts → get_or texts i [] ≡ get_or texts j [] → i ≡ j

@@ -1,11 +1,12 @@
 -- What a component's ports read is what its statements say, one by one.
-use Rattle.std.proofs.Common.{◌≡◌, inl, inr, ℕ, ◌+◌, List, [], ◌∷◌, Option, Some, None, Vec, Global, Contains, length, map, slice_get, option_map, refl, sym, ap, ap₂, subst, subst₂, ◌∙◌, arith}
+use Rattle.std.proofs.Common.{◌≡◌, inl, inr, ℕ, ◌+◌, List, [], ◌∷◌, Option, Some, None, Vec, Global, Contains, length, map, slice_get, option_map, refl, sym, ap, ap₂, subst, ◌∙◌, arith}
 use Rattle.std.specs.List.{flat_map}
 use Rattle.std.specs.Prelude.{All}
 use Rattle.std.proofs.lemmas.List.{length-map}
 use Rattle.std.proofs.lemmas.List.Elements.{All-nil, All-cons}
 use Rattle.std.proofs.lemmas.Option.{same_Some, slice_get_within, slice_get-map}
 use Rattle.hw_graph.proofs.MemberLemmas.{In, in_at, at_of, in_of, contains_of, in_flat_map, from_flat_map}
+use Rattle.hw_graph.specs.declared.groups.Entry.{Entry}
 use Rattle.hw_names.proofs.NameLemmas.{text_of-slice_get}
 use Rattle.hw_names.specs.Name.{Text, AreDistinct, dotted, text_of}
 use Rattle.hw_names.specs.declared.names.NameId.{NameId}
@@ -13,8 +14,9 @@ use Rattle.fil_ast.specs.Naming.{instance_names}
 use Rattle.fil_ast.specs.Scope.{Scope, Instance, Invocation, instances_at, invocations_at, instance_named, invocation_named, instance_signature}
 use Rattle.fil_ast.specs.Signature as tree
 use Rattle.fil_ast.specs.Signature.{Signature}
-use Rattle.fil_ast.specs.Tree.{Statement, New, Call, Both, Connect, Component, Design, ValueTree, InputValue, OutputValue, Literal, giving, statement_tree, value_tree}
-use Rattle.fil_ast.specs.Wires.{IsPortOf, OwnInput, ByInvocation, ReadsPort, ByArgument, ByConnection, ByInstance, whole_scope}
+use Rattle.fil_ast.specs.Tree.{Statement, New, Call, Both, Connect, Component, Design, ValueTree, InputValue, OutputValue, Literal, component_tree, giving, statement_tree, value_tree}
+use Rattle.fil_ast.specs.Wires.{IsPortOf, OwnInput, ByInvocation, ReadsPort, ByArgument, ByConnection, ByInstance, through_before, whole_scope}
+use Rattle.fil_ast.specs.declared.tree.FilComp.{FilComp}
 use Rattle.fil_ast.specs.declared.tree.Stmt.{Stmt}
 use Rattle.fil_ast.specs.declared.tree.Stmt.TheVariants as stmts
 use Rattle.fil_ast.specs.declared.tree.Time.{Time}
@@ -23,9 +25,10 @@ use Rattle.fil_ast.specs.declared.tree.Value.TheVariants as values
 use Rattle.fil_sig.specs.Seen.{seen, seen_port}
 use Rattle.fil_sig.specs.declared.time_sig.SigPort.{SigPort}
 use Rattle.fil_sig.specs.declared.time_sig.TimeSig.{TimeSig}
-use Rattle.fil_check.specs.inside.PortGraph.{Adds, Below, IsPair}
+use Rattle.fil_check.specs.inside.PortGraph.{Adds, Below, HasReading, IsPair}
+use Rattle.fil_check.specs.inside.Reached.{HasOwnReadings, ReadsOwn}
 use Rattle.fil_check.specs.declared.loops.graph.PortGraph.{PortGraph}
-use Rattle.fil_check.specs.inside.Readings.{port_of_value, ReadsArgument, ReadsAll, ReadsEach, ReadsGiven, ReadsMade, ReadsNumbered, ReadsWired, ReadsValue, ReadsBy, ReadsAt}
+use Rattle.fil_check.specs.inside.Readings.{port_of_value, ReadsArgument, ReadsAll, ReadsEach, ReadsGiven, ReadsMade, ReadsValue, ReadsBy, ReadsAt}
 use Rattle.fil_check.proofs.Lookup.{find_at_place}
 use Rattle.fil_check.proofs.PortGraphLemmas.{adds_none, adds_same, below_more, below_skip}
 
@@ -130,6 +133,29 @@ module _ (through : Text → Text → Text → Type 0) (earlier : Design) (c : C
   pub of_statements : Below (ReadsAt through scope c.body) (length c.body) port other → ReadsPort through scope port other
   of_statements (k, lt, (s, at, by)) = of_statement s (in_at c.body k s at) by
 
+-- all statements make the readings of the component but those through instances of components
+pub whole_graph : (comps : Design) (names : List Text) (comp : FilComp) (start g : PortGraph) → start.entries.items ≡ []
+    → Adds (Below (ReadsAt (through_before []) (whole_scope comps (component_tree names comp)) (component_tree names comp).body) (length comp.body.items)) start g → HasOwnReadings comps (component_tree names comp) g
+whole_graph comps names comp start g none adds port other = (to, from)
+  where
+    tree : Component
+    tree = component_tree names comp
+
+    count : length tree.body ≡ length comp.body.items
+    count = length-map comp.body.items (statement_tree names)
+
+    nothing : HasReading start port other → ⊥
+    nothing h = let has = subst (λ (l : List Entry). Contains l h.entry) none h.there in absurd (omega (arith, has.1))
+
+    to : HasReading g port other → ReadsOwn comps tree port other
+    to h = elim ((adds.has port other).0 h) [
+      | inl old ↦ absurd (nothing old)
+      | inr (k, lt, said) ↦ of_statements (through_before []) comps tree port other (k, omega (arith, lt, count), said)
+    ]
+
+    from : ReadsOwn comps tree port other → HasReading g port other
+    from reads = let s = by_statements (through_before []) comps tree port other reads in (adds.has port other).1 (inr (s.0, omega (arith, s.1, count), s.2))
+
 -- an instance is found by its name
 pub instance_found : (scope : Scope) (i : Instance) → AreDistinct (instance_names scope.instances) → Contains scope.instances i → instance_named scope.instances i.name ≡ Some i
 instance_found scope i distinct has =
@@ -231,33 +257,6 @@ module _ (names : List Text) (scope : Scope) (inst : Text) (args : List Value) w
       absent : (x : Signature) → ◌≡◌ {A = Option Signature} None (Some x) → ⊥
       absent x e = absurd (cc)
 
-module _ (inst output : Text) (ins : List tree.SigPort) (numbers : List ℕ) (k : ℕ) (old mid new : PortGraph) where
-  abbrev AtNumber : ℕ → Text → Text → Type 0
-  AtNumber = ReadsNumbered inst output ins numbers
-
-  pub number_gained : (number : ℕ) (input : tree.SigPort) → slice_get numbers k ≡ Some number → slice_get ins number ≡ Some input → Adds (Below AtNumber k) old mid → Adds (IsPair (dotted inst output) (dotted inst input.name)) mid new
-      → Adds (Below AtNumber (k + 1)) old new
-  number_gained number input at_number at_in first second =
-      below_more AtNumber k old mid new first (adds_same (IsPair (dotted inst output) (dotted inst input.name)) (AtNumber k) mid new (λ p o. (to p o, from p o)) second)
-    where
-      to : (p o : Text) → IsPair (dotted inst output) (dotted inst input.name) p o → AtNumber k p o
-      to p o pair = record { number = number; input = input; at = at_number; taken = at_in; is_port = pair.0; is_other = pair.1 }
-
-      from : (p o : Text) → AtNumber k p o → IsPair (dotted inst output) (dotted inst input.name) p o
-      from p o r =
-          let same_number : number ≡ r.number = same_Some number r.number (sym at_number ∙ r.at) in
-          let same_in : input ≡ r.input = same_Some input r.input (sym at_in ∙ ap (slice_get ins) same_number ∙ r.taken) in
-          (r.is_port, ap (λ (q : tree.SigPort). dotted inst q.name) same_in ∙ r.is_other)
-
-  pub number_surplus : (number : ℕ) → slice_get numbers k ≡ Some number → slice_get ins number ≡ None → Adds (Below AtNumber k) old mid → Adds (Below AtNumber (k + 1)) old mid
-  number_surplus number at_number none first = below_skip AtNumber k old mid (λ p o r. absent p o r) first
-    where
-      absent : (p o : Text) → AtNumber k p o → ⊥
-      absent p o r =
-          let same_number : number ≡ r.number = same_Some number r.number (sym at_number ∙ r.at) in
-          let nothing : ◌≡◌ {A = Option tree.SigPort} None (Some r.input) = sym none ∙ ap (slice_get ins) same_number ∙ r.taken in
-          absurd (cc)
-
 module _ (inst output : Text) (ins : List SigPort) (k : ℕ) (old mid new : PortGraph) where
   abbrev AtInput : ℕ → Text → Text → Type 0
   AtInput = ReadsEach inst output (map seen_port ins)
@@ -297,28 +296,6 @@ module _ (inst : Text) (sig : TimeSig) (o : ℕ) (output : SigPort) (at_out : sl
           let same : r.output ≡ seen_port output = same_Some r.output (seen_port output) (sym r.given ∙ out_at) in
           let reads : ReadsEach inst output.name (map seen_port sig.ins.items) r.k p q = subst (λ (x : tree.SigPort). ReadsEach inst x.name (map seen_port sig.ins.items) r.k p q) same r.reads in
           (r.k, omega (arith, slice_get_within (map seen_port sig.ins.items) r.k reads.input reads.taken, length-map sig.ins.items seen_port), reads)
-
-  module _ (inputs : List (Vec ℕ Global)) where
-    pub wired_gained : (numbers : Vec ℕ Global) → slice_get inputs o ≡ Some numbers → Adds (Below (ReadsWired inst (seen sig) inputs) o) old mid
-        → Adds (Below (ReadsNumbered inst output.name (map seen_port sig.ins.items) numbers.items) (length numbers.items)) mid new → Adds (Below (ReadsWired inst (seen sig) inputs) (o + 1)) old new
-    wired_gained numbers at_numbers first second =
-        below_more (ReadsWired inst (seen sig) inputs) o old mid new first (adds_same (Below (ReadsNumbered inst output.name (map seen_port sig.ins.items) numbers.items) (length numbers.items)) (ReadsWired inst (seen sig) inputs o) mid new (λ p q. (to p q, from p q)) second)
-      where
-        to : (p q : Text) → Below (ReadsNumbered inst output.name (map seen_port sig.ins.items) numbers.items) (length numbers.items) p q → ReadsWired inst (seen sig) inputs o p q
-        to p q (k, lt, r) = record { numbers = numbers; output = seen_port output; at = at_numbers; given = out_at; k = k; reads = r }
-
-        from : (p q : Text) → ReadsWired inst (seen sig) inputs o p q → Below (ReadsNumbered inst output.name (map seen_port sig.ins.items) numbers.items) (length numbers.items) p q
-        from p q r =
-            let same : r.output ≡ seen_port output = same_Some r.output (seen_port output) (sym r.given ∙ out_at) in
-            let same_numbers : r.numbers ≡ numbers = same_Some r.numbers numbers (sym r.at ∙ at_numbers) in
-            let reads : ReadsNumbered inst output.name (map seen_port sig.ins.items) numbers.items r.k p q = subst₂ (λ (x : tree.SigPort) (ns : Vec ℕ Global). ReadsNumbered inst x.name (map seen_port sig.ins.items) ns.items r.k p q) same same_numbers r.reads in
-            (r.k, slice_get_within numbers.items r.k reads.number reads.at, reads)
-
-    pub wired_surplus : slice_get inputs o ≡ None → Adds (Below (ReadsWired inst (seen sig) inputs) o) old mid → Adds (Below (ReadsWired inst (seen sig) inputs) (o + 1)) old mid
-    wired_surplus none first = below_skip (ReadsWired inst (seen sig) inputs) o old mid (λ p q r. absent r.numbers (sym none ∙ r.at)) first
-      where
-        absent : (ns : Vec ℕ Global) → ◌≡◌ {A = Option (Vec ℕ Global)} None (Some ns) → ⊥
-        absent ns e = absurd (cc)
 
 -- ---- the statements, one by one
 

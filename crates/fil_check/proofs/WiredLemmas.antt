@@ -7,8 +7,8 @@ use Rattle.fil_ast.specs.Tree.{Component, Design}
 use Rattle.fil_ast.specs.Wires.{HasNoLoop, IsLeastLoop}
 use Rattle.fil_check.specs.inside.Levels.{ShowAllLevels, ShowsLevels}
 use Rattle.fil_check.specs.inside.Wired.{HaveNoLoop, IsFirstLoop}
-use Rattle.fil_check.specs.inside.Wiring.{DependsOn, ShowsWires}
-use Rattle.fil_check.specs.declared.loops.Wires.{Wires}
+use Rattle.fil_check.specs.inside.Wiring.{IsInside, ShowInsides}
+use Rattle.fil_check.specs.declared.loops.inside.Inside.{Inside}
 use Rattle.fil_check.specs.declared.loops.levels.Levels.{Levels}
 
 pub slice_get-left : {X : Type 0} (xs ys : List X) (k : ℕ) → k < length xs → slice_get (xs ++ ys) k ≡ slice_get xs k
@@ -50,23 +50,23 @@ module _ (comps : Design) (c : Component) where
   pub no_loop_more : HaveNoLoop comps → HasNoLoop comps c → HaveNoLoop (comps ++ c ∷ [])
   no_loop_more none own = each_more HasNoLoop none own
 
-  wire_more : (wires : List Wires) (own : Wires) → ShowsWires comps wires → DependsOn comps c own → (n : ℕ) (d : Component) (w : Wires) → slice_get (comps ++ c ∷ []) n ≡ Some d → slice_get (wires ++ own ∷ []) n ≡ Some w → DependsOn (take n (comps ++ c ∷ [])) d w
-  wire_more wires own shows depends n d w at at_wires =
+  inside_more : (insides : List Inside) (own : Inside) → ShowInsides comps insides → IsInside comps c own → (n : ℕ) (d : Component) (w : Inside) → slice_get (comps ++ c ∷ []) n ≡ Some d → slice_get (insides ++ own ∷ []) n ≡ Some w → IsInside (take n (comps ++ c ∷ [])) d w
+  inside_more insides own shows shown n d w at at_insides =
       elim (last_or_before comps c n d at) [
-        | inl before ↦ elim (last_or_before wires own n w at_wires) [
-          | inl wired ↦ subst (λ (xs : Design). DependsOn xs d w) (before_last n before.0) (shows.each n d w before.1 wired.1)
-          | inr wired ↦ absurd (omega (arith, before.0, wired.0, shows.all))
+        | inl before ↦ elim (last_or_before insides own n w at_insides) [
+          | inl known ↦ subst (λ (xs : Design). IsInside xs d w) (before_last n before.0) (shows.each n d w before.1 known.1)
+          | inr known ↦ absurd (omega (arith, before.0, known.0, shows.all))
         ]
-        | inr last ↦ elim (last_or_before wires own n w at_wires) [
-          | inl wired ↦ absurd (omega (arith, last.0, wired.0, shows.all))
-          | inr wired ↦ subst (λ (xs : Design). DependsOn xs d w) (before_own n last.0) (subst (λ (e : Component). DependsOn comps e w) last.1 (subst (DependsOn comps c) wired.1 depends))
+        | inr last ↦ elim (last_or_before insides own n w at_insides) [
+          | inl known ↦ absurd (omega (arith, last.0, known.0, shows.all))
+          | inr known ↦ subst (λ (xs : Design). IsInside xs d w) (before_own n last.0) (subst (λ (e : Component). IsInside comps e w) last.1 (subst (IsInside comps c) known.1 shown))
         ]
       ]
 
-  pub wires_more : (wires : List Wires) (own : Wires) → ShowsWires comps wires → DependsOn comps c own → ShowsWires (comps ++ c ∷ []) (wires ++ own ∷ [])
-  wires_more wires own shows depends = record {
-    all = omega (arith, length-append wires (own ∷ []), length-append comps (c ∷ []), shows.all);
-    each = wire_more wires own shows depends;
+  pub insides_more : (insides : List Inside) (own : Inside) → ShowInsides comps insides → IsInside comps c own → ShowInsides (comps ++ c ∷ []) (insides ++ own ∷ [])
+  insides_more insides own shows shown = record {
+    all = omega (arith, length-append insides (own ∷ []), length-append comps (c ∷ []), shows.all);
+    each = inside_more insides own shows shown;
   }
 
   level_more : (levels : List Levels) (own : Levels) → ShowAllLevels comps levels → ShowsLevels comps c own → (n : ℕ) (d : Component) (l : Levels) → slice_get (comps ++ c ∷ []) n ≡ Some d → slice_get (levels ++ own ∷ []) n ≡ Some l → ShowsLevels (take n (comps ++ c ∷ [])) d l

@@ -1,6 +1,8 @@
 -- What only the functions inside the crate are specified by.
 pub mod Available
 pub mod Callees
+pub mod CellPins
+pub mod Cells
 pub mod First
 pub mod Given
 pub mod Invocation

@@ -68,7 +68,7 @@ fn judge_by_levels(alloc: Global, design: &FilDesign) -> Result<bool, FilEnd>
     Ok(true)
 }
 
-/// Judges a design by F1 to F14, by all that each component's outputs reach.
+/// Judges a design by F1 to F14, by the graph of each component.
 fn judge_by_reach<'a>(alloc: Global, design: &'a FilDesign) -> Result<FilOk<'a>, FilEnd>
     requires numbers { HasNumbers design.now }
     requires small { HasSmallOffsets design.now }
@@ -93,7 +93,7 @@ fn judge_by_reach<'a>(alloc: Global, design: &'a FilDesign) -> Result<FilOk<'a>,
         add_component(alloc, &design.names, &mut earlier, comp)?;
     }
     match wired {
-        Wired::Free(_wires) => Ok(FilOk::new(design)),
+        Wired::Free(_insides) => Ok(FilOk::new(design)),
         Wired::Looped { comp, ports } => Err(FilEnd::Refused {
             rule: 14,
             comp,

@@ -1,40 +1,45 @@
 //! The rule F14: which ports of a component read which within a row, and its least loop, component after component.
-ghost use Rattle.std.specs.Prelude.{[], ◌∷◌, ◌++◌, ◌≡◌, ◌<◌, ◌^◌, IfOk, IsTrue, All, length, map, slice_index_or, IfErr, OnOk};
+ghost use Rattle.std.specs.Prelude.{[], ◌∷◌, ◌++◌, ◌≡◌, ◌<◌, ◌≤◌, ◌^◌, IfOk, IsTrue, All, length, map, filter, slice_index_or, IfErr, OnOk};
+ghost use Rattle.hw_cells.specs.Cells.{is_below};
 ghost use Rattle.hw_graph.specs.Graph.{AreInRange};
-ghost use Rattle.hw_graph.specs.Groups.{IsGathered};
-ghost use Rattle.hw_names.specs.Name.{AreDistinct, KeepsTexts};
+ghost use Rattle.hw_names.specs.Name.{AreDistinct};
 ghost use Rattle.fil_ast.specs.Numbers.{ComponentHasNumbers, PortHasNumbers};
 ghost use Rattle.fil_ast.specs.Rules.{KeepsComponent, KeepsRules, all_rules};
 ghost use Rattle.fil_ast.specs.Tree.{Component, Design, component_tree};
 ghost use Rattle.fil_ast.specs.Wires.{whole_scope, HasNoLoop};
-ghost use Rattle.fil_check.specs.inside.Levels.{AreAllOrNone};
+ghost use Rattle.fil_check.specs.inside.Cells.{LeadsAsRead};
 ghost use Rattle.fil_check.specs.inside.Place.{IsPlaceIn};
 ghost use Rattle.fil_check.specs.inside.PortGraph.{Adds, HasInstances, NoPair};
-ghost use Rattle.fil_check.specs.inside.Reached.{AreNumbered, HasOrder, IsGraphBy, IsGraphOf, input_names, output_names, port_names};
+ghost use Rattle.fil_check.specs.inside.Reached.{AreNumbered, HasOrder, HasOwnReadings, own_port_names, port_names};
 ghost use Rattle.fil_check.specs.inside.Wired.{IsWired};
-ghost use Rattle.fil_check.specs.inside.Wiring.{DependsOn, ShowsWires, TellsLoop, TellsLeastLoop};
+ghost use Rattle.fil_check.specs.inside.Wiring.{IsInside, ShowInsides, TellsLoop, TellsLeastLoop};
 
-pub mod depends;
+pub mod cells;
 pub mod edges;
 pub mod graph;
+pub mod inside;
 pub mod levels;
 pub mod ports;
 
-use crate::loops::depends::inputs_reached;
+use crate::loops::cells::{cells_of, number_dotted};
 use crate::loops::edges::add_body;
 use crate::loops::graph::PortGraph;
+use crate::loops::inside::{Inside, inside_of};
+use crate::loops::levels::parts_of;
+use crate::loops::ports::Ports;
 use crate::place::Place;
 use fil_ast::FilPort;
 use hw_bits::Memory;
-use hw_graph::{Groups, OrderEnd, gather, order_or_least_loop, read_order};
+use hw_cells::flatten;
+use hw_graph::{Groups, OrderEnd, least_loop_among, read_order};
 use hw_names::{NameId, Names, Word};
 use std::alloc::Global;
 
 /// What is known of F14 after some components, which keep F1 to F13.
 #[derive(Drop)]
 pub enum Wired {
-    /// None has a loop. Of each, on which inputs its outputs depend within a row.
-    Free(Vec<Wires>),
+    /// None has a loop. Of each, what components that have instances of it need to know.
+    Free(Vec<Inside>),
     /// The first component that has a loop, and its least loop.
     Looped { comp: NameId, ports: Vec<Word> },
 }
@@ -46,14 +51,14 @@ pub fn add_wires(alloc: Global, place: &Place, wired: Wired) -> Result<Wired, Me
         → KeepsRules all_rules comps → KeepsComponent all_rules comps (component_tree place.now.names.now place.now.comp.now) → IsWired place.now.names.now comps wired
         → IfOk result (IsWired place.now.names.now (comps ++ component_tree place.now.names.now place.now.comp.now ∷ [])) }
 {
-    let mut wires = match wired {
-        Wired::Free(wires) => wires,
+    let mut insides = match wired {
+        Wired::Free(insides) => insides,
         Wired::Looped { comp, ports } => return Ok(Wired::Looped { comp, ports }),
     };
-    match judge_wires(alloc, place, &wires) {
+    match judge_wires(alloc, place, &insides) {
         Ok(own) => {
-            wires.push(own)?;
-            Ok(Wired::Free(wires))
+            insides.push(own)?;
+            Ok(Wired::Free(insides))
         }
         Err(WireEnd::Loop(ports)) => Ok(Wired::Looped {
             comp: place.comp.name,
@@ -63,14 +68,7 @@ pub fn add_wires(alloc: Global, place: &Place, wired: Wired) -> Result<Wired, Me
     }
 }
 
-/// On which inputs a component's outputs depend within a row.
-#[derive(Drop)]
-pub struct Wires {
-    /// For each output the numbers of the inputs.
-    pub inputs: Vec<Vec<usize>>,
-}
-
-/// Why a component's outputs depend on nothing.
+/// Why nothing is known of what a component's outputs reach.
 #[derive(Debug, Drop)]
 pub enum WireEnd {
     /// Full names of ports: the least loop. Each port reads the next within a row, and the last reads the first.
@@ -91,67 +89,97 @@ impl From<Memory> for WireEnd {
 }
 
 /// Judges a component that keeps F1 to F13, as those before it do, by F14. The `tables` show the whole of its body, and
-/// `wires` are those of the components before it. Tells on which inputs its outputs depend within a row, or its least loop.
-pub fn judge_wires(alloc: Global, place: &Place, wires: &[Wires]) -> Result<Wires, WireEnd>
+/// `insides` are those of the components before it. Tells what components that have instances of it need to know, or its least loop.
+pub fn judge_wires(alloc: Global, place: &Place, insides: &[Inside]) -> Result<Inside, WireEnd>
     requires numbers { ComponentHasNumbers place.now.names.now place.now.comp.now }
     ensures kept { (comps : Design) → IsPlaceIn place.now (whole_scope comps (component_tree place.now.names.now place.now.comp.now))
-        → ShowsWires comps wires.now → KeepsRules all_rules comps → KeepsComponent all_rules comps (component_tree place.now.names.now place.now.comp.now)
+        → ShowInsides comps insides.now → KeepsRules all_rules comps → KeepsComponent all_rules comps (component_tree place.now.names.now place.now.comp.now)
         → OnOk result (HasNoLoop comps (component_tree place.now.names.now place.now.comp.now)) }
-    ensures depends { (comps : Design) → IsPlaceIn place.now (whole_scope comps (component_tree place.now.names.now place.now.comp.now))
-        → ShowsWires comps wires.now → KeepsRules all_rules comps → KeepsComponent all_rules comps (component_tree place.now.names.now place.now.comp.now)
-        → IfOk result (DependsOn comps (component_tree place.now.names.now place.now.comp.now)) }
+    ensures inside { (comps : Design) → IsPlaceIn place.now (whole_scope comps (component_tree place.now.names.now place.now.comp.now))
+        → ShowInsides comps insides.now → KeepsRules all_rules comps → KeepsComponent all_rules comps (component_tree place.now.names.now place.now.comp.now)
+        → IfOk result (IsInside comps (component_tree place.now.names.now place.now.comp.now)) }
     ensures cycle { (comps : Design) → IsPlaceIn place.now (whole_scope comps (component_tree place.now.names.now place.now.comp.now))
-        → ShowsWires comps wires.now → KeepsRules all_rules comps → KeepsComponent all_rules comps (component_tree place.now.names.now place.now.comp.now)
+        → ShowInsides comps insides.now → KeepsRules all_rules comps → KeepsComponent all_rules comps (component_tree place.now.names.now place.now.comp.now)
         → IfErr result (TellsLoop comps (component_tree place.now.names.now place.now.comp.now)) }
 {
-    let made = component_graph(alloc, place, wires)?;
-    let reads = gather(alloc, made.graph.entries.as_slice(), made.graph.ports.len())?;
-    match least_loop(alloc, &made.graph, &reads)? {
-        None => {
-            let inputs = inputs_reached(alloc, &reads, &made.outputs, place.comp.ins.len())?;
-            Ok(Wires { inputs })
-        }
+    let FlatGraph { ports, own, reads } = flat_graph(alloc, place, insides)?;
+    match least_loop(alloc, &ports, &reads)? {
+        None => Ok(inside_of(place, own, reads)?),
         Some(ports) => Err(WireEnd::Loop(ports)),
     }
 }
 
-/// Which ports of a component read which. Its inputs are the first ports, by their numbers.
+/// Which ports of a component read which within a row, through its instances too.
+#[derive(Drop)]
+struct FlatGraph<'a> {
+    /// The ports by their numbers.
+    ports: Ports<'a>,
+    /// The numbers of the component's own ports, inputs first.
+    own: Vec<usize>,
+    /// For each node those that it reads. The ports are the first nodes.
+    reads: Groups,
+}
+
+/// The graph of a component's ports and of its instances' graphs.
+fn flat_graph<'a>(
+    alloc: Global,
+    place: &Place<'a>,
+    insides: &[Inside],
+) -> Result<FlatGraph<'a>, Memory>
+    requires numbers { ComponentHasNumbers place.now.names.now place.now.comp.now }
+    ensures leads { (comps : Design) → IsPlaceIn place.now (whole_scope comps (component_tree place.now.names.now place.now.comp.now))
+        → ShowInsides comps insides.now → KeepsRules all_rules comps → KeepsComponent all_rules comps (component_tree place.now.names.now place.now.comp.now)
+        → IfOk result (λ flat. LeadsAsRead comps (component_tree place.now.names.now place.now.comp.now) flat.ports.names flat.reads) }
+    ensures own { (comps : Design) → IsPlaceIn place.now (whole_scope comps (component_tree place.now.names.now place.now.comp.now))
+        → KeepsRules all_rules comps
+        → IfOk result (λ flat. AreNumbered flat.ports.names flat.own.items (own_port_names (component_tree place.now.names.now place.now.comp.now))) }
+    ensures within { IfOk result (λ flat. All (λ port. port < length flat.ports.names) flat.own.items) }
+    ensures distinct { IfOk result (λ flat. AreDistinct flat.ports.names) }
+    ensures in_range { IfOk result (λ flat. AreInRange flat.reads) }
+    ensures all { IfOk result (λ flat. length flat.ports.names ≤ length flat.reads) }
+    ensures small { IfOk result (λ flat. length flat.reads < 2 ^ 32) }
+{
+    let ComponentGraph { mut graph, own } = component_graph(alloc, place)?;
+    let parts = parts_of(alloc, place)?;
+    number_dotted(&mut graph, &parts, insides)?;
+    let PortGraph { ports, entries, .. } = graph;
+    let count = ports.len();
+    let cells = cells_of(alloc, &ports, &parts, insides)?;
+    let reads = flatten(alloc, entries, count, &cells)?;
+    Ok(FlatGraph { ports, own, reads })
+}
+
+/// Which ports of a component read which, but for what its instances of components pass on.
 #[derive(Drop)]
 struct ComponentGraph<'a> {
     graph: PortGraph<'a>,
-    /// The numbers of its outputs.
-    outputs: Vec<usize>,
+    /// The numbers of its own ports, inputs first.
+    own: Vec<usize>,
 }
 
-/// Which ports of a component read which. Where no wires are given, without what instances of components pass on.
-fn component_graph<'a>(
-    alloc: Global,
-    place: &Place<'a>,
-    wires: &[Wires],
-) -> Result<ComponentGraph<'a>, Memory>
+/// Which ports of a component read which, but for what its instances of components pass on.
+fn component_graph<'a>(alloc: Global, place: &Place<'a>) -> Result<ComponentGraph<'a>, Memory>
     requires numbers { ComponentHasNumbers place.now.names.now place.now.comp.now }
-    ensures reads { (comps known : Design) → IsPlaceIn place.now (whole_scope comps (component_tree place.now.names.now place.now.comp.now))
-        → AreAllOrNone comps known → ShowsWires known wires.now → KeepsRules all_rules comps
-        → IfOk result (λ made. IsGraphBy known comps (component_tree place.now.names.now place.now.comp.now) made.graph) }
-    ensures instances { (comps known : Design) → IsPlaceIn place.now (whole_scope comps (component_tree place.now.names.now place.now.comp.now))
-        → AreAllOrNone comps known → ShowsWires known wires.now → KeepsRules all_rules comps
+    ensures reads { (comps : Design) → IsPlaceIn place.now (whole_scope comps (component_tree place.now.names.now place.now.comp.now))
+        → KeepsRules all_rules comps
+        → IfOk result (λ made. HasOwnReadings comps (component_tree place.now.names.now place.now.comp.now) made.graph) }
+    ensures instances { (comps : Design) → IsPlaceIn place.now (whole_scope comps (component_tree place.now.names.now place.now.comp.now))
+        → KeepsRules all_rules comps
         → IfOk result (λ made. HasInstances (whole_scope comps (component_tree place.now.names.now place.now.comp.now)) made.graph) }
-    ensures inputs { (comps known : Design) → IsPlaceIn place.now (whole_scope comps (component_tree place.now.names.now place.now.comp.now))
-        → AreAllOrNone comps known → ShowsWires known wires.now → KeepsRules all_rules comps → AreDistinct (input_names (component_tree place.now.names.now place.now.comp.now))
-        → IfOk result (λ made. KeepsTexts (input_names (component_tree place.now.names.now place.now.comp.now)) made.graph.ports.names) }
-    ensures outputs { (comps known : Design) → IsPlaceIn place.now (whole_scope comps (component_tree place.now.names.now place.now.comp.now))
-        → AreAllOrNone comps known → ShowsWires known wires.now → KeepsRules all_rules comps
-        → IfOk result (λ made. AreNumbered made.graph.ports.names made.outputs.items (output_names (component_tree place.now.names.now place.now.comp.now))) }
-    ensures within { IfOk result (λ made. All (λ output. output < length made.graph.ports.names) made.outputs.items) }
+    ensures own { (comps : Design) → IsPlaceIn place.now (whole_scope comps (component_tree place.now.names.now place.now.comp.now))
+        → KeepsRules all_rules comps
+        → IfOk result (λ made. AreNumbered made.graph.ports.names made.own.items (own_port_names (component_tree place.now.names.now place.now.comp.now))) }
+    ensures within { IfOk result (λ made. All (λ port. port < length made.graph.ports.names) made.own.items) }
 {
     let mut graph = PortGraph::new(alloc, &place.tables.instances);
-    let _inputs = own_ports(alloc, &mut graph, place.names, &place.comp.ins)?;
-    add_body(alloc, &mut graph, place, wires)?;
+    add_body(&mut graph, place)?;
+    let mut own = own_ports(alloc, &mut graph, place.names, &place.comp.ins)?;
     let outputs = own_ports(alloc, &mut graph, place.names, &place.comp.outs)?;
-    Ok(ComponentGraph { graph, outputs })
+    own.extend_from_slice(&outputs)?;
+    Ok(ComponentGraph { graph, own })
 }
 
-/// The numbers of ports of the component. In a graph of no ports they are the first, if they are distinct.
+/// The numbers of ports of the component.
 fn own_ports(
     alloc: Global,
     graph: &mut PortGraph,
@@ -161,8 +189,6 @@ fn own_ports(
     requires numbers { All (PortHasNumbers names.now) ports.now }
     ensures numbered { IfOk result (λ numbers. AreNumbered graph.new.ports.names numbers.items (port_names names.now ports.now)) }
     ensures within { IfOk result (λ numbers. All (λ number. number < length graph.new.ports.names) numbers.items) }
-    ensures first { graph.old.ports.names ≡ [] → AreDistinct (port_names names.now ports.now)
-        → OnOk result (graph.new.ports.names ≡ port_names names.now ports.now) }
     ensures same { OnOk result (Adds NoPair graph.old graph.new) }
 {
     let mut numbers = Vec::new(alloc);
@@ -186,42 +212,44 @@ fn has_order(alloc: Global, reads: &Groups) -> Result<bool, Memory>
 }
 
 /// The least loop, if there is a loop.
-fn least_loop(alloc: Global, graph: &PortGraph, reads: &Groups) -> Result<Option<Vec<Word>>, Memory>
-    requires distinct { AreDistinct graph.now.ports.names }
-    requires room { length graph.now.ports.names < 2 ^ 32 }
-    requires reads { IsGathered graph.now.entries.items (length graph.now.ports.names) reads.now }
-    ensures { (comps : Design) (c : Component) → IsGraphOf comps c graph.now → IfOk result (TellsLeastLoop comps c) }
+fn least_loop(alloc: Global, ports: &Ports, reads: &Groups) -> Result<Option<Vec<Word>>, Memory>
+    requires distinct { AreDistinct ports.now.names }
+    requires in_range { AreInRange reads.now }
+    requires all { length ports.now.names ≤ length reads.now }
+    requires room { length reads.now < 2 ^ 32 }
+    ensures { (comps : Design) (c : Component) → LeadsAsRead comps c ports.now.names reads.now → IfOk result (TellsLeastLoop comps c) }
 {
     if has_order(alloc, reads)? {
         return Ok(None);
     }
-    told_loop(alloc, graph, reads)
+    told_loop(alloc, ports, reads)
 }
 
-/// The least loop, where there is one. The full names of all ports are made only here.
-fn told_loop(alloc: Global, graph: &PortGraph, reads: &Groups) -> Result<Option<Vec<Word>>, Memory>
-    requires distinct { AreDistinct graph.now.ports.names }
-    requires room { length graph.now.ports.names < 2 ^ 32 }
-    requires reads { IsGathered graph.now.entries.items (length graph.now.ports.names) reads.now }
-    ensures { (comps : Design) (c : Component) → IsGraphOf comps c graph.now → IfOk result (TellsLeastLoop comps c) }
+/// The least loop, where there may be one. All full names are put into a list only here.
+fn told_loop(alloc: Global, ports: &Ports, reads: &Groups) -> Result<Option<Vec<Word>>, Memory>
+    requires distinct { AreDistinct ports.now.names }
+    requires in_range { AreInRange reads.now }
+    requires all { length ports.now.names ≤ length reads.now }
+    requires room { length reads.now < 2 ^ 32 }
+    ensures { (comps : Design) (c : Component) → LeadsAsRead comps c ports.now.names reads.now → IfOk result (TellsLeastLoop comps c) }
 {
-    let names = graph.ports.full_names()?;
-    match order_or_least_loop(alloc, reads, &names) {
-        Ok(_order) => Ok(None),
-        Err(OrderEnd::Loop { ports }) => Ok(Some(full_names(alloc, &names, &ports)?)),
-        Err(OrderEnd::Memory) => Err(Memory),
+    let names = ports.full_names()?;
+    match least_loop_among(alloc, reads, &names)? {
+        Some(nodes) => Ok(Some(full_names(alloc, &names, &nodes)?)),
+        None => Ok(None),
     }
 }
 
-/// The full names of ports.
-fn full_names(alloc: Global, names: &Names, ports: &[usize]) -> Result<Vec<Word>, Memory>
-    requires in_range { All (λ port. port < length names.now) ports.now }
+/// The full names of those of the nodes that are ports; the nodes of instances' graphs have none.
+fn full_names(alloc: Global, names: &Names, nodes: &[usize]) -> Result<Vec<Word>, Memory>
     requires small { length names.now < 2 ^ 32 }
-    ensures { IfOk result (λ words. words.items ≡ map (λ port. slice_index_or names.now port []) ports.now) }
+    ensures { IfOk result (λ words. words.items ≡ map (λ port. slice_index_or names.now port []) (filter (is_below (length names.now)) nodes.now)) }
 {
     let mut words = Vec::new(alloc);
-    for port in ports {
-        words.push(Word::make(alloc, names.text(NameId(*port as u32)))?)?;
+    for node in nodes {
+        if *node < names.len() {
+            words.push(Word::make(alloc, names.text(NameId(*node as u32)))?)?;
+        }
     }
     Ok(words)
 }

@@ -1,5 +1,5 @@
 -- Levels of a component's ports, as code has them: what is read within a row has a lower one. This project's.
-use Rattle.std.specs.Prelude.{◌≡◌, ◌⊎◌, ◌↔◌, ℕ, ◌+◌, ◌<◌, List, [], ◌++◌, length, take, slice_get, slice_index, Option, Some, All, Contains, IsTrue}
+use Rattle.std.specs.Prelude.{◌≡◌, ◌↔◌, ℕ, ◌+◌, ◌<◌, List, length, take, slice_get, slice_index, Option, Some, All, Contains, IsTrue}
 use Rattle.hw_levels.specs.Levels.{IsBelow}
 use Rattle.hw_levels.specs.declared.cells.CellPort.{CellPort}
 use Rattle.hw_names.specs.Name.{Text, AreDistinct, HasNoDot, dotted}
@@ -7,16 +7,12 @@ use Rattle.fil_ast.specs.Scope.{Instance}
 use Rattle.fil_ast.specs.Tree.{Component, DataPort, Design}
 use Rattle.fil_ast.specs.Wires.{Reaches, through_before, whole_scope}
 use Rattle.fil_check.specs.inside.Ports.{PortList}
-use Rattle.fil_check.specs.inside.Reached.{input_names, output_names}
+use Rattle.fil_check.specs.inside.Reached.{own_port_names}
 use Rattle.fil_check.specs.declared.loops.levels.Levels.{Levels}
-
--- all of the components, or none of them
-abbrev pub AreAllOrNone : Design → Design → Type 0
-AreAllOrNone comps known = (known ≡ comps) ⊎ (known ≡ [])
 
 -- the levels are those of the component's ports, inputs first, and each input that an output reaches has a lower one; names differ, and none has a dot
 pub record ShowsLevels (earlier : Design) (c : Component) (own : Levels) : Type 0 where
-  pub names : own.names ≡ input_names c ++ output_names c
+  pub names : own.names ≡ own_port_names c
   pub inputs : own.inputs ≡ length c.ins
   pub distinct : AreDistinct own.names
   pub dotless : All HasNoDot own.names
@@ -29,11 +25,17 @@ pub record ShowAllLevels (comps : Design) (levels : List Levels) : Type 0 where
   pub all : length levels ≡ length comps
   pub each : (n : ℕ) (c : Component) (own : Levels) → slice_get comps n ≡ Some c → slice_get levels n ≡ Some own → ShowsLevels (take n comps) c own
 
--- of each instance that is made of one of the components, the number of that component stands at the instance's number
+-- the instance of this number is made of the component of that number
+pub record IsMadeOf (comps : Design) (instances : List Instance) (k n : ℕ) : Type 0 where
+  pub instance : Instance
+  pub part : Component
+  pub instance_at : slice_get instances k ≡ Some instance
+  pub part_at : slice_get comps n ≡ Some part
+  pub named : part.name ≡ instance.made
+
+-- at the number of each instance that is made of one of the components stands the number of that
 abbrev pub AreParts : Design → List Instance → List (Option ℕ) → Type 0
-AreParts comps instances parts =
-    (k n : ℕ) (i : Instance) (made : Component) → slice_get instances k ≡ Some i → slice_get comps n ≡ Some made → made.name ≡ i.made →
-    slice_get parts k ≡ Some (Some n)
+AreParts comps instances parts = (k n : ℕ) → (slice_get parts k ≡ Some (Some n)) ↔ IsMadeOf comps instances k n
 
 -- the port of this number is that of the instance with that number: port `pin` of the component that it is made of, which has these levels
 pub record IsPortOfPart (ports : PortList) (parts : List (Option ℕ)) (levels : List Levels) (node instance pin : ℕ) (own : Levels) : Type 0 where

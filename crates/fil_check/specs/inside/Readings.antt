@@ -1,6 +1,5 @@
 -- Which ports read which within a row by each statement of a component. This project's.
-use Rattle.std.specs.Prelude.{◌≡◌, ◌⊎◌, ℕ, List, map, slice_get, Option, Some, None, option_map, Vec, Contains}
-use Rattle.std.specs.declared.alloc.Global.{Global}
+use Rattle.std.specs.Prelude.{◌≡◌, ◌⊎◌, ℕ, List, slice_get, Option, Some, None, option_map, Contains}
 use Rattle.hw_names.specs.Name.{Text, dotted}
 use Rattle.fil_ast.specs.Scope.{Scope, Instance, Invocation, instance_signature, invocation_named}
 use Rattle.fil_ast.specs.Signature.{SigPort, Signature}
@@ -26,14 +25,6 @@ pub record ReadsArgument (scope : Scope) (inst : Text) (sig : Signature) (args :
 abbrev pub ReadsGiven : Scope → Text → List ValueTree → Text → Text → Type 0
 ReadsGiven scope inst args port other =
     (sig : Signature) × (instance_signature scope inst ≡ Some sig) × (k : ℕ) × ReadsArgument scope inst sig args k port other
-
--- the full name of a port of an instance
-abbrev pub full_name_of : Text → SigPort → Option Text
-full_name_of inst port = Some (dotted inst port.name)
-
--- these are the numbers of an instance's ports among the names of all ports
-abbrev pub ArePorts : Text → List Text → List ℕ → List SigPort → Type 0
-ArePorts inst names numbers ports = map (slice_get names) numbers ≡ map (full_name_of inst) ports
 
 -- an output of the instance reads an input on which it depends
 pub record ReadsWithin (through : Text → Text → Text → Type 0) (i : Instance) (sig : Signature) (port other : Text) : Type 0 where
@@ -64,24 +55,6 @@ ReadsBy through scope (Connect output value) port other = ReadsValue scope outpu
 -- what statement k says
 abbrev pub ReadsAt : (Text → Text → Text → Type 0) → Scope → List Statement → ℕ → Text → Text → Type 0
 ReadsAt through scope body k port other = (s : Statement) × (slice_get body k ≡ Some s) × ReadsBy through scope s port other
-
--- an output of an instance reads the input of the number at k of these
-pub record ReadsNumbered (inst output : Text) (ins : List SigPort) (numbers : List ℕ) (k : ℕ) (port other : Text) : Type 0 where
-  pub number : ℕ
-  pub input : SigPort
-  pub at : slice_get numbers k ≡ Some number
-  pub taken : slice_get ins number ≡ Some input
-  pub is_port : dotted inst output ≡ port
-  pub is_other : dotted inst input.name ≡ other
-
--- output o of an instance reads the inputs on which it depends, by their numbers
-pub record ReadsWired (inst : Text) (sig : Signature) (inputs : List (Vec ℕ Global)) (o : ℕ) (port other : Text) : Type 0 where
-  pub numbers : Vec ℕ Global
-  pub output : SigPort
-  pub at : slice_get inputs o ≡ Some numbers
-  pub given : slice_get sig.outs o ≡ Some output
-  pub k : ℕ
-  pub reads : ReadsNumbered inst output.name sig.ins numbers.items k port other
 
 -- an output of an instance reads input k
 pub record ReadsEach (inst output : Text) (ins : List SigPort) (k : ℕ) (port other : Text) : Type 0 where

@@ -43,8 +43,8 @@ pub record IsFirstOutside (i : Interval) (event from first : ℕ) : Type 0 where
   pub least : (offset : ℕ) → from ≤ offset → offset < first → IsInside i event offset
 
 -- available from the start of the need on
-abbrev pub IsFrom : Available → Interval → Type 0
-IsFrom available need = (offset : ℕ) → need.from ≤ offset → IsAt available need.event offset
+abbrev pub IsAvailableFrom : Available → Interval → Type 0
+IsAvailableFrom available need = (offset : ℕ) → need.from ≤ offset → IsAt available need.event offset
 
 -- available throughout the need
 abbrev pub IsThroughout : Available → Interval → Type 0

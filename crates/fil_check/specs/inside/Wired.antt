@@ -3,7 +3,7 @@ use Rattle.std.specs.Prelude.{◌≡◌, ℕ, ◌<◌, ◌∷◌, List, take, sl
 use Rattle.hw_names.specs.Name.{Text, text_of}
 use Rattle.fil_ast.specs.Tree.{Component, Design}
 use Rattle.fil_ast.specs.Wires.{HasNoLoop, IsLeastLoop}
-use Rattle.fil_check.specs.inside.Wiring.{ShowsWires}
+use Rattle.fil_check.specs.inside.Wiring.{ShowInsides}
 use Rattle.fil_check.specs.declared.loops.Wired.{Wired}
 use Rattle.fil_check.specs.declared.loops.Wired.TheVariants.{Free, Looped}
 
@@ -24,5 +24,5 @@ pub record IsFirstLoop (comps : Design) (name : Text) (ports : List Text) : Type
   pub loop : IsLeastLoop (take number comps) c first others
 
 abbrev pub IsWired : List Text → Design → Wired → Type 0
-IsWired names comps (Free wires) = ShowsWires comps wires.items × HaveNoLoop comps
+IsWired names comps (Free insides) = ShowInsides comps insides.items × HaveNoLoop comps
 IsWired names comps (Looped comp ports) = IsFirstLoop comps (text_of names comp) ports.items

@@ -1,24 +1,35 @@
--- On which inputs the outputs of components depend within a row, as the tables have it. This project's.
-use Rattle.std.specs.Prelude.{◌≡◌, ◌↔◌, ℕ, ◌∷◌, List, length, take, slice_get, Option, Some, None, Vec, Contains}
+-- Which outputs of a component reach which of its inputs within a row, and least loops, as code has them. This project's.
+use Rattle.std.specs.Prelude.{◌≡◌, ◌↔◌, ℕ, ◌+◌, ◌∷◌, List, length, take, slice_get, Option, Some, None, Vec}
 use Rattle.std.specs.declared.alloc.Global.{Global}
-use Rattle.hw_names.specs.Name.{Text}
+use Rattle.hw_cells.specs.Cells.{IsOrReaches}
+use Rattle.hw_names.specs.Name.{Text, AreDistinct}
 use Rattle.fil_ast.specs.Tree.{DataPort, Component, Design}
 use Rattle.fil_ast.specs.Wires.{HasNoLoop, IsLeastLoop, Reaches, through_before, whole_scope}
-use Rattle.fil_check.specs.declared.loops.Wires.{Wires}
+use Rattle.fil_check.specs.inside.Reached.{own_port_names}
+use Rattle.fil_check.specs.declared.loops.inside.Inside.{Inside}
 use Rattle.fil_check.specs.declared.loops.WireEnd.{WireEnd}
 use Rattle.fil_check.specs.declared.loops.WireEnd.TheVariants.{Loop, Memory}
 
--- for each output of the component, by its number, the numbers of the inputs on which it depends
-pub record DependsOn (earlier : Design) (c : Component) (wires : Wires) : Type 0 where
-  pub all : length wires.inputs.items ≡ length c.outs
-  pub each : (o i : ℕ) (output input : DataPort) (inputs : Vec ℕ Global) → slice_get c.outs o ≡ Some output → slice_get c.ins i ≡ Some input →
-      slice_get wires.inputs.items o ≡ Some inputs
-      → Contains inputs.items i ↔ Reaches (through_before earlier) (whole_scope earlier c) input.name output.name
+-- input i and output o have these nodes in the graph
+pub record HaveNodes (c : Component) (inside : Inside) (i o node other : ℕ) (input output : DataPort) : Type 0 where
+  pub input_at : slice_get c.ins i ≡ Some input
+  pub output_at : slice_get c.outs o ≡ Some output
+  pub is_other : slice_get inside.nodes.items i ≡ Some other
+  pub is_node : slice_get inside.nodes.items (inside.inputs + o) ≡ Some node
+
+-- in the graph each output leads to exactly the inputs that it reaches; ports by their numbers, inputs first
+pub record IsInside (earlier : Design) (c : Component) (inside : Inside) : Type 0 where
+  pub names : inside.names ≡ own_port_names c
+  pub distinct : AreDistinct inside.names
+  pub inputs : inside.inputs ≡ length c.ins
+  pub all : length inside.nodes.items ≡ length inside.names
+  pub leads : (i o node other : ℕ) (input output : DataPort) → HaveNodes c inside i o node other input output →
+      IsOrReaches inside.reads node other ↔ Reaches (through_before earlier) (whole_scope earlier c) input.name output.name
 
 -- this of each of the components
-pub record ShowsWires (comps : Design) (wires : List Wires) : Type 0 where
-  pub all : length wires ≡ length comps
-  pub each : (n : ℕ) (c : Component) (w : Wires) → slice_get comps n ≡ Some c → slice_get wires n ≡ Some w → DependsOn (take n comps) c w
+pub record ShowInsides (comps : Design) (insides : List Inside) : Type 0 where
+  pub all : length insides ≡ length comps
+  pub each : (n : ℕ) (c : Component) (inside : Inside) → slice_get comps n ≡ Some c → slice_get insides n ≡ Some inside → IsInside (take n comps) c inside
 
 -- the least loop of the component
 abbrev pub TellsLoop : Design → Component → WireEnd → Type 0

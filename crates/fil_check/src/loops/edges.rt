@@ -1,11 +1,8 @@
 //! Which ports of a component read which within a row.
-ghost use Rattle.std.specs.Prelude.{◌≡◌, ◌<◌, ℕ, List, [], Some, Vec, All, Contains, IsTrue, length, map, option_and_then, option_map, slice_get, IfOk, IfSome, OnOk};
-ghost use Rattle.std.specs.declared.alloc.Global.{Global};
-ghost use Rattle.hw_names.specs.Name.{Text, dotted};
-ghost use Rattle.fil_ast.specs.Signature as tree;
+ghost use Rattle.std.specs.Prelude.{◌≡◌, ◌<◌, [], Some, All, Contains, length, map, option_and_then, option_map, slice_get, IfOk, IfSome, OnOk};
+ghost use Rattle.hw_names.specs.Name.{Text};
 ghost use Rattle.fil_ast.specs.Numbers.{ComponentHasNumbers, StatementHasNumbers, ValueHasNumbers};
 ghost use Rattle.fil_ast.specs.Primitives.{filament_primitive, table_name};
-ghost use Rattle.fil_ast.specs.Rules.{KeepsRules, all_rules};
 ghost use Rattle.fil_ast.specs.Scope.{Scope, Invocation, instances_at, invocation_named};
 ghost use Rattle.fil_ast.specs.Tree.{Design, component_tree, statement_tree, value_tree};
 ghost use Rattle.fil_ast.specs.Wires.{through_before, whole_scope};
@@ -13,13 +10,10 @@ ghost use Rattle.fil_sig.specs.Seen.{seen, seen_port};
 ghost use Rattle.hw_prims.specs.Meaning.{is_through};
 ghost use Rattle.hw_prims.specs.Table.{inputs_of, name_at, outputs_of};
 ghost use Rattle.hw_prims.specs.declared.prim.Primitive.{Primitive};
-ghost use Rattle.fil_check.specs.inside.Levels.{AreAllOrNone};
 ghost use Rattle.fil_check.specs.inside.Place.{IsPlaceIn};
 ghost use Rattle.fil_check.specs.inside.PortGraph.{Adds, Below, HasInstances, NoPair};
-ghost use Rattle.fil_check.specs.inside.Readings.{ArePorts, port_of_value, ReadsAll, ReadsArgument, ReadsAt, ReadsBy, ReadsEach, ReadsGiven, ReadsMade, ReadsNumbered, ReadsValue, ReadsWired};
-ghost use Rattle.fil_check.specs.inside.Wiring.{ShowsWires};
+ghost use Rattle.fil_check.specs.inside.Readings.{port_of_value, ReadsAll, ReadsArgument, ReadsAt, ReadsBy, ReadsEach, ReadsGiven, ReadsMade, ReadsValue};
 
-use crate::loops::Wires;
 use crate::loops::graph::PortGraph;
 use crate::meaning::{callee_at, invoked_by};
 use crate::place::Place;
@@ -27,51 +21,31 @@ use fil_ast::{Stmt, Value};
 use fil_sig::{SigPort, TimeSig, table_name};
 use hw_bits::Memory;
 use hw_prims::Prim;
-use std::alloc::Global;
 
-/// Adds what each statement of the body says. Without wires, instances of components say nothing.
-pub fn add_body(
-    alloc: Global,
-    graph: &mut PortGraph,
-    place: &Place,
-    wires: &[Wires],
-) -> Result<(), Memory>
+/// Adds what each statement of the body says. Instances of components say nothing.
+pub fn add_body(graph: &mut PortGraph, place: &Place) -> Result<(), Memory>
     requires numbers { ComponentHasNumbers place.now.names.now place.now.comp.now }
-    ensures { (comps known : Design) → IsPlaceIn place.now (whole_scope comps (component_tree place.now.names.now place.now.comp.now))
+    ensures { (comps : Design) → IsPlaceIn place.now (whole_scope comps (component_tree place.now.names.now place.now.comp.now))
         → HasInstances (whole_scope comps (component_tree place.now.names.now place.now.comp.now)) graph.old
-        → AreAllOrNone comps known → ShowsWires known wires.now → KeepsRules all_rules comps
-        → OnOk result (Adds (Below (ReadsAt (through_before known) (whole_scope comps (component_tree place.now.names.now place.now.comp.now)) (component_tree place.now.names.now place.now.comp.now).body) (length place.now.comp.now.body.items)) graph.old graph.new) }
+        → OnOk result (Adds (Below (ReadsAt (through_before []) (whole_scope comps (component_tree place.now.names.now place.now.comp.now)) (component_tree place.now.names.now place.now.comp.now).body) (length place.now.comp.now.body.items)) graph.old graph.new) }
 {
     for stmt in &place.comp.body {
-        add_statement(alloc, graph, place, wires, stmt)?;
+        add_statement(graph, place, stmt)?;
     }
     Ok(())
 }
 
 /// Adds what a statement says.
-fn add_statement(
-    alloc: Global,
-    graph: &mut PortGraph,
-    place: &Place,
-    wires: &[Wires],
-    stmt: &Stmt,
-) -> Result<(), Memory>
+fn add_statement(graph: &mut PortGraph, place: &Place, stmt: &Stmt) -> Result<(), Memory>
     requires numbers { StatementHasNumbers place.now.names.now stmt.now }
-    ensures { (scope : Scope) (known : Design) → IsPlaceIn place.now scope → HasInstances scope graph.old
-        → AreAllOrNone scope.comps known → ShowsWires known wires.now → KeepsRules all_rules scope.comps
+    ensures { (scope : Scope) → IsPlaceIn place.now scope → HasInstances scope graph.old
         → All (Contains scope.instances) (instances_at (statement_tree place.now.names.now stmt.now))
-        → OnOk result (Adds (ReadsBy (through_before known) scope (statement_tree place.now.names.now stmt.now)) graph.old graph.new) }
+        → OnOk result (Adds (ReadsBy (through_before []) scope (statement_tree place.now.names.now stmt.now)) graph.old graph.new) }
 {
     match stmt {
         Stmt::New { name, comp, params } => {
             let (name, made) = (place.names.text(*name), place.names.text(*comp));
-            add_instance(
-                alloc,
-                graph,
-                place,
-                wires,
-                NewInstance { name, made, params },
-            )
+            add_instance(graph, place, NewInstance { name, made, params })
         }
         Stmt::Call { inst, args, .. } => {
             add_arguments(graph, place, place.names.text(*inst), args)
@@ -84,13 +58,7 @@ fn add_statement(
             ..
         } => {
             let (name, made) = (place.names.text(*name), place.names.text(*made));
-            add_instance(
-                alloc,
-                graph,
-                place,
-                wires,
-                NewInstance { name, made, params },
-            )?;
+            add_instance(graph, place, NewInstance { name, made, params })?;
             add_arguments(graph, place, name, args)
         }
         Stmt::Set { dst, value } => {
@@ -205,36 +173,23 @@ fn instance_invoked(graph: &PortGraph, place: &Place, name: &[u8]) -> Option<usi
     Some(instance)
 }
 
-/// Adds that the outputs of an instance read the inputs on which they depend within a row.
-fn add_instance(
-    alloc: Global,
-    graph: &mut PortGraph,
-    place: &Place,
-    wires: &[Wires],
-    made: NewInstance,
-) -> Result<(), Memory>
-    ensures { (scope : Scope) (known : Design) → IsPlaceIn place.now scope → HasInstances scope graph.old
-        → AreAllOrNone scope.comps known → ShowsWires known wires.now → KeepsRules all_rules scope.comps
+/// Adds that the outputs of an instance of a primitive read the inputs on which they depend within a row.
+fn add_instance(graph: &mut PortGraph, place: &Place, made: NewInstance) -> Result<(), Memory>
+    ensures { (scope : Scope) → IsPlaceIn place.now scope → HasInstances scope graph.old
         → Contains scope.instances (record { name = made.entry.name.now; made = made.entry.made.now; params = made.entry.params.now })
-        → OnOk result (Adds (ReadsMade (through_before known) scope (record { name = made.entry.name.now; made = made.entry.made.now; params = made.entry.params.now })) graph.old graph.new) }
+        → OnOk result (Adds (ReadsMade (through_before []) scope (record { name = made.entry.name.now; made = made.entry.made.now; params = made.entry.params.now })) graph.old graph.new) }
 {
+    let Some(table) = table_name(made.made) else {
+        return Ok(());
+    };
+    if !is_through(table, made.params) {
+        return Ok(());
+    }
     let Some(instance) = graph.ports.instance(made.name) else {
         return Ok(());
     };
-    let Some(callee) = callee_at(place.earlier, place.tables, instance) else {
-        return Ok(());
-    };
-    if let Some(table) = table_name(made.made) {
-        if is_through(table, made.params) {
-            return add_all(graph, instance, callee.sig());
-        }
-        return Ok(());
-    }
-    let Some(number) = place.earlier.names.find(made.made) else {
-        return Ok(());
-    };
-    match wires.get(number.0 as usize) {
-        Some(own) => add_wired(alloc, graph, instance, callee.sig(), own),
+    match callee_at(place.earlier, place.tables, instance) {
+        Some(callee) => add_all(graph, instance, callee.sig()),
         None => Ok(()),
     }
 }
@@ -291,85 +246,6 @@ fn add_each(
     for input in ins {
         let other = graph.port(instance, input.name.bytes())?;
         graph.add(port, other)?;
-    }
-    Ok(())
-}
-
-/// Whether no output of a component depends on any input.
-fn reads_nothing(wires: &Wires) -> bool
-    ensures { IsTrue result → (o : ℕ) (numbers : Vec ℕ Global) → slice_get wires.now.inputs.items o ≡ Some numbers → numbers.items ≡ [] }
-{
-    for numbers in &wires.inputs {
-        if !numbers.is_empty() {
-            return false;
-        }
-    }
-    true
-}
-
-/// The numbers of an instance's inputs among the ports.
-fn input_ports(
-    alloc: Global,
-    graph: &mut PortGraph,
-    instance: usize,
-    ins: &[SigPort],
-) -> Result<Vec<usize>, Memory>
-    requires { instance < length graph.old.ports.instances }
-    ensures ports { (inst : Text) → slice_get graph.old.ports.instances instance ≡ Some inst
-        → IfOk result (λ ports. ArePorts inst graph.new.ports.names ports.items (map seen_port ins.now)) }
-    ensures within { IfOk result (λ ports. All (λ port. port < length graph.new.ports.names) ports.items) }
-    ensures same { OnOk result (Adds NoPair graph.old graph.new) }
-{
-    let mut ports = Vec::new(alloc);
-    for input in ins {
-        let port = graph.port(instance, input.name.bytes())?;
-        ports.push(port)?;
-    }
-    Ok(ports)
-}
-
-/// Adds that each output of an instance reads the inputs on which it depends. The number of each port is found once.
-fn add_wired(
-    alloc: Global,
-    graph: &mut PortGraph,
-    instance: usize,
-    sig: &TimeSig,
-    wires: &Wires,
-) -> Result<(), Memory>
-    requires { instance < length graph.old.ports.instances }
-    ensures { (inst : Text) → slice_get graph.old.ports.instances instance ≡ Some inst
-        → OnOk result (Adds (Below (ReadsWired inst (seen sig.now) wires.now.inputs.items) (length sig.now.outs.items)) graph.old graph.new) }
-{
-    if reads_nothing(wires) {
-        return Ok(());
-    }
-    let ports = input_ports(alloc, graph, instance, &sig.ins)?;
-    for (number, output) in sig.outs.iter().enumerate() {
-        if let Some(numbers) = wires.inputs.get(number) {
-            let key = graph.port(instance, output.name.bytes())?;
-            add_inputs(graph, key, &ports, numbers)?;
-        }
-    }
-    Ok(())
-}
-
-/// Adds that the port of this number reads those at these numbers of some ports.
-fn add_inputs(
-    graph: &mut PortGraph,
-    key: usize,
-    ports: &[usize],
-    numbers: &[usize],
-) -> Result<(), Memory>
-    requires key { key < length graph.old.ports.names }
-    requires ports { All (λ port. port < length graph.old.ports.names) ports.now }
-    ensures { (inst output : Text) (ins : List tree.SigPort) → slice_get graph.old.ports.names key ≡ Some (dotted inst output)
-        → ArePorts inst graph.old.ports.names ports.now ins
-        → OnOk result (Adds (Below (ReadsNumbered inst output ins numbers.now) (length numbers.now)) graph.old graph.new) }
-{
-    for number in numbers {
-        if let Some(port) = ports.get(*number) {
-            graph.add(key, *port)?;
-        }
     }
     Ok(())
 }

@@ -3,7 +3,7 @@
 //! A component's levels are those of its graph, to which an instance of a component gives only what the levels of that component
 //! say. So no more is kept of a component than a number for each of its ports, and an instance costs as many steps as the text
 //! names ports of it.
-ghost use Rattle.std.specs.Prelude.{◌≡◌, ◌<◌, [], ◌∷◌, ◌++◌, ℕ, Some, take, map, All, length, slice_get, slice_index, IfNone, IfOk, IfSome, IsSome, IsTrue};
+ghost use Rattle.std.specs.Prelude.{◌≡◌, ◌↔◌, ◌<◌, [], ◌∷◌, ◌++◌, ℕ, Some, map, All, length, slice_get, slice_index, IfNone, IfOk, IfSome, IsSome, IsTrue};
 ghost use Rattle.hw_names.specs.Name.{AreDistinct, HasNoDot};
 ghost use Rattle.fil_ast.specs.Numbers.{ComponentHasNumbers, PortHasNumbers, StatementHasNumbers};
 ghost use Rattle.fil_ast.specs.Rules.{KeepsComponent, KeepsRules, all_rules};
@@ -12,7 +12,7 @@ ghost use Rattle.fil_ast.specs.Tree.{Design, component_tree, statement_tree};
 ghost use Rattle.fil_ast.specs.Wires.{HasNoLoop, whole_scope};
 ghost use Rattle.fil_check.specs.inside.Levels.{AreParts, HasAllPorts, IsPortOfPart, ShowAllLevels, ShowsLevels, TellsPort};
 ghost use Rattle.fil_check.specs.inside.Place.{IsPlaceIn};
-ghost use Rattle.fil_check.specs.inside.Reached.{input_names, output_names, port_names};
+ghost use Rattle.fil_check.specs.inside.Reached.{own_port_names, port_names};
 ghost use Rattle.fil_check.specs.declared.loops.levels.Levels as of;
 
 use crate::loops::graph::PortGraph;
@@ -53,14 +53,14 @@ fn made_by<'a>(names: &'a Names, stmt: &Stmt) -> Option<&'a [u8]>
 
 /// The number of the component of this name.
 fn number_of(earlier: &Earlier, name: &[u8]) -> Option<usize>
-    ensures { (n : ℕ) → slice_get earlier.now.names n ≡ Some name.now → result ≡ Some n }
+    ensures { (n : ℕ) → (result ≡ Some n) ↔ (slice_get earlier.now.names n ≡ Some name.now) }
 {
     let number = earlier.names.find(name)?;
     Some(number.0 as usize)
 }
 
 /// The numbers of the components that the instances are made of; none of a primitive.
-fn parts_of(alloc: Global, place: &Place) -> Result<Vec<Option<usize>>, Memory>
+pub fn parts_of(alloc: Global, place: &Place) -> Result<Vec<Option<usize>>, Memory>
     requires numbers { ComponentHasNumbers place.now.names.now place.now.comp.now }
     ensures distinct { AreDistinct place.now.earlier.now.names }
     ensures parts { (comps : Design) → IsPlaceIn place.now (whole_scope comps (component_tree place.now.names.now place.now.comp.now))
@@ -139,7 +139,7 @@ fn add_names(own: &mut Names, names: &Names, ports: &[FilPort]) -> Result<bool, 
 fn own_names(place: &Place) -> Result<Option<Names>, Memory>
     requires numbers { ComponentHasNumbers place.now.names.now place.now.comp.now }
     ensures names { IfOk result (λ found. IfSome found (λ own.
-        own ≡ input_names (component_tree place.now.names.now place.now.comp.now) ++ output_names (component_tree place.now.names.now place.now.comp.now))) }
+        own ≡ own_port_names (component_tree place.now.names.now place.now.comp.now))) }
     ensures distinct { IfOk result (λ found. IfSome found AreDistinct) }
     ensures dotless { IfOk result (λ found. IfSome found (All HasNoDot)) }
 {
@@ -155,21 +155,16 @@ fn own_names(place: &Place) -> Result<Option<Names>, Memory>
     Ok(Some(own))
 }
 
-/// Of levels of the graph's ports those of the component's: the first ports are its inputs, and its outputs have these numbers.
-fn own_levels(
-    alloc: Global,
-    inputs: usize,
-    outputs: &[usize],
-    levels: &[usize],
-) -> Result<Vec<usize>, Memory>
-    requires { All (λ output. output < length levels.now) outputs.now }
-    ensures { IfOk result (λ own. own.items ≡ take inputs levels.now ++ map (slice_index levels.now) outputs.now) }
+/// Of levels of the graph's ports those of these.
+fn own_levels(alloc: Global, own: &[usize], levels: &[usize]) -> Result<Vec<usize>, Memory>
+    requires { All (λ port. port < length levels.now) own.now }
+    ensures { IfOk result (λ found. found.items ≡ map (slice_index levels.now) own.now) }
 {
-    let mut own = Vec::from_slice(alloc, &levels[..inputs.min(levels.len())])?;
-    for output in outputs {
-        own.push(levels[*output])?;
+    let mut found = Vec::new(alloc);
+    for port in own {
+        found.push(levels[*port])?;
     }
-    Ok(own)
+    Ok(found)
 }
 
 /// Levels of the component's ports, where `levels` are those of the components before it; none where none were found.
@@ -185,18 +180,17 @@ fn levels_in(alloc: Global, place: &Place, levels: &[Levels]) -> Result<Option<L
     let Some(names) = own_names(place)? else {
         return Ok(None);
     };
-    let ComponentGraph { graph, outputs } = component_graph(alloc, place, &[])?;
+    let ComponentGraph { graph, own } = component_graph(alloc, place)?;
     let parts = parts_of(alloc, place)?;
     let PortGraph { ports, entries, .. } = graph;
     let cells = cell_ports(alloc, &ports, &parts, levels)?;
     let Some(found) = levels_of(alloc, entries, cells, ports.len())? else {
         return Ok(None);
     };
-    let inputs = place.comp.ins.len();
-    let levels = own_levels(alloc, inputs, &outputs, &found)?;
+    let levels = own_levels(alloc, &own, &found)?;
     Ok(Some(Levels {
         names,
-        inputs,
+        inputs: place.comp.ins.len(),
         levels,
     }))
 }

@@ -1,7 +1,7 @@
 //! The ports of a component and of its instances, by numbers.
 //!
 //! A port is known by the number of its instance and that of its own name, so the length of an instance's name is not paid for
-//! at each port. Full names are made only where there is a loop to be told.
+//! at each port. Full names are made only where no levels are found.
 ghost use Rattle.std.specs.Prelude.{◌≡◌, ◌⊎◌, ◌<◌, ◌^◌, ◌+◌, [], ◌∷◌, ◌++◌, ℕ, Some, Contains, drop, length, slice_get, IfNone, IfOk, IfSome, IsSome, OnOk};
 ghost use Rattle.hw_names.specs.Name.{AreDistinct, HasNoDot, KeepsTexts, Text, dot, dotted};
 ghost use Rattle.fil_check.specs.inside.Ports.{AreDifferent, IsFit, PortList, full_name_in};
@@ -36,7 +36,7 @@ impl<'a> Model for Ports<'a> {
 
     ghost view = { λ p. record { instances = p.texts.names; names = map (full_name_in p.texts.all) p.set.keys } };
 
-    ghost invariant = { λ p. All (IsFit p.texts.all) p.set.keys × AreDifferent p.set.keys × (length p.set.keys < 2 ^ 32) };
+    ghost invariant = { λ p. All (IsFit p.texts.all) p.set.keys × AreDifferent p.set.keys × (length p.set.keys < 2 ^ 32) × (length p.texts.names < 2 ^ 32) };
 }
 
 /// The place of the last dot.
@@ -126,6 +126,8 @@ impl<'a> Ports<'a> {
     pub fn new(alloc: Global, instances: &'a Names) -> Ports<'a>
         ensures { result ≡ record { instances = instances.now; names = [] } }
     {
+        // They are fewer than numbers have room for.
+        let _count = instances.len();
         Ports {
             alloc,
             texts: Texts::new(instances),
@@ -167,9 +169,22 @@ impl<'a> Ports<'a> {
 
     /// How many instances there are.
     pub fn instances(&self) -> usize
-        ensures { result ≡ length self.now.instances }
+        ensures count { result ≡ length self.now.instances }
+        ensures small { result < 2 ^ 32 }
+        ensures distinct { AreDistinct self.now.instances }
     {
+        self.texts.begin_with_names();
+        self.texts.are_distinct();
         self.texts.names()
+    }
+
+    /// The name of the instance of this number.
+    pub fn instance_name(&self, instance: usize) -> &[u8]
+        requires { instance < length self.now.instances }
+        ensures { slice_get self.now.instances instance ≡ Some result.now }
+    {
+        self.texts.begin_with_names();
+        self.texts.text(instance)
     }
 
     /// How many ports there are.

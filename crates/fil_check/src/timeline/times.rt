@@ -5,7 +5,7 @@ ghost use Rattle.fil_ast.specs.Timeline.{interval_at};
 ghost use Rattle.fil_ast.specs.Tree.{TimeAt};
 ghost use Rattle.fil_sig.specs.Seen.{seen_port};
 ghost use Rattle.fil_check.specs.inside.Callees.{HasSmallInterval};
-ghost use Rattle.fil_check.specs.inside.Times.{AreTimes, IsFirstMissing, IsFirstOutside, IsFrom, IsThroughout, ShowsInterval};
+ghost use Rattle.fil_check.specs.inside.Times.{AreTimes, IsFirstMissing, IsFirstOutside, IsAvailableFrom, IsThroughout, ShowsInterval};
 
 use fil_sig::SigPort;
 
@@ -63,7 +63,7 @@ fn first_outside(need: Interval, interval: Interval) -> u128
 
 /// The least offset from the need's start on at which the value is not available.
 fn first_missing(need: Interval, available: Available) -> Option<u128>
-    ensures { MatchOption result (IsFrom available need) (IsFirstMissing available need) }
+    ensures { MatchOption result (IsAvailableFrom available need) (IsFirstMissing available need) }
 {
     match available {
         Available::Always => None,

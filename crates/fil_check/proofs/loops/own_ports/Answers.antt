@@ -1,4 +1,4 @@
-use Rattle.std.proofs.Common.{◌≤◌, ◌++◌, ◌∷◌, [], ℕ, List, Contains, length, take, sym, ap, subst, subst₂, ◌∙◌, arith}
+use Rattle.std.proofs.Common.{◌≤◌, ℕ, List, length, take, sym, subst, subst₂, arith}
 use Rattle.std.proofs.lemmas.List.{length-map, take_all}
 use Rattle.std.proofs.lemmas.Option.{slice_get-get_or}
 use Rattle.hw_names.specs.Name.{Text, text_of}
@@ -6,7 +6,7 @@ use Rattle.fil_ast.specs.declared.tree.FilPort.{FilPort}
 use Rattle.fil_check.specs.inside.Reached.{AreNumbered, port_names}
 use Rattle.fil_check.proofs.DependLemmas.{name_at, numbered_more, numbered_within}
 use Rattle.fil_check.proofs.PortGraphLemmas.{adds_no_more}
-use Rattle.fil_check.proofs.PortNumberLemmas.{next_absent, next_name}
+use Rattle.fil_check.proofs.PortNumberLemmas.{next_name}
 use Rattle.fil_check.proofs.loops.own_ports.Goals as goal
 
 pub loop-port-preserved : goal.loop-port-preserved
@@ -23,10 +23,6 @@ loop-port-preserved c =
     let numbered = numbered_more old.ports.names new.ports.names c.named.ensures.same.texts c.loop-port.numbers.items (take k all) c.in_ok-number.number text c.loop-port.invariant.numbered c.in_ok-number.ensures.number in
     record {
       numbered = subst₂ (λ (ns : List ℕ) (ts : List Text). AreNumbered new.ports.names ns ts) (sym c.in_ok-push.ensures.items) one_more numbered;
-      first = λ none distinct.
-          (let before = c.loop-port.invariant.first none distinct in
-          let absent : ¬ Contains old.ports.names text = subst (λ (l : List Text). ¬ Contains l text) (sym before) (next_absent all k text distinct at) in
-          c.in_ok-number.ensures.added absent ∙ ap (λ (l : List Text). l ++ text ∷ []) before ∙ one_more);
       adds = adds_no_more c.args.graph.now old new c.loop-port.invariant.adds c.named.ensures.same;
     }
 
@@ -39,9 +35,3 @@ returns-clause-numbered c =
 pub returns-clause-within : goal.returns-clause-within
 returns-clause-within c =
     numbered_within c.loop-port.graph.ports.names c.loop-port.numbers.items (take c.loop-port.port-index (port_names c.args.names.now c.args.ports.now)) c.loop-port.invariant.numbered
-
-pub returns-clause-first : goal.returns-clause-first
-returns-clause-first c none distinct =
-    let all = port_names c.args.names.now c.args.ports.now in
-    let end : length all ≤ c.loop-port.port-index = omega (arith, c.loop-port-test.false, length-map c.args.ports.now (λ (p : FilPort). text_of c.args.names.now p.name)) in
-    c.loop-port.invariant.first none distinct ∙ take_all c.loop-port.port-index all end

@@ -1,13 +1,11 @@
-use Rattle.std.proofs.Common.{◌≡◌, [], take}
-use Rattle.hw_names.specs.Name.{AreDistinct}
+use Rattle.std.proofs.Common.{take}
 use Rattle.fil_check.specs.inside.PortGraph.{Adds, NoPair}
 use Rattle.fil_check.specs.inside.Reached.{AreNumbered, port_names}
 use Rattle.fil_check.proofs.loops.own_ports.Given as goal
 
--- the ports so far have their numbers, and are the first where there were none
+-- the ports so far have their numbers
 abbrev pub invariant-loop-port : goal.invariant-loop-port
 invariant-loop-port l = record {
   numbered : AreNumbered l.graph.ports.names l.numbers.items (take l.port-index (port_names l.names l.ports));
-  first : l.fn.graph.ports.names ≡ [] → AreDistinct (port_names l.names l.ports) → l.graph.ports.names ≡ take l.port-index (port_names l.names l.ports);
   adds : Adds NoPair l.fn.graph l.graph;
 }

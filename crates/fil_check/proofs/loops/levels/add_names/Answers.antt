@@ -2,7 +2,8 @@ use Rattle.std.proofs.Common.{Ok, ap}
 use Rattle.std.proofs.lemmas.Option.{slice_get-get_or}
 use Rattle.fil_check.specs.inside.Reached.{port_names}
 use Rattle.fil_check.proofs.DependLemmas.{name_at}
-use Rattle.fil_check.proofs.PartLemmas.{dotless_more, names_more, no_dot_told}
+use Rattle.fil_check.proofs.PartLemmas.{dotless_more, names_more}
+use Rattle.fil_check.proofs.PortNumberLemmas.{no_dot_told}
 use Rattle.fil_check.proofs.loops.levels.add_names.Goals as goal
 
 pub loop-port-preserved : goal.loop-port-preserved

@@ -1,14 +1,13 @@
-use Rattle.std.proofs.Common.{◌≡◌, ℕ, ◌≤◌, List, [], ◌++◌, Option, Vec, Global, length, map, take, inr, refl, ap₂, subst, ◌∙◌, arith}
+use Rattle.std.proofs.Common.{◌≡◌, ℕ, List, Option, Vec, Global, length, map, refl, ap₂, subst, ◌∙◌, arith}
 use Rattle.std.specs.Prelude.{⊤, All, slice_index}
 use Rattle.std.proofs.lemmas.List.{length-map}
 use Rattle.std.proofs.lemmas.Option.{MatchOption-at_some}
 use Rattle.hw_levels.specs.Levels.{AreLevels}
 use Rattle.hw_names.specs.Name.{Text, AreDistinct, HasNoDot}
 use Rattle.fil_ast.specs.Tree.{component_tree, port_tree}
-use Rattle.fil_check.specs.inside.Levels.{AreAllOrNone, HasAllPorts}
-use Rattle.fil_check.specs.inside.Reached.{input_names, output_names}
-use Rattle.fil_check.proofs.LevelLemmas.{no_loop_by_levels, no_wires, shows_own}
-use Rattle.fil_check.proofs.WiringLemmas.{inputs_distinct}
+use Rattle.fil_check.specs.inside.Levels.{HasAllPorts}
+use Rattle.fil_check.specs.inside.Reached.{own_port_names}
+use Rattle.fil_check.proofs.LevelLemmas.{no_loop_by_levels, shows_own}
 use Rattle.fil_check.proofs.loops.levels.levels_in.Goals as goal
 
 pub returns-clause-levels : goal.returns-clause-levels
@@ -17,8 +16,6 @@ returns-clause-levels c comps place shows keeps own_keeps =
     let comp = c.args.place.now.comp.now in
     let tree = component_tree names comp in
     let levels = c.args.levels.now in
-    let known : AreAllOrNone comps [] = inr refl in
-    let bare = no_wires _ refl in
     let made = c.in_ok-graph.ensures in
     let g = c.in_ok-graph.field-0.graph in
     let cells = c.in_ok-cells.cells.items in
@@ -26,19 +23,17 @@ returns-clause-levels c comps place shows keeps own_keeps =
     let E : List (Option ℕ) → Type 0 = λ l. HasAllPorts g.ports l levels cells in
     let every = subst E c.deref.ensures.value c.in_ok-cells.ensures.all in
     let falling = MatchOption-at_some ⊤ (λ (l : Vec ℕ Global). AreLevels g.entries.items cells l.items) c.in-Some-2.found c.in-Some-2.is c.in_ok-found.ensures.levels in
-    let has = made.instances comps [] place known bare keeps in
-    let reads = made.reads comps [] place known bare keeps in
+    let has = made.instances comps place keeps in
+    let reads = made.reads comps place keeps in
     let texts = c.in-Some.names in
-    let are_names = MatchOption-at_some ⊤ (λ (l : List Text). l ≡ input_names tree ++ output_names tree) texts c.in-Some.is c.in_ok-names.ensures.names in
+    let are_names = MatchOption-at_some ⊤ (λ (l : List Text). l ≡ own_port_names tree) texts c.in-Some.is c.in_ok-names.ensures.names in
     let differ = MatchOption-at_some ⊤ (λ (l : List Text). AreDistinct l) texts c.in-Some.is c.in_ok-names.ensures.distinct in
     let no_dots = MatchOption-at_some ⊤ (λ (l : List Text). All HasNoDot l) texts c.in-Some.is c.in_ok-names.ensures.dotless in
-    let all_found = MatchOption-at_some ⊤ (λ (l : Vec ℕ Global). c.len.result ≤ length l.items) c.in-Some-2.found c.in-Some-2.is c.in_ok-found.ensures.all in
-    let enough : length g.ports.names ≤ length c.in-Some-2.found.items = omega (arith, all_found, c.len.ensures.len) in
-    let inputs : c.len-inputs.result ≡ length tree.ins = omega (arith, c.len-inputs.ensures, comp.ins.ok.0, length-map comp.ins.items (port_tree names)) in
-    let own = c.in_ok-levels.ensures ∙ ap₂ (λ (l os : List ℕ). take c.len-inputs.result l ++ map (slice_index l) os) c.deref-3.ensures.value c.deref-2.ensures.value in
+    let inputs : c.len-2.result ≡ length tree.ins = omega (arith, c.len-2.ensures, comp.ins.ok.0, length-map comp.ins.items (port_tree names)) in
+    let own = c.in_ok-levels.ensures ∙ ap₂ (λ (l ns : List ℕ). map (slice_index l) ns) c.deref-3.ensures.value c.deref-2.ensures.value in
     shows_own comps tree names c.args.place.now.earlier.now comp c.args.place.now.tables.now place c.parts_of.ensures.distinct keeps parts (c.in_ok-parts.ensures.parts comps place) levels shows
     g has reads c.len.ensures.distinct cells every c.in-Some-2.found.items falling
-    texts are_names differ no_dots (made.inputs comps [] place known bare keeps (inputs_distinct comps tree own_keeps)) c.in_ok-graph.field-0.outputs.items (made.outputs comps [] place known bare keeps) enough _ refl inputs own
+    texts are_names differ no_dots c.in_ok-graph.field-0.own.items (made.own comps place keeps) _ refl inputs own
 
 pub returns-clause-no_loop : goal.returns-clause-no_loop
 returns-clause-no_loop c comps place shows keeps own_keeps =
@@ -46,8 +41,6 @@ returns-clause-no_loop c comps place shows keeps own_keeps =
     let comp = c.args.place.now.comp.now in
     let tree = component_tree names comp in
     let levels = c.args.levels.now in
-    let known : AreAllOrNone comps [] = inr refl in
-    let bare = no_wires _ refl in
     let made = c.in_ok-graph.ensures in
     let g = c.in_ok-graph.field-0.graph in
     let cells = c.in_ok-cells.cells.items in
@@ -55,7 +48,7 @@ returns-clause-no_loop c comps place shows keeps own_keeps =
     let E : List (Option ℕ) → Type 0 = λ l. HasAllPorts g.ports l levels cells in
     let every = subst E c.deref.ensures.value c.in_ok-cells.ensures.all in
     let falling = MatchOption-at_some ⊤ (λ (l : Vec ℕ Global). AreLevels g.entries.items cells l.items) c.in-Some-2.found c.in-Some-2.is c.in_ok-found.ensures.levels in
-    let has = made.instances comps [] place known bare keeps in
-    let reads = made.reads comps [] place known bare keeps in
+    let has = made.instances comps place keeps in
+    let reads = made.reads comps place keeps in
     no_loop_by_levels comps tree names c.args.place.now.earlier.now comp c.args.place.now.tables.now place c.parts_of.ensures.distinct keeps parts (c.in_ok-parts.ensures.parts comps place) levels shows
     g has reads c.len.ensures.distinct cells every c.in-Some-2.found.items falling

@@ -1,4 +1,4 @@
-use Rattle.std.proofs.Common.{[], ◌++◌, List, ap, ap₂, ◌∙◌}
+use Rattle.std.proofs.Common.{◌++◌, List, ap, ap₂, ◌∙◌}
 use Rattle.hw_names.specs.Name.{Text}
 use Rattle.fil_check.specs.inside.Reached.{port_names}
 use Rattle.fil_check.proofs.DependLemmas.{tree_names}

@@ -1,12 +1,10 @@
-use Rattle.std.proofs.Common.{◌≤◌, List, Some, flat_map, length, option_map, slice_get, ap, subst, ◌∙◌, arith}
+use Rattle.std.proofs.Common.{◌≤◌, List, flat_map, length, option_map, ap, subst, ◌∙◌, arith}
 use Rattle.std.proofs.lemmas.List.{length-map, take_all}
 use Rattle.std.proofs.lemmas.Option.{slice_get-map}
-use Rattle.hw_names.specs.Name.{Text}
 use Rattle.fil_ast.specs.Scope.{instances_at}
-use Rattle.fil_ast.specs.Tree.{Component, Statement, component_tree, statement_tree}
+use Rattle.fil_ast.specs.Tree.{Statement, component_tree, statement_tree}
 use Rattle.fil_check.proofs.EachLemmas.{item_at}
-use Rattle.fil_check.proofs.GivenLemmas.{mapped_at}
-use Rattle.fil_check.proofs.PartLemmas.{HaveParts, statement_makes, statement_makes_none}
+use Rattle.fil_check.proofs.PartLemmas.{HaveParts, part_told, statement_makes, statement_makes_none}
 use Rattle.fil_check.proofs.loops.levels.parts_of.Goals.{in-Some+in_ok-push, in_default}
 use Rattle.fil_check.proofs.loops.levels.parts_of.Goals as goal
 
@@ -24,8 +22,7 @@ loop-stmt-preserved c comps place =
           rw (w.parts-is, w.in_ok-push.ensures.items)
           (let makes = w.in-Some.ensures.some in
           statement_makes comps tree.body k s makes.0 c.loop-stmt.parts.items w.number_of.result at makes.1
-          (λ n made there named.
-          w.number_of.ensures n (ap (λ (l : List Text). slice_get l n) place.shows.components.names ∙ mapped_at (λ (x : Component). x.name) comps n made there ∙ ap Some (named ∙ makes.2)))
+          (part_told comps c.args.place.now.earlier.now.names place.shows.components.names makes.0 _ makes.2 w.number_of.result w.number_of.ensures)
           (c.loop-stmt.invariant comps place))
       | in_default w ↦ rw w.parts-is (statement_makes_none comps tree.body k s c.loop-stmt.parts.items at w.in_default.ensures.none (c.loop-stmt.invariant comps place))
     ]

@@ -1,4 +1,4 @@
-use Rattle.std.proofs.Common.{◌++◌, ◌∷◌, [], Some, Contains, sym, ap, subst, ◌∙◌}
+use Rattle.std.proofs.Common.{◌<◌, ◌^◌, ◌++◌, ◌∷◌, [], List, Some, Contains, length, sym, ap, subst, ◌∙◌}
 use Rattle.std.proofs.lemmas.Result.{IfOk-weaker, on_ok_weaker}
 use Rattle.hw_names.specs.Name.{Text}
 use Rattle.fil_check.specs.inside.Ports.{PortList}
@@ -7,7 +7,7 @@ use Rattle.fil_check.proofs.loops.ports.Ports.named.Goals.{After-place_of}
 use Rattle.fil_check.proofs.loops.ports.Ports.named.Goals as goal
 
 pub invariant_of-self : goal.invariant_of-self
-invariant_of-self c = (all_fit_kept c.self.inside.texts.all c.named_key.new.texts.all c.named_key.ensures.kept c.self.inside.set.keys c.self.invariant.0, c.self.invariant.1, c.self.invariant.2)
+invariant_of-self c = (all_fit_kept c.self.inside.texts.all c.named_key.new.texts.all c.named_key.ensures.kept c.self.inside.set.keys c.self.invariant.0, c.self.invariant.1, c.self.invariant.2, subst (λ (l : List Text). length l < 2 ^ 32) (sym c.named_key.ensures.names) c.self.invariant.3)
 
 pub returns-in_err-key-clause-kept : goal.returns-in_err-key-clause-kept
 returns-in_err-key-clause-kept c =
@@ -20,6 +20,7 @@ invariant_of-self-2 c =
           r.place_of.ensures.grown r.in_ok-key.ensures.fit,
       r.place_of.ensures.different r.self.invariant.1,
       r.place_of.ensures.small r.self.invariant.2,
+      subst (λ (l : List Text). length l < 2 ^ 32) (sym r.named_key.ensures.names) r.self.invariant.3,
     )
 
 pub returns-clause-number : goal.returns-clause-number

@@ -1,6 +1,7 @@
-use Rattle.std.proofs.Common.{Some, length, slice_get, ap, ◌∙◌, arith}
+use Rattle.std.proofs.Common.{◌<◌, ◌^◌, List, Some, length, slice_get, sym, ap, subst, ◌∙◌, arith}
 use Rattle.std.proofs.lemmas.Option.{slice_get_within}
 use Rattle.std.proofs.lemmas.Result.{IfOk-weaker}
+use Rattle.hw_names.specs.Name.{Text}
 use Rattle.fil_check.specs.inside.Ports.{PortList}
 use Rattle.fil_check.proofs.PortNumberLemmas.{all_fit_kept, fit_grown, same_kept, seen_at, seen_kept}
 use Rattle.fil_check.proofs.loops.ports.Ports.port.Goals.{After-place_of}
@@ -10,7 +11,7 @@ pub instance_key-requires : goal.instance_key-requires
 instance_key-requires c = omega (arith, c.requires, ap (λ (v : PortList). length v.instances) c.self.view_is)
 
 pub invariant_of-self : goal.invariant_of-self
-invariant_of-self c = (all_fit_kept c.self.inside.texts.all c.instance_key.new.texts.all c.instance_key.ensures.kept c.self.inside.set.keys c.self.invariant.0, c.self.invariant.1, c.self.invariant.2)
+invariant_of-self c = (all_fit_kept c.self.inside.texts.all c.instance_key.new.texts.all c.instance_key.ensures.kept c.self.inside.set.keys c.self.invariant.0, c.self.invariant.1, c.self.invariant.2, subst (λ (l : List Text). length l < 2 ^ 32) (sym c.instance_key.ensures.names) c.self.invariant.3)
 
 pub returns-in_err-key-clause-kept : goal.returns-in_err-key-clause-kept
 returns-in_err-key-clause-kept c =
@@ -23,6 +24,7 @@ invariant_of-self-2 c =
           r.place_of.ensures.grown r.in_ok-key.ensures.fit,
       r.place_of.ensures.different r.self.invariant.1,
       r.place_of.ensures.small r.self.invariant.2,
+      subst (λ (l : List Text). length l < 2 ^ 32) (sym r.instance_key.ensures.names) r.self.invariant.3,
     )
 
 pub returns-clause-number : goal.returns-clause-number

@@ -1,0 +1,11 @@
+use Rattle.std.proofs.Common.{◌≡◌, Some, slice_get, take}
+use Rattle.hw_names.specs.Name.{Text}
+use Rattle.fil_check.proofs.CellPinLemmas.{HasBoth}
+use Rattle.fil_check.proofs.loops.cells.cell_of.Given as goal
+
+-- the pins of the nodes so far
+abbrev pub invariant-loop-node : goal.invariant-loop-node
+invariant-loop-node l = record {
+  reads : l.cell.reads.now ≡ l.inside.reads;
+  both : (inst : Text) → slice_get l.ports.instances l.instance ≡ Some inst → HasBoth l.inside l.ports inst (take l.node-index l.nodes) l.cell.outputs.items l.cell.inputs.items;
+}
