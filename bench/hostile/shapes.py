@@ -376,6 +376,16 @@ def fil_long_names(count):
     return fil(lead + f"comp main<G: 1>() -> () {{ {'x' * len(lead)} := new Lead; }}\n")
 
 
+def fil_long_name_loop(count):
+    """An instance of a component with so many ports, whose name is as long as that component's text, beside a loop."""
+    ins, outs = (", ".join(f"@[G, G+1] {side}{i}: 1" for i in range(count)) for side in "ao")
+    lead = f"comp Lead<G: 1>(@interface[G] go: 1, {ins}) -> ({outs}) {{\n" + "".join(f"o{i} = a{i};\n" for i in range(count)) + "}\n"
+    name = "x" * len(lead)
+    use = f"M := new Not[1]; N := new Not[1]; n := N<G>(a); m := M<G>(n.out); later := M<G+1>(a); back := N<G+1>(later.out); "
+    use += f"{name} := new Lead; l := {name}<G>({', '.join(['a'] * count)});"
+    return fil(f"{lead}comp main<G: 2>(@interface[G] go: 1, @[G, G+2] a: 1) -> () {{ {use} }}\n")
+
+
 def many_cells(count):
     """So many cells of a component with as many outputs, which depend on nothing."""
     outs = ", ".join(f"o{i}: 1" for i in range(count))

@@ -126,14 +126,15 @@ TABLE = [
     Row(shapes.enables, 300_000, "check f.futil", accepted),
     Row(shapes.enables, 500_000, "net f.futil", done, makes=True),
     Row(shapes.cal_reach, 8_000, "check f.futil", accepted),
+    Row(shapes.cal_reach_loop, 8_000, "check f.futil", ends("refused C12 main item 0 loop x.a0 x.o7999")),
     Row(shapes.cal_reach_cells, 400, "check f.futil", accepted),
     Row(shapes.fil_reach, 8_000, "check f.fil", accepted),
+    Row(shapes.fil_reach_loop, 8_000, "check f.fil", ends("refused F14 main item 0 loop N.in W.o7999 W.a0 N.out")),
 ]
 
 # What the program does not keep, as is known.
 KNOWN = [
-    Row(shapes.cal_reach_loop, 8_000, "check f.futil", ends("refused C12 main item 0 loop x.a0 x.o7999")),
-    Row(shapes.fil_reach_loop, 8_000, "check f.fil", ends("refused F14 main item 0 loop N.in W.o7999 W.a0 N.out")),
+    Row(shapes.fil_long_name_loop, 4_000, "check f.fil", ends("refused F14 main item 0 loop M.in N.out N.in M.out")),
 ]
 
 
