@@ -5,7 +5,6 @@ pub mod CellPinLemmas
 pub mod CellPortLemmas
 pub mod ComponentLemmas
 pub mod DependLemmas
-pub mod DotLemmas
 pub mod DrivenLemmas
 pub mod EachLemmas
 pub mod EntryLemmas
@@ -38,6 +37,7 @@ pub mod NodeLemmas
 pub mod NumberLemmas
 pub mod NumeralLemmas
 pub mod OrderLemmas
+pub mod OrderedLemmas
 pub mod PartsLemmas
 pub mod PinLemmas
 pub mod PinNameLemmas
@@ -45,11 +45,9 @@ pub mod PinOfLemmas
 pub mod PlaceLemmas
 pub mod PortLemmas
 pub mod PrimitiveLemmas
-pub mod RankLemmas
 pub mod ReadLemmas
 pub mod RowLemmas
 pub mod SaidLemmas
-pub mod ShortNameLemmas
 pub mod SideLemmas
 pub mod SignatureLemmas
 pub mod SourceLemmas

@@ -21,7 +21,7 @@ use Rattle.cal_ast.specs.Tree.{PortName, Component, Design}
 use Rattle.cal_ast.specs.Wires.{ReadsPort, Reaches, AtOnce, Over, ReadsAlong, HasNoLoop, IsLeastLoop, shown}
 use Rattle.cal_check.specs.inside.Cells.{Directly, IsLoopAt, IsNodeAt, LeadsAsRead, NodeReaches, ReadsAt, Through}
 use Rattle.cal_check.specs.inside.Nodes.{Node, APort, AHole, IsKey, key_of, node_ports}
-use Rattle.cal_check.specs.inside.ShortNames.{TellNodes}
+use Rattle.cal_check.specs.inside.Ordered.{TellNodes}
 use Rattle.cal_check.specs.inside.WireGraphs.{NodeReads}
 use Rattle.cal_check.proofs.KeyLemmas.{same_node}
 use Rattle.cal_check.proofs.NodeLemmas.{NodesAlong, along_reaches, no_holes, port_reads, ports_along, ports_among, reads_through, through_nodes}

@@ -7,10 +7,9 @@ pub mod Groups
 pub mod Least
 pub mod Levels
 pub mod Nodes
-pub mod Ranks
+pub mod Ordered
 pub mod Read
 pub mod Readings
-pub mod ShortNames
 pub mod Totals
 pub mod Walks
 pub mod WireGraphs

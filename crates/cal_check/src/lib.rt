@@ -17,8 +17,8 @@
 //! first, from those of its parts: where all have them none has a loop, and the design is accepted. Where one has none,
 //! `hw_cells` makes one graph of a component's own text (`wires`) and of its cells' graphs (`cells`), which is what is kept of
 //! it for its holders (`inside`), and `hw_graph` is asked for an order. A port there is known by the numbers of its names
-//! (`ports`). Only where there is a loop are the ports put in the order of their full names (`loops`, by `short_names` and
-//! `ranks`); full names are made of the least loop's ports alone, which is told.
+//! (`ports`). Only where there is a loop are the ports put in the order of their full names (`loops`, by names
+//! of `hw_short`); full names are made of the least loop's ports alone, which is told.
 //!
 //! What the layer above uses is `check_calyx`: it is `Ok` exactly where the design keeps the rules (`CalRules`), and its
 //! refusal is the first rule that is broken (`TellsRefusal`). `cal_weight` and `cal_words` are the weight and the words of
@@ -41,10 +41,8 @@ mod nesting;
 mod pin_name;
 mod place;
 mod ports;
-mod ranks;
 mod reads;
 mod rule;
-mod short_names;
 mod sides;
 mod signature;
 mod tables;

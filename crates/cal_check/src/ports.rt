@@ -2,18 +2,18 @@
 //!
 //! A port is known by the number of its cell's name and that of its own, so the length of a name is paid for once, and not
 //! at each port. Its key, which has its full name, is made only where it is told.
-ghost use Rattle.std.specs.Prelude.{◌≡◌, ◌⊎◌, ◌↔◌, ◌<◌, ◌^◌, ℕ, List, [], ◌∷◌, ◌++◌, Some, Contains, length, option_map, slice_get, slice_index_or, IfOk, IfSome, IsSome, OnOk};
+ghost use Rattle.std.specs.Prelude.{◌≡◌, ◌⊎◌, ◌↔◌, ◌<◌, ◌^◌, ℕ, List, [], ◌∷◌, ◌++◌, Some, Contains, length, map, option_map, slice_get, slice_index_or, IfOk, IfSome, IsSome, OnOk};
 ghost use Rattle.hw_names.specs.Name.{AreDistinct, Text};
 ghost use Rattle.hw_names.specs.declared.names.NameId.{NameId};
 ghost use Rattle.cal_check.specs.inside.Nodes.{AHole, APort, AreNumbers, AreDifferent, IsFit, PortList, key_of, node_in, port_by};
-ghost use Rattle.cal_check.specs.inside.ShortNames.{TellNodes};
+ghost use Rattle.cal_check.specs.inside.Ordered.{TellNodes, full_name_in};
 ghost use Rattle.cal_ast.specs.Tree.{port_of};
 
 use crate::keys::{PortText, hole_key, port_key};
 use crate::pin_name::{PinName, find_pin, number_of};
-use crate::short_names::short_names;
 use hw_bits::Memory;
 use hw_names::{NameId, Names};
+use hw_short::{FullName, short_names};
 use hw_texts::Texts;
 use indexmap::IndexSet;
 use std::alloc::Global;
@@ -81,6 +81,31 @@ fn place_of(set: &mut IndexSet<NodeKey>, key: NodeKey) -> Result<usize, Memory>
     }
     let (place, _) = set.insert_full(key)?;
     Ok(place)
+}
+
+/// The full name of a key, by the numbers of texts; a hole has none.
+fn full_name(key: NodeKey) -> FullName
+    ensures { result ≡ full_name_in key }
+{
+    match key {
+        NodeKey::Own(pin) => FullName::Own(pin),
+        NodeKey::OfCell { cell, pin } => FullName::Dotted {
+            owner: cell,
+            name: pin,
+        },
+        NodeKey::Hole(_) => FullName::Nameless,
+    }
+}
+
+/// The full names of keys, by the numbers of texts.
+fn full_names(alloc: Global, keys: &[NodeKey]) -> Result<Vec<FullName>, Memory>
+    ensures { IfOk result (λ full. full.items ≡ map full_name_in keys.now) }
+{
+    let mut full = Vec::new(alloc);
+    for key in keys {
+        full.push(full_name(*key))?;
+    }
+    Ok(full)
 }
 
 impl<'a> Ports<'a> {
@@ -184,7 +209,8 @@ impl<'a> Ports<'a> {
     pub fn names_in_order(&self) -> Result<Names, Memory>
         ensures { IfOk result (TellNodes self.now.keys) }
     {
-        match short_names(self.alloc, &self.texts, self.set.as_slice())? {
+        let full = full_names(self.alloc, self.set.as_slice())?;
+        match short_names(self.alloc, &self.texts, &full)? {
             Some(names) => Ok(names),
             None => self.keys(),
         }

@@ -1,6 +1,0 @@
-use Rattle.cal_check.proofs.ShortNameLemmas.{AreNamedTo}
-use Rattle.cal_check.proofs.short_names.names_by.Given as goal
-
--- the names so far
-abbrev pub invariant-loop-number : goal.invariant-loop-number
-invariant-loop-number l = AreNamedTo l.ranks l.places l.number l.names

@@ -1,0 +1,4 @@
+pub mod DotLemmas
+pub mod NumeralLemmas
+pub mod RankLemmas
+pub mod ShortNameLemmas
