@@ -1,18 +1,19 @@
 -- The ports of instances of components, as a graph has them: whose they are by their full names, and their nodes inside.
-use Rattle.std.proofs.Common.{◌≡◌, ◌↔◌, ◌⊎◌, inl, inr, ℕ, ◌+◌, ◌<◌, ◌≤◌, Bool, true, false, List, [], ◌∷◌, ◌++◌, Some, None, length, filter, take, drop, get_or, slice_get, All, Contains, refl, sym, ap, ap₂, subst, ◌∙◌, arith}
+use Rattle.std.proofs.Common.{◌≡◌, ◌↔◌, ◌⊎◌, inl, inr, ℕ, ◌+◌, ◌-◌, ◌<◌, ◌≤◌, Bool, true, false, List, [], ◌∷◌, ◌++◌, Some, None, length, filter, take, drop, get_or, slice_get, All, Contains, refl, sym, ap, ap₂, subst, ◌∙◌, arith}
 use Rattle.std.proofs.Math.Seq.{drop-append_seam, take-append_seam}
 use Rattle.std.proofs.lemmas.Bool.{cases_lt}
 use Rattle.std.proofs.lemmas.Bool.Decides.{Decides-eqb}
 use Rattle.std.proofs.lemmas.List.{drop_more, length-append, length-take-le, take-append-drop, take_all, take_more}
-use Rattle.std.proofs.lemmas.List.Elements.{Contains-append_left, Contains-get_or, Contains-push, Contains-push_cases}
+use Rattle.std.proofs.lemmas.List.Elements.{All-contains, Contains-append_left, Contains-get_or, Contains-push, Contains-push_cases}
 use Rattle.std.proofs.lemmas.Option.{none-some, same_Some, slice_get_within}
 use Rattle.hw_cells.specs.declared.cell.Pin.{Pin}
 use Rattle.hw_graph.proofs.MemberLemmas.{contains_of, from_filter, from_map, in_filter, in_map, in_of}
 use Rattle.hw_graph.specs.Groups.{IsGathered, has_key, with_key}
 use Rattle.hw_graph.specs.declared.groups.Entry.{Entry}
 use Rattle.hw_names.proofs.NameLemmas.{Contains-slice_get, same_number}
-use Rattle.hw_names.specs.Name.{AreDistinct, Text, dot, dotted}
+use Rattle.hw_names.specs.Name.{AreDistinct, HasNoDot, Text, dot, dotted}
 use Rattle.fil_check.specs.inside.CellPins.{AddsInstances, AreInstancePorts, ArePins, IsInputPin, IsNamedAfter, IsOutputPin, IsPortOfInstance, TellsPin}
+use Rattle.fil_check.proofs.PortNumberLemmas.{cut_at_first, no_dot_in, rest_of}
 use Rattle.fil_check.specs.inside.Ports.{PortList}
 use Rattle.fil_check.specs.declared.loops.cells.CellPin.{CellPin}
 use Rattle.fil_check.specs.declared.loops.inside.Inside.{Inside}
@@ -38,14 +39,18 @@ module _ (inst port name : Text) (is : name ≡ dotted inst port) where
   pub port_after : drop (length inst + 1) name ≡ port
   port_after = let both = split in cc
 
--- a port of the instance, by the instance's name and its own
-pub port_named : (ports : PortList) (instance node : ℕ) (inst full : Text) → IsPortOfInstance ports instance node → slice_get ports.instances instance ≡ Some inst → slice_get ports.names node ≡ Some full
-    → slice_get ports.names node ≡ Some (dotted inst (drop (length inst + 1) full))
-port_named ports instance node inst full is at_inst at =
-    let same : is.full ≡ full = same_Some is.full full (sym is.at ∙ at) in
-    let own : is.named.inst ≡ inst = same_Some is.named.inst inst (sym is.named.instance_at ∙ at_inst) in
-    let cut : full ≡ dotted inst is.named.port = sym same ∙ is.named.is ∙ ap (λ (t : Text). dotted t is.named.port) own in
-    at ∙ ap Some (cut ∙ ap (dotted inst) (sym (port_after inst is.named.port full cut)))
+module _ (ports : PortList) (node : ℕ) where
+  -- its own name is one
+  pub same_port : (inst port name : Text) → slice_get ports.names node ≡ Some (dotted inst port) → slice_get ports.names node ≡ Some (dotted inst name) → port ≡ name
+  same_port inst port name here at =
+      let same : dotted inst port ≡ dotted inst name = same_Some (dotted inst port) (dotted inst name) (sym here ∙ at) in
+      sym (port_after inst port (dotted inst port) refl) ∙ port_after inst name (dotted inst port) same
+
+  -- and stands behind the instance's name and a dot
+  pub port_cut : (own inst name full : Text) → own ≡ inst → slice_get ports.names node ≡ Some full → slice_get ports.names node ≡ Some (dotted inst name) → take (length full - (length own + 1)) (drop (length own + 1) full) ≡ name
+  port_cut own inst name full same here at =
+      let is : full ≡ dotted inst name = same_Some full (dotted inst name) (sym here ∙ at) in
+      rest_of full (length own + 1) ∙ ap (λ (t : Text). drop (length t + 1) full) same ∙ port_after inst name full is
 
 -- ---- the instances that a full name can be of, dot by dot
 
@@ -143,6 +148,48 @@ module _ (instances : List Text) (name : Text) (node : ℕ) (old : List Entry) w
       | inr r ↦ (adds instance value).1 (inr (r.0, (r.1, omega (arith, instance_shorter r.1.inst r.1.port name r.1.is, all))))
     ],
   )
+
+-- ---- the instance that a full name is of, where no instance's name has a dot
+
+-- a name without a dot is no instance's port
+pub adds_none : (instances : List Text) (name : Text) (node : ℕ) (old : List Entry) → HasNoDot name → AddsInstances instances name node old old
+adds_none instances name node old plain instance value = (
+  λ has. inl has,
+  λ e. elim e [
+    | inl before ↦ before
+    | inr r ↦ absurd (no_dot_in name r.1.inst r.1.port plain r.1.is)
+  ],
+)
+
+module _ (instances : List Text) (dotless : All HasNoDot instances) (distinct : AreDistinct instances) (found : ℕ) (inst port : Text) (at : slice_get instances found ≡ Some inst) where
+  dotless_name : (i : ℕ) (text : Text) → slice_get instances i ≡ Some text → HasNoDot text
+  dotless_name i text there = All-contains HasNoDot instances text dotless (Contains-slice_get instances i text there)
+
+  -- a port is one of one instance
+  pub adds_one : (name : Text) (node : ℕ) (old : List Entry) → name ≡ dotted inst port → AddsInstances instances name node old (old ++ (record { key = found; value = node }) ∷ [])
+  adds_one name node old is instance value = (to, from)
+    where
+      make : ℕ → ℕ → Entry
+      make k v = record { key = k; value = v }
+
+      own : IsNamedAfter instances name found
+      own = record { inst = inst; port = port; instance_at = at; is = is }
+
+      to : Contains (old ++ make found node ∷ []) (make instance value) → Contains old (make instance value) ⊎ ((value ≡ node) × IsNamedAfter instances name instance)
+      to has =
+          elim (Contains-push_cases old (make found node) (make instance value) has) [
+            | inl before ↦ inl before
+            | inr e ↦ inr (sym (ap (λ (x : Entry). x.value) e), subst (IsNamedAfter instances name) (ap (λ (x : Entry). x.key) e) own)
+          ]
+
+      same : (named : IsNamedAfter instances name instance) → found ≡ instance
+      same named =
+          let texts : inst ≡ named.inst = cut_at_first inst named.inst port named.port (dotless_name found inst at) (dotless_name instance named.inst named.instance_at) (sym is ∙ named.is) in
+          same_number instances found instance inst distinct at (named.instance_at ∙ ap Some (sym texts))
+
+      from : Contains old (make instance value) ⊎ ((value ≡ node) × IsNamedAfter instances name instance) → Contains (old ++ make found node ∷ []) (make instance value)
+      from (inl before) = Contains-append_left old (make found node ∷ []) (make instance value) before
+      from (inr r) = subst (Contains (old ++ make found node ∷ [])) (ap₂ make (same r.1) (sym r.0)) (Contains-push old (make found node))
 
 -- ---- the ports of instances, by the numbers of the instances
 

@@ -47,6 +47,7 @@ pub mod ListedLemmas
 pub mod SpanStartLemmas
 pub mod AddedLemmas
 pub mod PortNumberLemmas
+pub mod OrderLemmas
 pub mod InstanceNumberLemmas
 pub mod CellPinLemmas
 pub mod CellLemmas

@@ -49,7 +49,7 @@ different_kept keys new k is different = by (list_any (eq-value.it k) keys) refl
 abbrev IsNoDot : ℕ → Type 0
 IsNoDot byte = byte ≢ dot
 
-no_dot_in : (a b x : Text) → HasNoDot a → a ≡ dotted b x → ⊥
+pub no_dot_in : (a b x : Text) → HasNoDot a → a ≡ dotted b x → ⊥
 no_dot_in [] [] x plain e = cc
 no_dot_in [] (c ∷ b) x plain e = cc
 no_dot_in (c ∷ a) [] x plain e = let bad : c ≡ dot = cc in All-head IsNoDot c a plain bad
@@ -66,6 +66,15 @@ cut_at_last (c ∷ a) (d ∷ b) x y p q e =
     let tails : dotted a x ≡ dotted b y = cc in
     let rest = cut_at_last a b x y p q tails in
     (ap₂ ◌∷◌ heads rest.0, rest.1)
+
+pub cut_at_first : (a b x y : Text) → HasNoDot a → HasNoDot b → dotted a x ≡ dotted b y → a ≡ b
+cut_at_first [] [] x y p q e = refl
+cut_at_first [] (d ∷ b) x y p q e = let bad : d ≡ dot = cc in absurd (All-head IsNoDot d b q bad)
+cut_at_first (c ∷ a) [] x y p q e = let bad : c ≡ dot = cc in absurd (All-head IsNoDot c a p bad)
+cut_at_first (c ∷ a) (d ∷ b) x y p q e =
+    let heads : c ≡ d = cc in
+    let tails : dotted a x ≡ dotted b y = cc in
+    ap₂ ◌∷◌ heads (cut_at_first a b x y (All-tail IsNoDot c a p) (All-tail IsNoDot d b q) tails)
 
 pub cut_text : (text : Text) (place : ℕ) → drop place text ≡ dot ∷ drop (place + 1) text → dotted (take place text) (drop (place + 1) text) ≡ text
 cut_text text place e = ap (λ (rest : Text). take place text ++ rest) (sym e) ∙ take-append-drop place text
@@ -142,6 +151,10 @@ module _ (old new : List Text) (keeps : KeepsTexts old new) where
 -- a name without a dot is that of no instance's port
 pub own_key_apart : (texts : List Text) (n : ℕ) (inst name : Text) → IsFit texts (Own n) → full_name_in texts (Own n) ≡ dotted inst name → ⊥
 own_key_apart texts n inst name fit is = no_dot_in (get_or texts n []) inst name fit.dotless is
+
+-- nor has it one
+pub own_key_dotless : (texts : List Text) (n : ℕ) (name : Text) → IsFit texts (Own n) → full_name_in texts (Own n) ≡ name → HasNoDot name
+own_key_dotless texts n name fit is = subst HasNoDot is fit.dotless
 
 -- names that keep their numbers among distinct texts are distinct
 pub distinct_before : (names texts : List Text) → KeepsTexts names texts → AreDistinct texts → AreDistinct names
@@ -231,3 +244,6 @@ next_absent names i name distinct at has =
 
 pub next_name : (names : List Text) (i : ℕ) (name : Text) → slice_get names i ≡ Some name → take i names ++ name ∷ [] ≡ take (i + 1) names
 next_name names i name at = ap (λ (t : Text). take i names ++ t ∷ []) (sym (get_or_from_slice_get names i name name at)) ∙ sym (take_more names i name (slice_get_within names i name at))
+
+pub dotless_next : (names : List Text) (i : ℕ) (name : Text) → slice_get names i ≡ Some name → HasNoDot name → All HasNoDot (take i names) → All HasNoDot (take (i + 1) names)
+dotless_next names i name at plain all = subst (All HasNoDot) (next_name names i name at) (All-push HasNoDot (take i names) name all plain)

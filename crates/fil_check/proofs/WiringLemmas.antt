@@ -24,6 +24,7 @@ use Rattle.fil_check.proofs.GivenLemmas.{mapped_at}
 use Rattle.fil_check.proofs.NeededLemmas.{at_left, at_right}
 use Rattle.fil_check.proofs.PortNumberLemmas.{next_absent}
 use Rattle.fil_check.specs.inside.Cells.{IsLoopAt, LeadsAsRead, ReadsAt}
+use Rattle.fil_check.specs.inside.Ports.{TellNames}
 use Rattle.fil_check.specs.inside.Reached.{AreNumbered, input_names, output_names, own_port_names}
 use Rattle.fil_check.specs.inside.Wiring.{HaveNodes, IsInside}
 use Rattle.fil_check.specs.declared.loops.inside.Inside.{Inside}
@@ -154,19 +155,25 @@ module _ (earlier : Design) (c : Component) (names : List Text) (reads : List (L
         range : (a : ℕ) → a < length (i ∷ ks) → get_or (i ∷ ks) a 0 < length names
         range = loop_within (i ∷ ks) loop
 
-    pub told_loop : (words : List Text) (numbers : List ℕ) → words ≡ map name (filter (is_below (length names)) numbers) → IsLeastCycleAmong reads names numbers
+    pub told_loop : (short : List Text) → TellNames names short → (words : List Text) (numbers : List ℕ) → words ≡ map name (filter (is_below (length names)) numbers) → IsLeastCycleAmong reads short numbers
         → (first : Text) × (others : List Text) × (words ≡ first ∷ others) × IsLeastLoop earlier c first others
-    told_loop words [] are least = absurd (omega (arith, least.is_cycle.some))
-    told_loop words (i ∷ rest) are least = (name i, map name ks, are ∙ ap (map name) starts, least_loop i ks loop least.least)
+    told_loop short tell words [] are least = absurd (omega (arith, least.is_cycle.some))
+    told_loop short tell words (i ∷ rest) are least = (name i, map name ks, are ∙ ap (map name) starts, least_loop i ks loop least_of)
       where
+        within : i < length names
+        within = omega (arith, least.named, tell.sized)
+
         ks : List ℕ
         ks = filter (is_below (length names)) rest
 
         starts : filter (is_below (length names)) (i ∷ rest) ≡ i ∷ ks
-        starts = kept (length names) i rest least.named
+        starts = kept (length names) i rest within
 
         loop : IsLoopAt earlier c names (i ∷ ks)
-        loop = subst (IsLoopAt earlier c names) starts (is.loops (i ∷ rest) least.is_cycle least.named)
+        loop = subst (IsLoopAt earlier c names) starts (is.loops (i ∷ rest) least.is_cycle within)
+
+        least_of : IsLeastOf i
+        least_of m less round = tell.each i m within less (least.least m (omega (arith, less, tell.sized)) round)
 
   -- ---- what the outputs reach
 

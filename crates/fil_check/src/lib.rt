@@ -23,7 +23,7 @@
 //! A statement is judged in `statement`, a signature in `signature`, by the modules of the rules: `naming` F1 and F2, `typing`
 //! F3 to F5, `timeline` F6 to F8 and F10, `connections` F9, `sharing` F11 to F13, `loops` F14. A `Place` has what travels with
 //! an item; `tables` has what names mean there, `meaning` looks it up, and `grow` takes it from statement to statement. In the
-//! graph of F14 a port is known by the numbers of its names (`loops::ports`); full names are made only where no levels are found.
+//! graph of F14 a port is known by the numbers of its names (`loops::ports`); full names are made only of the loop that is told.
 //!
 //! F14 is judged by levels first (`loops::levels`): a number for each port of a component, above those of all that it reads, which
 //! is all that is kept of it for its holders. Only where a component has none, since ports go in a loop or since a holder needs

@@ -225,7 +225,7 @@ fn least_loop(alloc: Global, ports: &Ports, reads: &Groups) -> Result<Option<Vec
     told_loop(alloc, ports, reads)
 }
 
-/// The least loop, where there may be one. All full names are put into a list only here.
+/// The least loop, where there may be one. Full names are made only of its ports.
 fn told_loop(alloc: Global, ports: &Ports, reads: &Groups) -> Result<Option<Vec<Word>>, Memory>
     requires distinct { AreDistinct ports.now.names }
     requires in_range { AreInRange reads.now }
@@ -233,22 +233,23 @@ fn told_loop(alloc: Global, ports: &Ports, reads: &Groups) -> Result<Option<Vec<
     requires room { length reads.now < 2 ^ 32 }
     ensures { (comps : Design) (c : Component) → LeadsAsRead comps c ports.now.names reads.now → IfOk result (TellsLeastLoop comps c) }
 {
-    let names = ports.full_names()?;
+    let names = ports.names_in_order()?;
     match least_loop_among(alloc, reads, &names)? {
-        Some(nodes) => Ok(Some(full_names(alloc, &names, &nodes)?)),
+        Some(nodes) => Ok(Some(full_names(alloc, ports, &nodes)?)),
         None => Ok(None),
     }
 }
 
 /// The full names of those of the nodes that are ports; the nodes of instances' graphs have none.
-fn full_names(alloc: Global, names: &Names, nodes: &[usize]) -> Result<Vec<Word>, Memory>
-    requires small { length names.now < 2 ^ 32 }
-    ensures { IfOk result (λ words. words.items ≡ map (λ port. slice_index_or names.now port []) (filter (is_below (length names.now)) nodes.now)) }
+fn full_names(alloc: Global, ports: &Ports, nodes: &[usize]) -> Result<Vec<Word>, Memory>
+    ensures { IfOk result (λ words. words.items
+        ≡ map (λ port. slice_index_or ports.now.names port []) (filter (is_below (length ports.now.names)) nodes.now)) }
 {
     let mut words = Vec::new(alloc);
     for node in nodes {
-        if *node < names.len() {
-            words.push(Word::make(alloc, names.text(NameId(*node as u32)))?)?;
+        if *node < ports.len() {
+            let name = ports.full_name(*node)?;
+            words.push(Word::make(alloc, &name)?)?;
         }
     }
     Ok(words)

@@ -1,6 +1,9 @@
 -- The ports of a component and of its instances, by the numbers of texts, and their full names. This project's.
-use Rattle.std.specs.Prelude.{◌≢◌, ℕ, ◌<◌, List, [], length, slice_index_or, AllPairs}
+use Rattle.std.specs.Prelude.{◌≡◌, ◌≢◌, ℕ, ◌<◌, List, [], length, slice_index_or, AllPairs}
+use Rattle.hw_graph.specs.ByName.{IsAtMost}
 use Rattle.hw_names.specs.Name.{Text, HasNoDot, dotted}
+use Rattle.hw_short.specs.declared.full_name.FullName.{FullName}
+use Rattle.hw_short.specs.declared.full_name.FullName.TheVariants as full
 use Rattle.fil_check.specs.declared.loops.ports.PortKey.{PortKey}
 use Rattle.fil_check.specs.declared.loops.ports.PortKey.TheVariants.{Own, OfInstance}
 
@@ -26,3 +29,13 @@ IsFit texts (OfInstance instance port) = (instance < length texts) × IsDotless 
 
 abbrev pub AreDifferent : List PortKey → Type 0
 AreDifferent keys = AllPairs (λ a b. a ≢ b) keys
+
+-- the same by numbers alone
+abbrev pub full_of : PortKey → FullName
+full_of (Own port) = full.Own port
+full_of (OfInstance instance port) = full.Dotted instance port
+
+-- the order of the names, by the numbers of ports, tells the order of the full names by bytes
+pub record TellNames (full_names names : List Text) : Type 0 where
+  pub sized : length names ≡ length full_names
+  pub each : (i j : ℕ) → i < length full_names → j < length full_names → IsAtMost names i j → IsAtMost full_names i j

@@ -3,8 +3,8 @@
 //! Only ports that the component's text names are in its graph. A port of an instance that is not named reads nothing or is read
 //! by nothing, so it lies on no way between the component's own ports, and on no loop; and an instance costs nothing unless it is
 //! named. Where the name of an instance has a dot, a full name can be that of ports of two instances, so all of its ports are in.
-ghost use Rattle.std.specs.Prelude.{◌≡◌, ◌↔◌, ◌<◌, Some, length, option_map, slice_get, All, Contains, IfOk, OnOk};
-ghost use Rattle.hw_names.specs.Name.{AreDistinct, Text, dotted};
+ghost use Rattle.std.specs.Prelude.{◌≡◌, ◌↔◌, ◌<◌, Some, length, option_map, slice_get, All, Contains, IfOk, IsTrue, OnOk};
+ghost use Rattle.hw_names.specs.Name.{AreDistinct, HasNoDot, Text, dotted};
 ghost use Rattle.fil_check.specs.inside.CellPins.{AddsInstances, AreInstancePorts, HasPins, IsPortOfInstance, TellsPin};
 ghost use Rattle.fil_check.specs.inside.Cells.{AreCells, IsInsideAt, NumbersDotted};
 ghost use Rattle.fil_check.specs.inside.PortGraph.{Adds, NoPair};
@@ -43,8 +43,56 @@ fn add_instances(
     Ok(())
 }
 
-/// For each instance the nodes of its ports.
-fn instance_ports(alloc: Global, ports: &Ports) -> Result<Vec<Entry>, Memory>
+/// Whether no instance's name has a dot.
+fn are_dotless(ports: &Ports) -> bool
+    ensures { IsTrue result → All HasNoDot ports.now.instances }
+{
+    for instance in 0..ports.instances() {
+        if ports.instance_name(instance).contains(&b'.') {
+            return false;
+        }
+    }
+    true
+}
+
+/// Adds for the instance whose port the node is its number, with the node, where no instance's name has a dot. A full name is
+/// made only where what stands before its last dot is no instance's name.
+fn add_by_key(entries: &mut Vec<Entry>, ports: &Ports, node: usize) -> Result<(), Memory>
+    requires within { node < length ports.now.names }
+    requires distinct { AreDistinct ports.now.instances }
+    requires dotless { All HasNoDot ports.now.instances }
+    ensures { (full : Text) → slice_get ports.now.names node ≡ Some full
+        → OnOk result (AddsInstances ports.now.instances full node entries.old.items entries.new.items) }
+{
+    let Some((instance, _port)) = ports.of_instance(node) else {
+        return Ok(());
+    };
+    if instance < ports.instances() {
+        entries.push(Entry {
+            key: instance,
+            value: node,
+        })?;
+        return Ok(());
+    }
+    let name = ports.full_name(node)?;
+    add_instances(entries, ports, &name, node)
+}
+
+/// For each instance the nodes of its ports, where no instance's name has a dot.
+fn ports_by_keys(alloc: Global, ports: &Ports) -> Result<Vec<Entry>, Memory>
+    requires distinct { AreDistinct ports.now.instances }
+    requires dotless { All HasNoDot ports.now.instances }
+    ensures { IfOk result (λ entries. AreInstancePorts ports.now entries.items) }
+{
+    let mut entries = Vec::new(alloc);
+    for node in 0..ports.len() {
+        add_by_key(&mut entries, ports, node)?;
+    }
+    Ok(entries)
+}
+
+/// For each instance the nodes of its ports, by the full names of all.
+fn ports_by_names(alloc: Global, ports: &Ports) -> Result<Vec<Entry>, Memory>
     requires { AreDistinct ports.now.instances }
     ensures { IfOk result (λ entries. AreInstancePorts ports.now entries.items) }
 {
@@ -54,6 +102,17 @@ fn instance_ports(alloc: Global, ports: &Ports) -> Result<Vec<Entry>, Memory>
         add_instances(&mut entries, ports, &name, node)?;
     }
     Ok(entries)
+}
+
+/// For each instance the nodes of its ports.
+fn instance_ports(alloc: Global, ports: &Ports) -> Result<Vec<Entry>, Memory>
+    requires { AreDistinct ports.now.instances }
+    ensures { IfOk result (λ entries. AreInstancePorts ports.now entries.items) }
+{
+    if are_dotless(ports) {
+        return ports_by_keys(alloc, ports);
+    }
+    ports_by_names(alloc, ports)
 }
 
 /// What is known of the component that the instance of this number is made of, if it is made of one.
@@ -119,6 +178,30 @@ fn cell_pin(inside: &Inside, name: &[u8], port: usize) -> Option<CellPin>
     })
 }
 
+/// The port of the instance at this node, with its node in the graph of what the instance is made of. Its full name is made only
+/// where it is cut at another dot than its last one.
+fn pin_at(
+    ports: &Ports,
+    instance: usize,
+    inside: &Inside,
+    node: usize,
+) -> Result<Option<CellPin>, Memory>
+    requires instance { instance < length ports.now.instances }
+    requires node { IsPortOfInstance ports.now instance node }
+    ensures { (inst name : Text) → slice_get ports.now.instances instance ≡ Some inst → slice_get ports.now.names node ≡ Some (dotted inst name)
+        → IfOk result (TellsPin inside.now name node) }
+{
+    if let Some((found, port)) = ports.of_instance(node) {
+        if found == instance {
+            return Ok(cell_pin(inside, port, node));
+        }
+    }
+    // What stands before the port's name in the full name.
+    let before = ports.instance_name(instance).len() + 1;
+    let name = ports.full_name(node)?;
+    Ok(cell_pin(inside, &name[before..], node))
+}
+
 /// The instance of this number as a cell, with those of its ports that are these nodes.
 fn cell_of<'w>(
     alloc: Global,
@@ -131,16 +214,14 @@ fn cell_of<'w>(
     requires nodes { All (IsPortOfInstance ports.now instance) nodes.now }
     ensures { IfOk result (HasPins ports.now instance inside.now nodes.now) }
 {
-    // What stands before the port's name in the full names.
-    let before = ports.instance_name(instance).len() + 1;
     let mut cell = Cell {
         reads: &inside.reads,
         outputs: Vec::new(alloc),
         inputs: Vec::new(alloc),
     };
     for node in nodes {
-        let name = ports.full_name(*node)?;
-        if let Some(found) = cell_pin(inside, &name[before..], *node) {
+        let pin = pin_at(ports, instance, inside, *node)?;
+        if let Some(found) = pin {
             if found.is_input {
                 cell.inputs.push(found.pin)?;
             } else {

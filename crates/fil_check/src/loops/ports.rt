@@ -1,13 +1,14 @@
 //! The ports of a component and of its instances, by numbers.
 //!
 //! A port is known by the number of its instance and that of its own name, so the length of an instance's name is not paid for
-//! at each port. Full names are made only where no levels are found.
-ghost use Rattle.std.specs.Prelude.{◌≡◌, ◌⊎◌, ◌<◌, ◌^◌, ◌+◌, [], ◌∷◌, ◌++◌, ℕ, Some, Contains, drop, length, slice_get, IfNone, IfOk, IfSome, IsSome, OnOk};
+//! at each port. Full names are made only of ports that are told, and where a name has a dot, as none has that was read.
+ghost use Rattle.std.specs.Prelude.{◌≡◌, ◌⊎◌, ◌<◌, ◌^◌, ◌+◌, [], ◌∷◌, ◌++◌, ℕ, Some, Contains, drop, length, map, slice_get, IfNone, IfOk, IfSome, IsSome, OnOk};
 ghost use Rattle.hw_names.specs.Name.{AreDistinct, HasNoDot, KeepsTexts, Text, dot, dotted};
-ghost use Rattle.fil_check.specs.inside.Ports.{AreDifferent, IsFit, PortList, full_name_in};
+ghost use Rattle.fil_check.specs.inside.Ports.{AreDifferent, IsFit, PortList, TellNames, full_name_in, full_of};
 
 use hw_bits::Memory;
 use hw_names::Names;
+use hw_short::{FullName, short_names};
 use hw_texts::Texts;
 use indexmap::IndexSet;
 use std::alloc::Global;
@@ -121,6 +122,30 @@ fn place_of(set: &mut IndexSet<PortKey>, key: PortKey) -> Result<usize, Memory>
     Ok(place)
 }
 
+/// The full name of a port, by the numbers of its texts.
+fn name_of(key: PortKey) -> FullName
+    ensures { result ≡ full_of key }
+{
+    match key {
+        PortKey::Own(name) => FullName::Own(name),
+        PortKey::OfInstance { instance, port } => FullName::Dotted {
+            owner: instance,
+            name: port,
+        },
+    }
+}
+
+/// The full names of ports, by the numbers of their texts.
+fn names_of(alloc: Global, keys: &[PortKey]) -> Result<Vec<FullName>, Memory>
+    ensures { IfOk result (λ full. full.items ≡ map full_of keys.now) }
+{
+    let mut full = Vec::new(alloc);
+    for key in keys {
+        full.push(name_of(*key))?;
+    }
+    Ok(full)
+}
+
 impl<'a> Ports<'a> {
     /// None, of a component with these instances.
     pub fn new(alloc: Global, instances: &'a Names) -> Ports<'a>
@@ -212,12 +237,16 @@ impl<'a> Ports<'a> {
         }
     }
 
-    /// The number of the instance of the port at this place, and the port's own name there; none of a port of no instance.
+    /// The number of what stands before the last dot of the full name at this place, and the text behind it; none where there is no
+    /// dot. The number is that of an instance, or behind those of all.
     pub fn of_instance(&self, place: usize) -> Option<(usize, &[u8])>
         requires { place < length self.now.names }
-        ensures { (instance : ℕ) (inst name : Text) → slice_get self.now.names place ≡ Some (dotted inst name) → HasNoDot name
+        ensures found { (instance : ℕ) (inst name : Text) → slice_get self.now.names place ≡ Some (dotted inst name) → HasNoDot name
             → slice_get self.now.instances instance ≡ Some inst
             → IsSome result × IfSome result (λ found. (found.0 ≡ instance) × (found.1.now ≡ name)) }
+        ensures some { IfSome result (λ found. (inst : Text) → slice_get self.now.instances found.0 ≡ Some inst
+            → slice_get self.now.names place ≡ Some (dotted inst found.1.now)) }
+        ensures none { IfNone result ((name : Text) → slice_get self.now.names place ≡ Some name → HasNoDot name) }
     {
         self.texts.begin_with_names();
         self.texts.are_distinct();
@@ -228,7 +257,7 @@ impl<'a> Ports<'a> {
     }
 
     /// The full names of the ports by number.
-    pub fn full_names(&self) -> Result<Names, Memory>
+    fn full_names(&self) -> Result<Names, Memory>
         ensures { IfOk result (λ names. names ≡ self.now.names) }
     {
         let mut names = self.texts.beside();
@@ -237,5 +266,16 @@ impl<'a> Ports<'a> {
             let _number = names.intern(&name)?;
         }
         Ok(names)
+    }
+    /// Names by number, of which the order is that of the full names. They are short, unless a text has a dot, as none has
+    /// that was read.
+    pub fn names_in_order(&self) -> Result<Names, Memory>
+        ensures { IfOk result (TellNames self.now.names) }
+    {
+        let full = names_of(self.alloc, self.set.as_slice())?;
+        match short_names(self.alloc, &self.texts, &full)? {
+            Some(names) => Ok(names),
+            None => self.full_names(),
+        }
     }
 }

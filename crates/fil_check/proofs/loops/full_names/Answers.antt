@@ -7,7 +7,7 @@ use Rattle.hw_cells.proofs.WayLemmas.{kept, left_out}
 use Rattle.hw_cells.specs.Cells.{is_below}
 use Rattle.hw_names.specs.Name.{Text}
 use Rattle.fil_check.proofs.loops.full_names.Goals as goal
-use Rattle.fil_check.proofs.loops.full_names.Goals.{then-node-len+in_ok-make+in_ok-push, else-node-len}
+use Rattle.fil_check.proofs.loops.full_names.Goals.{then-node-len+in_ok-name+in_ok-make+in_ok-push, else-node-len}
 
 module _ (f : ℕ → Text) (count : ℕ) (nodes : List ℕ) (k : ℕ) (lt : k < length nodes) where
   abbrev before : List ℕ
@@ -27,19 +27,23 @@ module _ (f : ℕ → Text) (count : ℕ) (nodes : List ℕ) (k : ℕ) (lt : k <
   skipped : count ≤ get_or nodes k 0 → map f before ≡ map f (filter (is_below count) (take (k + 1) nodes))
   skipped past = ap (map f) (sym (append-nil before) ∙ ap (λ (l : List ℕ). before ++ l) (sym (left_out count (get_or nodes k 0) [] past)) ∙ more)
 
+pub full_name-requires : goal.full_name-requires
+full_name-requires c = omega (arith, c.if-node-len.true, c.len.ensures.len)
+
 pub loop-node-preserved : goal.loop-node-preserved
 loop-node-preserved c =
-    let names = c.args.names.now in
+    let names = c.args.ports.now.names in
     let nodes = c.args.nodes.now in
     let k = c.loop-node.node-index in
     let i = get_or nodes k 0 in
     let f : ℕ → Text = λ port. get_or names port [] in
     elim c.if-node-len.branch [
-      | then-node-len+in_ok-make+in_ok-push w ↦
+      | then-node-len+in_ok-name+in_ok-make+in_ok-push w ↦
           (let less : i < length names = omega (arith, w.if-node-len.true, c.len.ensures.len) in
+          let name = w.in_ok-name.name.items in
           rw w.words-is (
           w.in_ok-push.ensures.items
-          ∙ ap₂ (λ (ws : List Text) (t : Text). ws ++ t ∷ []) c.loop-node.invariant (w.in_ok-make.ensures ∙ sym (get_or_from_slice_get names i w.text.result.now [] w.text.ensures))
+          ∙ ap₂ (λ (ws : List Text) (t : Text). ws ++ t ∷ []) c.loop-node.invariant (w.in_ok-make.ensures ∙ w.deref.ensures.value ∙ sym (get_or_from_slice_get names i name [] w.in_ok-name.ensures))
           ∙ named f (length names) nodes k c.loop-node-test.true less))
       | else-node-len w ↦
           (let past : length names ≤ i = omega (arith, w.if-node-len.false, c.len.ensures.len) in
@@ -48,6 +52,6 @@ loop-node-preserved c =
 
 pub returns : goal.returns
 returns c =
-    let names = c.args.names.now in
+    let names = c.args.ports.now.names in
     let f : ℕ → Text = λ port. get_or names port [] in
     c.loop-node.invariant ∙ ap (λ (l : List ℕ). map f (filter (is_below (length names)) l)) (take_all c.loop-node.node-index c.args.nodes.now c.loop-node-test.false)

@@ -1,10 +1,11 @@
-use Rattle.std.proofs.Common.{◌≡◌, ◌<◌, ℕ, [], List, Vec, Global, Option, get_or, length, map, sym, ap, subst, arith}
-use Rattle.std.specs.Prelude.{IfNone, IfSome, filter}
-use Rattle.hw_cells.specs.Cells.{is_below}
+use Rattle.std.proofs.Common.{◌<◌, ℕ, List, Vec, Global, Option, length, sym, subst, arith}
+use Rattle.std.specs.Prelude.{IfNone, IfSome}
 use Rattle.hw_graph.specs.Graph.{IsLeastCycleAmong, IsOffCycles}
-use Rattle.hw_names.specs.Name.{Text}
 use Rattle.fil_check.proofs.WiringLemmas.{no_loop_off, told_loop}
 use Rattle.fil_check.proofs.loops.told_loop.Goals as goal
+
+pub least_loop_among-requires-clause-names : goal.least_loop_among-requires-clause-names
+least_loop_among-requires-clause-names c = omega (arith, c.requires.all, c.in_ok-names.ensures.sized)
 
 pub returns-in-Some : goal.returns-in-Some
 returns-in-Some c comps comp is =
@@ -15,9 +16,7 @@ returns-in-Some c comps comp is =
     let words = c.in_ok-full_names-in-Some.field-0.items in
     let some = subst (λ (o : Option (Vec ℕ Global)). IfSome o (λ ports. IsLeastCycleAmong reads names ports.items)) c.in-Some.is c.in_ok-nodes.ensures.some in
     let least = subst (λ (l : List ℕ). IsLeastCycleAmong reads names l) (sym c.deref.ensures.value) some in
-    told_loop comps comp own reads is c.requires.distinct words listed
-    (subst (λ (ns : List Text). words ≡ map (λ (port : ℕ). get_or ns port []) (filter (is_below (length ns)) listed)) c.in_ok-names.ensures c.in_ok-full_names-in-Some.ensures)
-    (subst (λ (ns : List Text). IsLeastCycleAmong reads ns listed) c.in_ok-names.ensures least)
+    told_loop comps comp own reads is c.requires.distinct names c.in_ok-names.ensures words listed c.in_ok-full_names-in-Some.ensures least
 
 pub returns : goal.returns
 returns c comps comp is =
@@ -25,4 +24,4 @@ returns c comps comp is =
     let reads = c.args.reads.now in
     let names = c.in_ok-names.names in
     let none = subst (λ (o : Option (Vec ℕ Global)). IfNone o ((port : ℕ) → port < length names → IsOffCycles reads port)) c.in-None.is c.in_ok-nodes.ensures.none in
-    no_loop_off comps comp own reads is (λ i lt. none i (omega (arith, lt, ap length c.in_ok-names.ensures)))
+    no_loop_off comps comp own reads is (λ i lt. none i (omega (arith, lt, c.in_ok-names.ensures.sized)))

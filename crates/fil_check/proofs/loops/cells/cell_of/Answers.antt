@@ -1,11 +1,13 @@
-use Rattle.std.proofs.Common.{◌≡◌, ◌+◌, Bool, Some, drop, get_or, length, slice_get, sym, ap, subst, ◌∙◌}
-use Rattle.std.proofs.lemmas.Option.{same_Some}
-use Rattle.hw_names.specs.Name.{Text, dotted}
-use Rattle.fil_check.specs.inside.CellPins.{TellsPin}
-use Rattle.fil_check.proofs.CellPinLemmas.{both_all, both_input, both_none, both_of, both_on, both_output, port_named}
-use Rattle.fil_check.proofs.PortNumberLemmas.{rest_of}
+use Rattle.std.proofs.Common.{◌≡◌, Bool, [], Some, get_or, slice_get, sym, ap, subst, ◌∙◌}
+use Rattle.std.proofs.lemmas.Option.{same_Some, slice_get-get_or}
+use Rattle.hw_names.specs.Name.{dotted}
+use Rattle.fil_check.specs.inside.CellPins.{IsPortOfInstance, TellsPin}
+use Rattle.fil_check.proofs.CellPinLemmas.{both_all, both_input, both_none, both_of, both_on, both_output}
 use Rattle.fil_check.proofs.loops.cells.cell_of.Goals.{in-Some+then-found+in_ok-push, in-Some+else-found+in_ok-push-2, in_default}
 use Rattle.fil_check.proofs.loops.cells.cell_of.Goals as goal
+
+pub pin_at-requires-clause-node : goal.pin_at-requires-clause-node
+pin_at-requires-clause-node c = c.requires.nodes c.loop-node.node-index 0 c.loop-node-test.true
 
 pub loop-node-preserved : goal.loop-node-preserved
 loop-node-preserved c =
@@ -18,14 +20,14 @@ loop-node-preserved c =
     let so_far = c.loop-node.invariant in
     let outputs = c.loop-node.cell.outputs.items in
     let inputs = c.loop-node.cell.inputs.items in
-    let own = c.instance_name.result.now in
-    let at_own = c.instance_name.ensures in
+    let is : IsPortOfInstance ports c.args.instance node = c.requires.nodes k 0 less in
+    let own = is.named.inst in
+    let at_own : slice_get ports.instances c.args.instance ≡ Some own = is.named.instance_at in
     let before = so_far.both own at_own in
-    let full = c.deref.result.now in
-    let name = drop (length own + 1) full in
-    let at : slice_get ports.names node ≡ Some (dotted own name) = port_named ports c.args.instance node own full (c.requires.nodes k 0 less) at_own (c.in_ok-name.ensures ∙ ap Some (sym c.deref.ensures.value)) in
-    let told = subst (λ (t : Text). TellsPin inside t node c.cell_pin.result) (rest_of full (length own + 1)) c.cell_pin.ensures in
-    elim c.match-cell_pin.branch [
+    let name = is.named.port in
+    let at : slice_get ports.names node ≡ Some (dotted own name) = is.at ∙ ap Some is.named.is in
+    let told : TellsPin inside name node c.in_ok-pin.pin = c.in_ok-pin.ensures own name at_own at in
+    elim c.match-pin.branch [
       | in-Some+then-found+in_ok-push w ↦
           let pin = w.in-Some.found.pin in
           let found = subst (TellsPin inside name node) w.in-Some.is told in
@@ -54,8 +56,10 @@ loop-node-preserved c =
 
 pub returns : goal.returns
 returns c =
+    let instances = c.args.ports.now.instances in
     let nodes = c.args.nodes.now in
     let cell = c.loop-node.cell in
-    let own = c.instance_name.result.now in
-    let both = both_all c.args.inside.now c.args.ports.now own nodes c.loop-node.node-index cell.outputs.items cell.inputs.items c.loop-node-test.false (c.loop-node.invariant.both own c.instance_name.ensures) in
-    record { inst = own; instance_at = c.instance_name.ensures; reads = c.loop-node.invariant.reads; outputs = both.outputs; inputs = both.inputs }
+    let own = get_or instances c.args.instance [] in
+    let at_own = slice_get-get_or instances c.args.instance [] c.requires.instance in
+    let both = both_all c.args.inside.now c.args.ports.now own nodes c.loop-node.node-index cell.outputs.items cell.inputs.items c.loop-node-test.false (c.loop-node.invariant.both own at_own) in
+    record { inst = own; instance_at = at_own; reads = c.loop-node.invariant.reads; outputs = both.outputs; inputs = both.inputs }

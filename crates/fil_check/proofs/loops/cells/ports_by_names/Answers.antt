@@ -1,6 +1,6 @@
 use Rattle.std.proofs.Common.{Some, sym, ap, ◌∙◌, arith}
 use Rattle.fil_check.proofs.CellPinLemmas.{ports_all, ports_next}
-use Rattle.fil_check.proofs.loops.cells.instance_ports.Goals as goal
+use Rattle.fil_check.proofs.loops.cells.ports_by_names.Goals as goal
 
 pub loop-node-preserved : goal.loop-node-preserved
 loop-node-preserved c =

@@ -1,5 +1,5 @@
 use Rattle.fil_check.proofs.CellPinLemmas.{AreInstancePortsBelow}
-use Rattle.fil_check.proofs.loops.cells.instance_ports.Given as goal
+use Rattle.fil_check.proofs.loops.cells.ports_by_names.Given as goal
 
 -- those of the nodes so far
 abbrev pub invariant-loop-node : goal.invariant-loop-node
