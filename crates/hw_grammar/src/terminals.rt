@@ -21,7 +21,7 @@ fn entry_of<T: Copy>(table: &[(&str, T)], word: &[u8]) -> Option<T>
 {
     let mut rest = table;
     while let [(text, value), others @ ..] = rest {
-        if text.as_bytes() == word {
+        if text.len() == word.len() && text.as_bytes() == word {
             return Some(*value);
         }
         rest = others;
