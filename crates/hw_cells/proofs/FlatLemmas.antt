@@ -57,7 +57,7 @@ pins_room ports nodes first limit pins within room =
 -- ---- entries that are gathered
 
 module _ (entries : List Entry) (count : ℕ) (groups : List (List ℕ)) (gathered : IsGathered entries count groups) where
-  read_entry : (key value : ℕ) → HasRead groups key value → In entries (record { key = key; value = value })
+  pub read_entry : (key value : ℕ) → HasRead groups key value → In entries (record { key = key; value = value })
   read_entry key value has =
       let below : key < count = omega (arith, reader_within groups key value has, gathered.all) in
       let is : get_or groups key [] ≡ with_key key entries = get_or_from_slice_get groups key (with_key key entries) [] (gathered.each key below) in
@@ -71,7 +71,7 @@ module _ (entries : List Entry) (count : ℕ) (groups : List (List ℕ)) (gather
       same_entry : (e : Entry) (k v : ℕ) → e.key ≡ k → e.value ≡ v → e ≡ record { key = k; value = v }
       same_entry e k v p q = let make : ℕ → ℕ → Entry = λ a b. record { key = a; value = b } in ap₂ make p q
 
-  entry_read : (key value : ℕ) → key < count → In entries (record { key = key; value = value }) → HasRead groups key value
+  pub entry_read : (key value : ℕ) → key < count → In entries (record { key = key; value = value }) → HasRead groups key value
   entry_read key value below has =
       let e : Entry = record { key = key; value = value } in
       let is : get_or groups key [] ≡ with_key key entries = get_or_from_slice_get groups key (with_key key entries) [] (gathered.each key below) in

@@ -3,3 +3,4 @@ pub mod LoopLemmas
 pub mod CopyLemmas
 pub mod PairLemmas
 pub mod FlatLemmas
+pub mod CondenseLemmas

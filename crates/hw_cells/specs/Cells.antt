@@ -47,6 +47,16 @@ pub record IsFit (ports : ℕ) (cell : Cell) : Type 0 where
   pub outputs : All (IsPinWithin ports (length cell.reads.now)) cell.outputs.items
   pub inputs : All (IsPinWithin ports (length cell.reads.now)) cell.inputs.items
 
+-- no port is an output of the cell and an input
+abbrev pub HasTwoSides : Cell → Type 0
+HasTwoSides cell = (output input : Pin) → Contains cell.outputs.items output → Contains cell.inputs.items input → output.port ≡ input.port → ⊥
+
+-- a graph of so many ports alone: one reaches another exactly where it reads it through the cell
+pub record IsCondensed (ports : ℕ) (cell : Cell) (reads : List (List ℕ)) : Type 0 where
+  pub all : length reads ≡ ports
+  pub in_range : AreInRange reads
+  pub reaches : (port other : ℕ) → graph.Reaches reads port other ↔ ReadsThrough cell port other
+
 -- whether the number is below the count
 abbrev pub is_below : ℕ → ℕ → Bool
 is_below count number = nat_lt number count

@@ -12,13 +12,19 @@
 //! cell's outputs reads its node, and the node of each input reads the input. Where outputs are few, and the pairs of an output and an input
 //! at most as many as the graph has nodes, no copy is made: a search from each output gives the inputs that it reads, and they are added alone.
 //!
+//! A component that many cells are made of is searched by each of them. So, where that makes its graph smaller, it is given a graph of its
+//! ports alone, once: each output reads the inputs that it reaches (`condense`).
+//!
 //! What the layer above uses: `flatten` gives a graph (`IsFlat`) whose first nodes are the ports; between them it reaches exactly what is
-//! reached at once and through cells, and a loop in it that starts with a port is one of ports, but for the nodes between.
+//! reached at once and through cells, and a loop in it that starts with a port is one of ports, but for the nodes between. In the graph
+//! that `condense` gives, a port reaches another exactly where it reads it through the cell (`IsCondensed`).
 #![tactic(auto)]
 
 mod cell;
+mod condensed;
 mod flat;
 mod pairs;
 
 pub use cell::{Cell, Pin};
+pub use condensed::condense;
 pub use flat::flatten;
