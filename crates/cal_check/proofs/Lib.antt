@@ -18,6 +18,7 @@ pub mod GuardLemmas
 pub mod HolderLemmas
 pub mod InputLemmas
 pub mod InsideLemmas
+pub mod CondensedLemmas
 pub mod InvokeLemmas
 pub mod InvokedLemmas
 pub mod JudgeLemmas

@@ -13,7 +13,7 @@ ghost use Rattle.cal_check.specs.inside.WireGraphs.{HasOrder};
 ghost use Rattle.cal_check.specs.inside.Wiring.{IsInside, ShowsParts, TellsLoop};
 
 use crate::cells::cells_of;
-use crate::inside::{Inside, own_nodes};
+use crate::inside::{Inside, condensed, own_nodes};
 use crate::keys::name_in;
 use crate::place::Place;
 use crate::ports::Ports;
@@ -134,7 +134,8 @@ fn part_inside(
     // The component stands in the design, so its ports have distinct names.
     let _comp = place.comp();
     let nodes = own_nodes(alloc, place, ports)?;
-    Ok(Some(Inside { reads, nodes }))
+    let inputs = place.signature().inputs;
+    Ok(Some(condensed(alloc, Inside { reads, nodes }, inputs)?))
 }
 
 /// Judges a component of a design that keeps C1 to C11 by C12, where `insides` are those of its parts, by the numbers of the
