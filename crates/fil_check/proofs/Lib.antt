@@ -51,3 +51,4 @@ pub mod OrderLemmas
 pub mod InstanceNumberLemmas
 pub mod CellPinLemmas
 pub mod CellLemmas
+pub mod CondensedLemmas

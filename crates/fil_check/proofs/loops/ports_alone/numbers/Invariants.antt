@@ -1,0 +1,11 @@
+use Rattle.std.proofs.Common.{◌≡◌, ◌<◌, ℕ, Some, length, slice_get, All}
+use Rattle.fil_check.proofs.loops.ports_alone.numbers.Given as goal
+
+-- so many numbers
+abbrev pub invariant-loop-number : goal.invariant-loop-number
+invariant-loop-number l =
+    record {
+      all : length l.nodes.items ≡ l.number;
+      each : (n : ℕ) → n < l.number → slice_get l.nodes.items n ≡ Some n;
+      within : All (λ node. node < l.number) l.nodes.items;
+    }
