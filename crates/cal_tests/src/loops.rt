@@ -81,8 +81,21 @@ component hub(a0: 1, a1: 1, a2: 1, a3: 1) -> (o0: 1, o1: 1, o2: 1, o3: 1) { cell
     ),
     (
         "component stairs(a0: 1, a1: 1, a2: 1) -> (o0: 1, o1: 1, o2: 1) { cells { v = std_or(1); w = std_or(1); } wires { v.left = a0; v.right = a1; w.left = v.out; w.right = a2; o0 = a0; o1 = v.out; o2 = w.out; } }
-component main() -> () { cells { c = stairs(); d = stairs(); } wires { c.a2 = c.o1; c.a1 = c.o0; c.a0 = d.o0; d.a0 = c.o2; d.a1 = d.o2; d.a2 = d.o0; } }",
+component main() -> () { cells { c = stairs(); d = stairs(); } wires { c.a0 = d.o0; d.a0 = c.o2; d.a1 = d.o0; d.a2 = d.o1; } }",
         "refused C12 main item 0 loop c.a0 d.o0 d.a0 c.o2",
+    ),
+    // A component that is much larger than its ports, in a part of another one and twice in a loop.
+    (
+        "component main() -> () { cells { c = long(); d = over(); } wires { c.a = d.o; d.a = c.o; d.b = c.o; } }
+component over(a: 1, b: 1) -> (o: 1) { cells { c = long(); u = std_wire(1); } wires { u.in = b; c.a = a; o = c.o; } }
+component long(a: 1) -> (o: 1) { cells { v = std_wire(1); w = std_wire(1); x = std_wire(1); } wires { v.in = a; w.in = v.out; x.in = w.out; o = x.out; } }",
+        "refused C12 main item 0 loop c.a d.o d.a c.o",
+    ),
+    (
+        "component main() -> () { cells { c = long(); d = over(); } wires { c.a = d.p; d.a = c.o; d.b = d.o; } }
+component over(a: 1, b: 1) -> (o: 1, p: 1) { cells { c = long(); d = long(); } wires { c.a = a; o = c.o; d.a = b; p = d.o; } }
+component long(a: 1) -> (o: 1) { cells { v = std_wire(1); w = std_wire(1); x = std_wire(1); } wires { v.in = a; w.in = v.out; x.in = w.out; o = x.out; } }",
+        "refused C12 main item 0 loop c.a d.p d.b d.o d.a c.o",
     ),
     // The component's own go, where an output is assigned in a group: with control, and in a bare component that has a `go`.
     (

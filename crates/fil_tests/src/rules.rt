@@ -80,6 +80,20 @@ const STAIRS: &str =
 }
 ";
 
+/// Two outputs, each of which reads an input of its own through a chain that is longer than the list of ports.
+const CHAINS: &str = "comp Chains<G: 1>(@interface[G] go: 1, @[G, G+1] a0: 1, @[G, G+1] a1: 1)
+ -> (@[G, G+1] o0: 1, @[G, G+1] o1: 1) {
+  u := new Not[1]<G>(a0);
+  v := new Not[1]<G>(u.out);
+  w := new Not[1]<G>(v.out);
+  x := new Not[1]<G>(a1);
+  y := new Not[1]<G>(x.out);
+  z := new Not[1]<G>(y.out);
+  o0 = z.out;
+  o1 = w.out;
+}
+";
+
 /// A component, the body of `main` that has an instance of it, and the ports of the least loop; none where there is no loop.
 const LOOPS: &[(&str, &str, &[&str])] = &[
     (
@@ -96,6 +110,17 @@ const LOOPS: &[(&str, &str, &[&str])] = &[
     (
         STAIRS,
         "S := new Stairs; N := new Not[1]; n := N<G>(a); s := S<G>(a, n.out, a); later := S<G+1>(a, a, a); back := N<G+1>(later.o0);",
+        &[],
+    ),
+    // Each output reads the other input.
+    (
+        CHAINS,
+        "C := new Chains; N := new Not[1]; n := N<G>(a); c := C<G>(a, n.out); later := C<G+1>(a, a); back := N<G+1>(later.o0);",
+        &["C.a1", "N.out", "N.in", "C.o0"],
+    ),
+    (
+        CHAINS,
+        "C := new Chains; N := new Not[1]; n := N<G>(a); c := C<G>(a, n.out); later := C<G+1>(a, a); back := N<G+1>(later.o1);",
         &[],
     ),
     // Through two instances of one component.

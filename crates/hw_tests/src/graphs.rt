@@ -34,7 +34,7 @@ const GRAPHS: [(&[&str], Reads, bool, &[usize]); 5] = [
 ];
 
 /// The names of ports.
-fn names_of(alloc: Global, texts: &[&str]) -> Result<Names, Memory> {
+pub(crate) fn names_of(alloc: Global, texts: &[&str]) -> Result<Names, Memory> {
     let mut names = Names::new(alloc);
     for text in texts {
         if names.len() < 100 {
