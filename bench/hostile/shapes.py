@@ -371,6 +371,12 @@ def fil_long_parts_loop(count):
     return fil(f"{long}comp main<G: 2>(@interface[G] go: 1, @[G, G+2] a: 1) -> () {{ {use} }}\n")
 
 
+def cal_wide_parts_loop(count):
+    """So many cells, one behind another, of a component with as many outputs, each the sum of the inputs up to it, beside a loop."""
+    cells = "l = std_wire(1);\n" + "".join(f"x{i} = wide();\n" for i in range(count))
+    return cal(wide_cal(count) + component(cells, "l.in = l.out;\n" + "".join(f"x{i}.a0 = x{i - 1}.o{count - 1};\n" for i in range(1, count))))
+
+
 def lead(count):
     """A component that leads so many inputs to as many outputs."""
     ins, outs = (", ".join(f"{side}{i}: 1" for i in range(count)) for side in "ao")
