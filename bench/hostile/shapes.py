@@ -354,16 +354,23 @@ def fil_reach_loop(count):
     return fil(f"{wide_fil(count)}comp main<G: 2>(@interface[G] go: 1, @[G, G+2] a: 1) -> () {{ {use} }}\n")
 
 
-def cal_long_parts_loop(count):
-    """So many cells, one behind another, of a component of as many wires between its input and its output, beside a loop."""
+def cal_long_parts_loop(count, idle=0):
+    """So many cells, one behind another, of a component of as many wires between its input and its output, beside a loop. Other
+    inputs of the component are idle."""
     wires = "".join(f"w{i}.in = {f'w{i - 1}.out' if i else 'a'};\n" for i in range(count)) + f"o = w{count - 1}.out;\n"
-    long = component("".join(f"w{i} = std_wire(1);\n" for i in range(count)), wires, name="long", face="(a: 1) -> (o: 1)")
+    idle_ports = "".join(f", b{i}: 1" for i in range(idle))
+    long = component("".join(f"w{i} = std_wire(1);\n" for i in range(count)), wires, name="long", face=f"(a: 1{idle_ports}) -> (o: 1)")
     cells = "l = std_wire(1);\n" + "".join(f"x{i} = long();\n" for i in range(count))
     return cal(long + component(cells, "l.in = l.out;\n" + "".join(f"x{i}.a = x{i - 1}.o;\n" for i in range(1, count))))
 
 
+def cal_idle_ports_loop(count):
+    """The same where the component has more ports than its text names."""
+    return cal_long_parts_loop(count, 3 * count)
+
+
 def fil_long_parts_loop(count):
-    """The same of instances."""
+    """So many instances, one behind another, of a component of as many between its input and its output, beside a loop."""
     long = "comp Long<G: 1>(@interface[G] go: 1, @[G, G+1] a: 1) -> (@[G, G+1] o: 1) {\n"
     long += "".join(f"s{i} := new Not[1]<G>({f's{i - 1}.out' if i else 'a'});\n" for i in range(count)) + f"o = s{count - 1}.out;\n}}\n"
     use = "M := new Not[1]; N := new Not[1]; n := N<G>(a); m := M<G>(n.out); later := M<G+1>(a); back := N<G+1>(later.out);\n"

@@ -137,6 +137,7 @@ TABLE = [
 
 # What the program does not keep, as is known.
 KNOWN = [
+    Row(shapes.cal_idle_ports_loop, 9_000, "check f.futil", ends("refused C12 main item 0 loop l.in l.out")),
     Row(shapes.cal_wide_parts_loop, 8_000, "check f.futil", ends("refused C12 main item 0 loop l.in l.out")),
 ]
 
