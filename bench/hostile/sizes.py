@@ -6,7 +6,7 @@ usage: sizes.py PROGRAM FOLDER [NAMES]      NAMES has names whose hashes meet (m
 Each run has to give its answer within 10 s of processor time, and a second more for each 8 MB that it writes, and within 4 GB,
 with the stack that the caller gives it. A run that makes no netlist and no design has to do with 100 times the bytes that it
 reads, where these are 500,000 or more. Where a run takes more than half a second, one of half the size has to take a 2.6th of
-it or more; a netlist whose instances stand deep in one another may take the square, since its names, and so its text, grow so.
+it or more, or six of half the size a 2.6th of six; a netlist whose instances stand deep in one another may take the square, since its names, and so its text, grow so.
 
 Prints a line for each run, then what the program is known not to keep, and the status is 0 where all else held."""
 import os, pathlib, subprocess, sys, typing
@@ -138,7 +138,7 @@ TABLE = [
 
 # What the program does not keep, as is known.
 KNOWN = [
-    Row(shapes.cal_wide_parts_loop, 8_000, "check f.futil", ends("refused C12 main item 0 loop l.in l.out")),
+    Row(shapes.cal_wide_parts_loop, 12_000, "check f.futil", ends("refused C12 main item 0 loop l.in l.out")),
 ]
 
 
@@ -171,14 +171,22 @@ def measure_twice(program, words, folder):
     return said, min(cost, measure(program, words, folder)[1])
 
 
-def too_much(row, cost, half):
+def grows(program, words, folder):
+    """What is too much of six runs beside six of half the size, each after one of the other: a machine may be quick now and slow
+    then, by nearly half, so what two runs take tells little."""
+    runs = [[measure(program, words, it)[1].seconds for it in (folder, folder / "half")] for _ in range(6)]
+    whole, half = map(sum, zip(*runs))
+    if whole > RATIO * half:
+        return f"six runs take {whole:.2f} s, and {half:.2f} s at half the size"
+    return None
+
+
+def too_much(cost, row):
     """What is too much of a run, in words; None where nothing is."""
     if cost.seconds > SECONDS + cost.written / WRITTEN:
         return f"it takes {cost.seconds:.1f} s"
     if cost.memory > MEMORY or not row.makes and cost.read >= 500_000 and cost.memory > TIMES * cost.read:
         return f"it takes {cost.memory // 10**6} MB for {cost.read} bytes"
-    if half and not row.deep and cost.seconds > 0.5 and cost.seconds > RATIO * half.seconds:
-        return f"it takes {cost.seconds:.2f} s, and {half.seconds:.2f} s at half the size"
     return None
 
 
@@ -187,7 +195,7 @@ def try_over(program, folder, row):
     write(folder, row.shape(row.size + 1))
     for command in row.commands.split("|"):
         said, cost = measure(program, command.split(), folder)
-        wrong = not_allowed(said, command.split()[0]) or too_much(row, cost, None)
+        wrong = not_allowed(said, command.split()[0]) or too_much(cost, row)
         if wrong or said.err.decode() != f"{row.over}\n":
             yield f"{row.shape.__name__} {row.size + 1}, {command}: {wrong or said}"[:300]
 
@@ -196,14 +204,17 @@ def try_row(program, folder, row):
     """The faults at the size of a row, and in growth where it is no small limit. What a run costs is printed."""
     halves = {}
     if row.size > 300 and row.size != FULL:
-        write(folder, row.shape(row.size // 2))
-        halves = {command: measure_twice(program, command.split(), folder)[1] for command in row.commands.split("|")}
+        write(folder / "half", row.shape(row.size // 2))
+        halves = {command: measure_twice(program, command.split(), folder / "half")[1] for command in row.commands.split("|")}
     write(folder, row.shape(row.size))
     for command in row.commands.split("|"):
         said, cost = measure_twice(program, command.split(), folder)
         told = f"{row.shape.__name__} {row.size}, {command}: status {said.status}, {cost.seconds:.2f} s, {cost.memory // 10**6} MB for {cost.read} bytes"
         print(told + (f"; one over: {row.over}" if row.over else ""), flush=True)
-        wrong = not_allowed(said, command.split()[0]) or too_much(row, cost, halves.get(command))
+        half = halves.get(command)
+        wrong = not_allowed(said, command.split()[0]) or too_much(cost, row)
+        if not wrong and half and not row.deep and cost.seconds > 0.5 and cost.seconds > RATIO * half.seconds:
+            wrong = grows(program, command.split(), folder)
         if wrong or not row.at(said, row.size):
             short = said._replace(out=said.out[-80:], err=said.err[-200:])
             yield f"{row.shape.__name__} {row.size}, {command}: {wrong or short}"
@@ -221,7 +232,9 @@ def tried(rows):
 def main():
     program, folder = (pathlib.Path(word).resolve() for word in sys.argv[1:3])
     shapes.MEETING[:] = pathlib.Path(sys.argv[3]).read_text().split() if len(sys.argv) > 3 else []
-    (folder / "counter.net").write_text(shapes.COUNTER)
+    (folder / "half").mkdir(exist_ok=True)
+    for it in (folder, folder / "half"):
+        (it / "counter.net").write_text(shapes.COUNTER)
     faults = []
     for row in tried(TABLE):
         faults += [*try_row(program, folder, row), *(try_over(program, folder, row) if row.over else ())]
