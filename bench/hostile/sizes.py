@@ -6,7 +6,8 @@ usage: sizes.py PROGRAM FOLDER [NAMES]      NAMES has names whose hashes meet (m
 Each run has to give its answer within 10 s of processor time, and a second more for each 8 MB that it writes, and within 4 GB,
 with the stack that the caller gives it. A run that makes no netlist and no design has to do with 100 times the bytes that it
 reads, where these are 500,000 or more. Where a run takes more than half a second, one of half the size has to take a 2.6th of
-it or more, or six of half the size a 2.6th of six; a netlist whose instances stand deep in one another may take the square, since its names, and so its text, grow so.
+it or more, or six of half the size a 2.6th of six; a netlist whose instances stand deep in one another may take the square,
+since its names, and so its text, grow so.
 
 Prints a line for each run, then what the program is known not to keep, and the status is 0 where all else held."""
 import os, pathlib, subprocess, sys, typing
