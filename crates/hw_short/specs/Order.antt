@@ -30,4 +30,5 @@ IsUpTo None None = Unit {0}
 -- the order of the names, by their numbers, tells the order of the full names
 pub record TellOrder (texts : List Text) (full : List FullName) (names : List Text) : Type 0 where
   pub sized : length names ≡ length full
-  pub each : (i j : ℕ) (k l : FullName) → slice_get full i ≡ Some k → slice_get full j ≡ Some l → IsAtMost names i j → IsUpTo (text_in texts k) (text_in texts l)
+  pub each : (i j : ℕ) (k l : FullName) →
+      slice_get full i ≡ Some k → slice_get full j ≡ Some l → IsAtMost names i j → IsUpTo (text_in texts k) (text_in texts l)
