@@ -39,6 +39,7 @@ pub mod NumberLemmas
 pub mod NumeralLemmas
 pub mod OrderLemmas
 pub mod OrderedLemmas
+pub mod PartGraphLemmas
 pub mod PartsLemmas
 pub mod PinLemmas
 pub mod PinNameLemmas

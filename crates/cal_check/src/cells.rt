@@ -3,6 +3,7 @@
 //! Only ports that the component's text names are in its graph. A port of a cell that is not named reads nothing or is read by
 //! nothing, so it lies on no way between the component's own ports, and on no loop; and a cell costs nothing unless it is named.
 ghost use Rattle.std.specs.Prelude.{◌≡◌, ◌↔◌, ◌<◌, ℕ, All, Some, length, slice_get, IfOk};
+ghost use Rattle.hw_cells.specs.Cells.{AreOfParts};
 ghost use Rattle.cal_ast.specs.Rules.{KeepsRules};
 ghost use Rattle.cal_ast.specs.Tree.{Component};
 ghost use Rattle.cal_check.specs.Around.{comp_at, design_at};
@@ -84,9 +85,11 @@ fn cell_of<'w>(
 ) -> Result<Cell<'w>, Memory>
     requires part { part < length (design_at place.now) }
     requires ports { All (λ port. port < length graph.now.ports.keys) ports.now }
-    ensures { (c : Component) → slice_get (design_at place.now) part ≡ Some c → IfOk result (HasPins graph.now c inside.now ports.now) }
+    ensures pins { (c : Component) → slice_get (design_at place.now) part ≡ Some c → IfOk result (HasPins graph.now c inside.now ports.now) }
+    ensures graph { IfOk result (λ cell. (cell.part ≡ part) × (cell.reads.now ≡ inside.now.reads)) }
 {
     let mut cell = Cell {
+        part,
         reads: &inside.reads,
         outputs: Vec::new(graph.alloc),
         inputs: Vec::new(graph.alloc),
@@ -112,7 +115,8 @@ pub fn cells_of<'w>(
 ) -> Result<Vec<Cell<'w>>, Memory>
     requires kept { KeepsRules (design_at place.now) }
     requires parts { ShowsParts (design_at place.now) place.now.number insides.now }
-    ensures { IfOk result (λ cells. AreCells (design_at place.now) (comp_at place.now) graph.now cells.items) }
+    ensures cells { IfOk result (λ cells. AreCells (design_at place.now) (comp_at place.now) graph.now cells.items) }
+    ensures parts { IfOk result (λ cells. AreOfParts cells.items) }
 {
     let count = place.comp().cells.len();
     let entries = cell_ports(place, graph)?;

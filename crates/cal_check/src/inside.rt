@@ -77,6 +77,7 @@ fn graph_of_ports(alloc: Global, inside: &Inside, inputs: usize) -> Result<Optio
     let ports = inside.nodes.len();
     let nodes = inside.nodes.as_slice();
     let cell = Cell {
+        part: 0,
         reads: &inside.reads,
         outputs: pins_between(alloc, nodes, inputs, ports)?,
         inputs: pins_between(alloc, nodes, 0, inputs)?,

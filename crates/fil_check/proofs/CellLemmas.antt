@@ -1,9 +1,10 @@
 -- The instances of components as cells, from the ports of them that a graph has, and the ports that are given numbers.
-use Rattle.std.proofs.Common.{◌≡◌, ◌↔◌, inl, inr, ℕ, ◌+◌, ◌<◌, ◌≤◌, List, [], ◌∷◌, ◌++◌, Option, Some, length, get_or, take, slice_get, All, Contains, refl, sym, ap, subst, ◌∙◌, arith}
+use Rattle.std.proofs.Common.{◌≡◌, ◌↔◌, inl, inr, ℕ, ◌+◌, ◌<◌, ◌≤◌, List, [], ◌∷◌, ◌++◌, Option, None, Some, option_map, length, get_or, take, slice_get, All, Contains, refl, sym, ap, subst, ◌∙◌, arith}
 use Rattle.std.proofs.lemmas.Bool.{cases_lt}
 use Rattle.std.proofs.lemmas.List.{take_all}
 use Rattle.std.proofs.lemmas.List.Elements.{All-contains, All-push, All-weaker, Contains-append_left, Contains-get_or, Contains-push, Contains-push_cases}
-use Rattle.std.proofs.lemmas.Option.{same_Some, slice_get-get_or, slice_get_within}
+use Rattle.std.proofs.lemmas.Option.{none-some, same_Some, slice_get-get_or, slice_get_within}
+use Rattle.hw_cells.proofs.GraphLemmas.{HasGraphOf}
 use Rattle.hw_cells.specs.Cells.{IsFit, IsOrReaches, IsPinWithin, ReadsThrough}
 use Rattle.hw_cells.specs.declared.cell.Cell.{Cell}
 use Rattle.hw_cells.specs.declared.cell.Pin.{Pin}
@@ -25,7 +26,26 @@ same_inside parts insides instance a b one other =
     let part : one.0 ≡ other.0 = same_Some one.0 other.0 (same_Some (Some one.0) (Some other.0) (sym one.1 ∙ other.1)) in
     same_Some a b (sym one.2 ∙ ap (slice_get insides) part ∙ other.2)
 
+-- what is known of the component is known of the instance
+pub known_inside : (parts : List (Option ℕ)) (insides : List Inside) (instance part : ℕ) → slice_get parts instance ≡ Some (Some part) → (found : Option Inside) → found ≡ slice_get insides part
+    → (inside : Inside) → (found ≡ Some inside) ↔ IsInsideAt parts insides instance inside
+known_inside parts insides instance part at found is inside = (
+  λ there. (part, at, sym is ∙ there),
+  λ known. is ∙ ap (slice_get insides) (same_Some part known.0 (same_Some (Some part) (Some known.0) (sym at ∙ known.1))) ∙ known.2,
+)
+
+-- nothing is known of the component
+pub not_known : (parts : List (Option ℕ)) (insides : List Inside) (instance part : ℕ) → slice_get parts instance ≡ Some (Some part) → slice_get insides part ≡ None → (inside : Inside) → IsInsideAt parts insides instance inside → ⊥
+not_known parts insides instance part at past inside known = none-some inside (sym past ∙ (known_inside parts insides instance part at (slice_get insides part) refl inside).1 known)
+
 -- ---- the cells
+
+-- the graph of the component of this number, if it is known
+abbrev pub graph_in : List Inside → ℕ → Option (List (List ℕ))
+graph_in insides part = option_map (λ (inside : Inside). inside.reads) (slice_get insides part)
+
+pub has_graph : (insides : List Inside) (part : ℕ) (inside : Inside) (cell : Cell) → slice_get insides part ≡ Some inside → cell.part ≡ part → cell.reads.now ≡ inside.reads → HasGraphOf (graph_in insides) cell
+has_graph insides part inside cell at same reads = ap (graph_in insides) same ∙ ap (option_map (λ (i : Inside). i.reads)) at ∙ ap Some (sym reads)
 
 -- the cell of this instance, of whose component this is known
 pub record IsCellAt (parts : List (Option ℕ)) (insides : List Inside) (ports : PortList) (instance : ℕ) (inside : Inside) (cell : Cell) : Type 0 where

@@ -1,5 +1,5 @@
 -- A graph of a cell's ports alone, gathered from pairs, leads as the cell.
-use Rattle.std.proofs.Common.{◌≡◌, ◌↔◌, ℕ, ◌<◌, List, [], ◌++◌, get_or, sym, ap, subst, ◌∙◌}
+use Rattle.std.proofs.Common.{◌≡◌, ◌↔◌, inl, inr, ℕ, ◌<◌, List, [], length, get_or, refl, sym, subst, ◌∙◌, arith}
 use Rattle.std.specs.Prelude.{All, Contains}
 use Rattle.std.proofs.lemmas.List.Elements.{Contains-get_or}
 use Rattle.hw_graph.proofs.ComponentLemmas.{gathered_in_range}
@@ -10,20 +10,40 @@ use Rattle.hw_graph.specs.Groups.{IsGathered}
 use Rattle.hw_graph.specs.inside.Components.{AreBelow}
 use Rattle.hw_graph.specs.declared.groups.Entry.{Entry}
 use Rattle.hw_cells.specs.Cells.{HasTwoSides, IsCondensed, IsFit, ReadsThrough}
-use Rattle.hw_cells.specs.inside.Pairs.{AddsPairs}
+use Rattle.hw_cells.specs.inside.Pairs.{AddsPairs, AddsStarts, IsStartOf, IsWithin}
 use Rattle.hw_cells.specs.declared.cell.Cell.{Cell}
+use Rattle.hw_cells.specs.declared.pairs.Start.{Start}
 use Rattle.hw_cells.proofs.CopyLemmas.{through_within}
+use Rattle.hw_cells.proofs.PairLemmas.{reads_through, says_through, start_within}
 use Rattle.hw_cells.proofs.FlatLemmas.{entry_read, read_entry}
 
 -- the entries say exactly which ports read one another through the cell
 abbrev pub ArePairs : Cell → List Entry → Type 0
 ArePairs cell pairs = (port other : ℕ) → Contains pairs (record { key = port; value = other }) ↔ ReadsThrough cell port other
 
-pub only_pairs : (cell : Cell) (old new : List Entry) → old ≡ [] → AddsPairs cell old new → ArePairs cell new
-only_pairs cell old new none adds = subst (ArePairs cell) (sym is) adds.exactly
-  where
-    is : new ≡ adds.added
-    is = adds.goes_on ∙ ap (λ (l : List Entry). l ++ adds.added) none
+module _ (cell : Cell) (none starts : List Start) (no_starts : none ≡ []) (gets : AddsStarts cell none starts) where
+  start_of : (start : Start) → Contains starts start → IsStartOf cell start
+  start_of start has = elim (gets.only start has) [
+    | inl early ↦ let at = subst (λ (l : List Start). Contains l start) no_starts early in absurd (omega (arith, at.1))
+    | inr of_cell ↦ of_cell
+  ]
+
+  pub all_within : (ports : ℕ) → IsFit ports cell → All (IsWithin (length cell.reads.now)) starts
+  all_within ports fit k d lt = let start = get_or starts k d in start_within ports cell.reads.now cell start refl fit (start_of start (Contains-get_or starts k d lt))
+
+  pub only_pairs : (old new : List Entry) → old ≡ [] → AddsPairs cell.reads.now starts old new → ArePairs cell new
+  only_pairs old new no_entries adds port other = (to, from)
+    where
+      to : Contains new (record { key = port; value = other }) → ReadsThrough cell port other
+      to has =
+          let e : Entry = record { key = port; value = other } in
+          elim (adds.only e has) [
+            | inl early ↦ let at = subst (λ (l : List Entry). Contains l e) no_entries early in absurd (omega (arith, at.1))
+            | inr (start, given, reads) ↦ reads_through cell.reads.now cell start port other refl (start_of start given) reads
+          ]
+
+      from : ReadsThrough cell port other → Contains new (record { key = port; value = other })
+      from = says_through cell.reads.now cell starts old new refl gets.all adds port other
 
 pub pairs_below : (ports : ℕ) (cell : Cell) (pairs : List Entry) → IsFit ports cell → ArePairs cell pairs → AreBelow ports pairs
 pairs_below ports cell pairs fit are = λ k d lt.

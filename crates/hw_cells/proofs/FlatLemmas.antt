@@ -4,23 +4,23 @@ use Rattle.std.specs.Prelude.{All, Contains, filter}
 use Rattle.std.proofs.lemmas.Bool.{cases_lt}
 use Rattle.std.proofs.lemmas.Bool.Decides.{Decides-eqb}
 use Rattle.std.proofs.lemmas.List.{get_or_past}
-use Rattle.std.proofs.lemmas.List.Elements.{All-append, All-contains, All-drop, All-get_or, All-map, All-weaker, Contains-get_or, filter-append}
+use Rattle.std.proofs.lemmas.List.Elements.{All-append, All-contains, All-get_or, All-map, All-weaker, Contains-get_or, filter-append}
 use Rattle.std.proofs.lemmas.Option.{get_or_from_slice_get, slice_get_within}
 use Rattle.hw_graph.proofs.ComponentLemmas.{gathered_in_range}
-use Rattle.hw_graph.proofs.MemberLemmas.{In, in_of, contains_of, in_append, in_left, in_right, in_map, from_map, in_filter, from_filter}
+use Rattle.hw_graph.proofs.MemberLemmas.{In, in_of, contains_of, in_map, from_map, in_filter, from_filter}
 use Rattle.hw_graph.specs.Graph as graph
 use Rattle.hw_graph.specs.Graph.{AreDistinct, AreInRange, HasRead, IsCycle}
 use Rattle.hw_graph.specs.Groups.{IsGathered, has_key, with_key}
 use Rattle.hw_graph.specs.inside.Components.{AreBelow}
 use Rattle.hw_graph.specs.declared.groups.Entry.{Entry}
-use Rattle.hw_cells.specs.Cells.{Directly, IsFit, IsFlat, IsLoop, IsPinWithin, Reaches, Reads, ReadsThrough, Through, is_below}
+use Rattle.hw_cells.specs.Cells.{Directly, IsFit, IsFlat, IsLoop, IsPinWithin, Reaches, Reads, Through, is_below}
 use Rattle.hw_cells.specs.inside.Copies.{cell_entries, entries_from, input_entry, inside_entries, node_entries, output_entry}
-use Rattle.hw_cells.specs.inside.Pairs.{AddsPairs}
+use Rattle.hw_cells.specs.inside.Parts.{Splits}
 use Rattle.hw_cells.specs.declared.cell.Cell.{Cell}
 use Rattle.hw_cells.specs.declared.cell.Pin.{Pin}
 use Rattle.hw_cells.proofs.CopyLemmas.{Steps, copy_shortens, inside_of, through_within}
 use Rattle.hw_cells.proofs.LoopLemmas.{filter_distinct, loop_walk, walk_along, walk_back}
-use Rattle.hw_cells.proofs.WayLemmas.{More, One, Shortens, Walk, Way, kept, shortens_like, shortens_on, shortens_same, way_over}
+use Rattle.hw_cells.proofs.WayLemmas.{More, One, Shortens, Walk, Way, kept, shortens_on, shortens_same, way_over}
 
 -- ---- the nodes of a graph
 
@@ -183,62 +183,69 @@ module _ (ports n : ℕ) (cell : Cell) (more : ports ≤ n) (fit : IsFit ports c
 pub cell_at : (ports : ℕ) (cells : List Cell) (index : ℕ) (cell : Cell) → index < length cells → cell ≡ get_or cells index cell → All (IsFit ports) cells → IsFit ports cell
 cell_at ports cells index cell within is fits = subst (IsFit ports) (sym is) (All-get_or (IsFit ports) cells index cell within fits)
 
-pub flat_more : (entries : List Entry) (cells : List Cell) (ports index : ℕ) (cell : Cell) (now : List Entry) (nodes : ℕ) → index < length cells → cell ≡ get_or cells index cell → All (IsFit ports) cells → IsFlatSoFar entries cells ports (drop index cells) now nodes → IsFlatSoFar entries cells ports (drop (index + 1) cells) (now ++ cell_entries nodes cell) (nodes + length cell.reads.now)
-flat_more entries cells ports index cell now nodes within is fits so_far =
-    let rest = drop (index + 1) cells in
-    let on : suc index ≡ index + 1 = omega arith in
-    let left_is : drop index cells ≡ cell ∷ rest = drop-cons cells index cell within ∙ ap₂ (λ (c : Cell) (k : ℕ). c ∷ drop k cells) (sym is) on in
-    let fit = cell_at ports cells index cell within is fits in
-    let copied = copy_shortens ports nodes now cell rest so_far.more so_far.below fit (All-drop (IsFit ports) (index + 1) cells fits) in
-    let before = subst (λ (left : List Cell). Shortens ports (Steps now left) (Steps entries cells)) left_is so_far.shortens in
+pub flat_more : (entries : List Entry) (cells rest : List Cell) (ports : ℕ) (cell : Cell) (now : List Entry) (nodes : ℕ) → IsFit ports cell → All (IsFit ports) rest → IsFlatSoFar entries cells ports (cell ∷ rest) now nodes → IsFlatSoFar entries cells ports rest (now ++ cell_entries nodes cell) (nodes + length cell.reads.now)
+flat_more entries cells rest ports cell now nodes fit fits so_far =
+    let copied = copy_shortens ports nodes now cell rest so_far.more so_far.below fit fits in
     record {
       more = omega (arith, so_far.more);
       below = copy_below ports nodes cell so_far.more fit now so_far.below;
-      shortens = shortens_on ports nodes (Steps (now ++ cell_entries nodes cell) rest) (Steps now (cell ∷ rest)) (Steps entries cells) so_far.more copied before;
+      shortens = shortens_on ports nodes (Steps (now ++ cell_entries nodes cell) rest) (Steps now (cell ∷ rest)) (Steps entries cells) so_far.more copied so_far.shortens;
     }
 
--- where entries between the ports of a cell say what they read through it
-pub flat_pairs : (entries : List Entry) (cells : List Cell) (ports index : ℕ) (cell : Cell) (now new : List Entry) (nodes : ℕ) → index < length cells → cell ≡ get_or cells index cell → All (IsFit ports) cells → AddsPairs cell now new → IsFlatSoFar entries cells ports (drop index cells) now nodes → IsFlatSoFar entries cells ports (drop (index + 1) cells) new nodes
-flat_pairs entries cells ports index cell now new nodes within is fits pairs so_far =
-    let before = subst (λ (left : List Cell). Shortens ports (Steps now left) (Steps entries cells)) left_is so_far.shortens in
-    record { more = so_far.more; below = below; shortens = shortens_like ports (Steps now (cell ∷ rest)) (Steps new rest) (Steps entries cells) fewer again before }
-  where
-    rest : List Cell
-    rest = drop (index + 1) cells
+-- where entries say what is read through cells, and the others are left
+module _ (entries : List Entry) (cells : List Cell) (ports : ℕ) (new : List Entry) (left : List Cell) (splits : Splits cells (Contains cells) entries new [] left) where
+  one_of_cells : (cell : Cell) → Contains left cell → Contains cells cell
+  one_of_cells cell has = elim (splits.others cell has) [
+    | inl before ↦ absurd (omega (arith, before.1))
+    | inr of ↦ of
+  ]
 
-    left_is : drop index cells ≡ cell ∷ rest
-    left_is = let on : suc index ≡ index + 1 = omega arith in drop-cons cells index cell within ∙ ap₂ (λ (c : Cell) (k : ℕ). c ∷ drop k cells) (sym is) on
+  pub left_fit : All (IsFit ports) cells → All (IsFit ports) left
+  left_fit fits k d lt = All-contains (IsFit ports) cells (get_or left k d) fits (one_of_cells (get_or left k d) (Contains-get_or left k d lt))
 
-    added_below : AreBelow nodes pairs.added
-    added_below k d lt =
-        let e = get_or pairs.added k d in
-        let through = (pairs.exactly e.key e.value).0 (Contains-get_or pairs.added k d lt) in
-        let ends = through_within ports cell e.key e.value (cell_at ports cells index cell within is fits) through in
-        (omega (arith, ends.0, so_far.more), omega (arith, ends.1, so_far.more))
+  pub new_below : All (IsFit ports) cells → AreBelow ports entries → AreBelow ports new
+  new_below fits below k d lt =
+      let e = get_or new k d in
+      elim (splits.only e (Contains-get_or new k d lt)) [
+        | inl old ↦ All-contains (λ (i : Entry). (i.key < ports) × (i.value < ports)) entries e below old
+        | inr some ↦ through_within ports some.0 e.key e.value (All-contains (IsFit ports) cells some.0 fits some.1) some.2
+      ]
 
-    below : AreBelow nodes new
-    below = subst (AreBelow nodes) (sym pairs.goes_on) (All-append (λ (e : Entry). (e.key < nodes) × (e.value < nodes)) now pairs.added so_far.below added_below)
+  to_cells : (x y : ℕ) → Reads new left x y → Reads entries cells x y
+  to_cells x y (inl has) = let e : Entry = record { key = x; value = y } in splits.only e has
+  to_cells x y (inr (cell, has, through)) = inr (cell, one_of_cells cell has, through)
 
-    -- a step by an entry more is one through the cell
-    fewer : (x y : ℕ) → Steps new rest x y → Steps now (cell ∷ rest) x y
-    fewer x y (inr (other, has, through)) = inr (other, inr has, through)
-    fewer x y (inl has) =
-        let e : Entry = record { key = x; value = y } in
-        elim (in_append now pairs.added e (subst (λ (l : List Entry). In l e) pairs.goes_on has)) [
-          | inl old ↦ inl old
-          | inr added ↦ inr (cell, inl refl, (pairs.exactly x y).0 (contains_of pairs.added e added))
-        ]
+  from_cells : (x y : ℕ) → Reads entries cells x y → Reads new left x y
+  from_cells x y (inl has) = let e : Entry = record { key = x; value = y } in inl (splits.kept e has)
+  from_cells x y (inr (cell, has, through)) = elim (splits.each cell has) [
+    | inl one_left ↦ inr (cell, one_left, through)
+    | inr say ↦ inl (say x y through)
+  ]
 
-    by_entry : (x y : ℕ) (more : List Entry) → new ≡ now ++ more → In (now ++ more) (record { key = x; value = y }) → Steps new rest x y
-    by_entry x y more goes_on has = inl (subst (λ (l : List Entry). In l (record { key = x; value = y })) (sym goes_on) has)
+  reaches_to : (x y : ℕ) → Reaches new left x y → Reaches entries cells x y
+  reaches_to x y (Directly p q step) = Directly p q (to_cells p q step)
+  reaches_to x y (Through p next q step rest) = Through p next q (to_cells p next step) (reaches_to next q rest)
 
-    again : (x y : ℕ) → Steps now (cell ∷ rest) x y → Steps new rest x y
-    again x y (inl has) = by_entry x y pairs.added pairs.goes_on (in_left now pairs.added (record { key = x; value = y }) has)
-    again x y (inr (other, inr has, through)) = inr (other, has, through)
-    again x y (inr (other, inl same, through)) =
-        let e : Entry = record { key = x; value = y } in
-        let of_cell = subst (λ (c : Cell). ReadsThrough c x y) (sym same) through in
-        by_entry x y pairs.added pairs.goes_on (in_right now pairs.added e (in_of pairs.added e ((pairs.exactly x y).1 of_cell)))
+  reaches_from : (x y : ℕ) → Reaches entries cells x y → Reaches new left x y
+  reaches_from x y (Directly p q step) = Directly p q (from_cells p q step)
+  reaches_from x y (Through p next q step rest) = Through p next q (from_cells p next step) (reaches_from next q rest)
+
+  loop_to : (list : List ℕ) → IsLoop new left list → IsLoop entries cells list
+  loop_to list loop = record {
+    some = loop.some;
+    along = λ i lt. to_cells (get_or list i 0) (get_or list (i + 1) 0) (loop.along i lt);
+    back = to_cells (get_or list (length list - 1) 0) (get_or list 0 0) loop.back;
+    once = loop.once;
+  }
+
+  pub flat_of_split : (reads : List (List ℕ)) → IsFlat new ports left reads → IsFlat entries ports cells reads
+  flat_of_split reads flat = record {
+    in_range = flat.in_range;
+    all = flat.all;
+    reaches = λ port other port_lt other_lt.
+        let both = flat.reaches port other port_lt other_lt in (λ reaches. reaches_to port other (both.0 reaches), λ reaches. both.1 (reaches_from port other reaches));
+    loops = λ nodes cycle lt. loop_to (filter (is_below ports) nodes) (flat.loops nodes cycle lt);
+  }
 
 -- ---- all cells
 

@@ -4,3 +4,6 @@ pub mod CopyLemmas
 pub mod PairLemmas
 pub mod FlatLemmas
 pub mod CondenseLemmas
+pub mod PartLemmas
+pub mod TogetherLemmas
+pub mod GraphLemmas

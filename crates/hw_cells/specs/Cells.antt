@@ -47,6 +47,10 @@ pub record IsFit (ports : ℕ) (cell : Cell) : Type 0 where
   pub outputs : All (IsPinWithin ports (length cell.reads.now)) cell.outputs.items
   pub inputs : All (IsPinWithin ports (length cell.reads.now)) cell.inputs.items
 
+-- cells of one component have one graph
+abbrev pub AreOfParts : List Cell → Type 0
+AreOfParts cells = (cell other : Cell) → Contains cells cell → Contains cells other → cell.part ≡ other.part → cell.reads.now ≡ other.reads.now
+
 -- no port is an output of the cell and an input
 abbrev pub HasTwoSides : Cell → Type 0
 HasTwoSides cell = (output input : Pin) → Contains cell.outputs.items output → Contains cell.inputs.items input → output.port ≡ input.port → ⊥

@@ -1,3 +1,5 @@
 -- What only the functions inside the crate are specified by.
 pub mod Copies
+pub mod Words
 pub mod Pairs
+pub mod Parts

@@ -12,6 +12,8 @@ pub struct Pin {
 /// A cell: the graph of what it is made of, and its outputs and inputs. An output reads what its node reaches.
 #[derive(Drop)]
 pub struct Cell<'a> {
+    /// The number of the component that it is made of: cells with one number have one graph.
+    pub part: usize,
     /// For each node of the graph the nodes that it reads.
     pub reads: &'a Groups,
     pub outputs: Vec<Pin>,

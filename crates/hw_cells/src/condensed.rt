@@ -3,13 +3,14 @@ ghost use Rattle.std.specs.Prelude.{ℕ, ◌^◌, ◌<◌, IfOk, IfSome};
 ghost use Rattle.hw_cells.specs.Cells.{HasTwoSides, IsCondensed, IsFit};
 
 use crate::cell::Cell;
-use crate::pairs::add_pairs;
+use crate::pairs::{add_pairs, add_starts};
+use crate::parts::order_of;
 use hw_bits::Memory;
 use hw_graph::{Groups, gather};
 use std::alloc::Global;
 
-/// A component with more outputs keeps its graph, since each output is a search of it.
-const SEARCHES: usize = 256;
+/// A component with more outputs keeps its graph, since 64 of them are a walk over it.
+const OUTPUTS: usize = 4_096;
 
 /// A component with more pairs of an output and an input for each entry of its graph keeps it.
 const PAIRS: usize = 16;
@@ -23,17 +24,14 @@ fn count_entries(reads: &Groups) -> usize {
     count
 }
 
-/// Whether a graph of the cell's ports alone, of which there are so many, may be smaller than its graph of so many entries, and
-/// is soon found.
-fn may_be_smaller(cell: &Cell, ports: usize, entries: usize) -> bool {
+/// Whether a graph of the cell's ports alone may have no more entries than its own, which has so many, and is soon found.
+fn may_be_smaller(cell: &Cell, entries: usize) -> bool {
     let (outputs, inputs) = (cell.outputs.len(), cell.inputs.len());
-    ports <= cell.reads.len()
-        && outputs <= SEARCHES
-        && outputs.saturating_mul(inputs) <= entries.saturating_mul(PAIRS)
+    outputs <= OUTPUTS && outputs.saturating_mul(inputs) <= entries.saturating_mul(PAIRS)
 }
 
 /// A graph of the cell's ports alone, of which there are so many, in which each output reads the inputs that it reads through
-/// the cell. None where the cell's own graph has fewer nodes or entries, or where the searches would take long.
+/// the cell. None where the cell's own graph has fewer entries, or where the searches would take long.
 pub fn condense(alloc: Global, ports: usize, cell: &Cell) -> Result<Option<Groups>, Memory>
     requires fit { IsFit ports cell.now }
     requires sides { HasTwoSides cell.now }
@@ -41,11 +39,16 @@ pub fn condense(alloc: Global, ports: usize, cell: &Cell) -> Result<Option<Group
     ensures { IfOk result (λ kept. IfSome kept (IsCondensed ports cell.now)) }
 {
     let most = count_entries(cell.reads);
-    if !may_be_smaller(cell, ports, most) {
+    if !may_be_smaller(cell, most) {
         return Ok(None);
     }
+    let Some(order) = order_of(alloc, cell.reads)? else {
+        return Ok(None);
+    };
+    let mut starts = Vec::new(alloc);
+    add_starts(&mut starts, cell)?;
     let mut pairs = Vec::new(alloc);
-    add_pairs(alloc, &mut pairs, cell)?;
+    add_pairs(alloc, &mut pairs, cell.reads, &order, &starts)?;
     if pairs.len() > most {
         return Ok(None);
     }

@@ -1,26 +1,18 @@
 //! One graph of a holder's ports and the nodes of its cells' graphs.
 ghost use Rattle.std.specs.Prelude.{◌≡◌, ℕ, ◌+◌, ◌<◌, ◌^◌, ◌++◌, length, map, All, IfOk, OnOk};
 ghost use Rattle.hw_graph.specs.Graph.{AreInRange};
-ghost use Rattle.hw_cells.specs.Cells.{IsFit, IsFlat};
+ghost use Rattle.hw_cells.specs.Cells.{AreOfParts, IsFit, IsFlat};
 ghost use Rattle.hw_cells.specs.inside.Copies.{cell_entries, input_entry, inside_entries, node_entries, output_entry};
+ghost use Rattle.hw_cells.specs.inside.Parts.{cells_at};
 
 use crate::cell::{Cell, Pin};
-use crate::pairs::add_pairs;
+use crate::parts::{Split, split_cells};
 use hw_bits::Memory;
 use hw_graph::{Entry, Groups, gather};
 use std::alloc::Global;
 
 /// Graphs have less than this many nodes.
 const NODES: usize = 4_294_967_296;
-
-/// A cell that gets pairs has at most so many outputs, since each is a search of the cell's graph.
-const SEARCHES: usize = 256;
-
-/// Whether pairs of a cell's outputs and inputs take less room than a copy of its graph, and not much more time.
-fn has_few_pins(cell: &Cell) -> bool {
-    let (outputs, inputs) = (cell.outputs.len(), cell.inputs.len());
-    outputs <= SEARCHES && outputs.saturating_mul(inputs) <= cell.reads.len()
-}
 
 /// Adds that the node reads these, all behind `first`.
 fn add_reads(
@@ -93,31 +85,49 @@ fn add_cell(entries: &mut Vec<Entry>, first: usize, cell: &Cell) -> Result<(), M
     add_inputs(entries, first, &cell.inputs)
 }
 
+/// One graph of ports, which read one another as the entries say and through the cells of these numbers, and of the nodes of copies
+/// of those cells' graphs. The ports are the first nodes, by their numbers.
+fn flat_copies(
+    alloc: Global,
+    mut entries: Vec<Entry>,
+    ports: usize,
+    cells: &[Cell],
+    numbers: &[usize],
+) -> Result<Groups, Memory>
+    requires entries { All (λ entry. (entry.key < ports) × (entry.value < ports)) entries.items }
+    requires within { All (λ number. number < length cells.now) numbers.now }
+    requires cells { All (IsFit ports) cells.now }
+    requires room { ports < 2 ^ 32 }
+    ensures flat { IfOk result (IsFlat entries.items ports (cells_at cells.now numbers.now)) }
+    ensures small { IfOk result (λ reads. length reads < 2 ^ 32) }
+{
+    let mut nodes = ports;
+    for number in numbers {
+        let cell = &cells[*number];
+        if cell.reads.len() >= NODES - nodes {
+            return Err(Memory);
+        }
+        add_cell(&mut entries, nodes, cell)?;
+        nodes += cell.reads.len();
+    }
+    gather(alloc, entries.as_slice(), nodes)
+}
+
 /// One graph of ports, which read one another as the entries say and through the cells, and of the nodes of the graphs that are
 /// copied. The ports are the first nodes, by their numbers.
 pub fn flatten(
     alloc: Global,
-    mut entries: Vec<Entry>,
+    entries: Vec<Entry>,
     ports: usize,
     cells: &[Cell],
 ) -> Result<Groups, Memory>
     requires entries { All (λ entry. (entry.key < ports) × (entry.value < ports)) entries.items }
     requires cells { All (IsFit ports) cells.now }
+    requires parts { AreOfParts cells.now }
     requires room { ports < 2 ^ 32 }
     ensures flat { IfOk result (IsFlat entries.items ports cells.now) }
     ensures small { IfOk result (λ reads. length reads < 2 ^ 32) }
 {
-    let mut nodes = ports;
-    for cell in cells {
-        if has_few_pins(cell) {
-            add_pairs(alloc, &mut entries, cell)?;
-        } else {
-            if cell.reads.len() >= NODES - nodes {
-                return Err(Memory);
-            }
-            add_cell(&mut entries, nodes, cell)?;
-            nodes += cell.reads.len();
-        }
-    }
-    gather(alloc, entries.as_slice(), nodes)
+    let Split { entries, left } = split_cells(alloc, entries, cells)?;
+    flat_copies(alloc, entries, ports, cells, &left)
 }

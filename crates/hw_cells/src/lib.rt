@@ -8,12 +8,13 @@
 //!     flat: a reads x.o, x.o reads o', o' reads w', w' reads i', i' reads x.i, x.i reads a
 //!
 //! What a cell's outputs reach of its inputs can be as many pairs as there are outputs times inputs, where the graph of what it is made
-//! of has some entries a port. So each cell gets a copy of that graph: its nodes are numbered behind the ports, each of the
-//! cell's outputs reads its node, and the node of each input reads the input. Where outputs are few, and the pairs of an output and an input
-//! at most as many as the graph has nodes, no copy is made: a search from each output gives the inputs that it reads, and they are added alone.
+//! of has some entries a port. So a cell with many pins gets a copy of that graph (`flat`): its nodes are numbered behind the ports, each of
+//! the cell's outputs reads its node, and the node of each input reads the input. Of a cell with few pins the inputs that its outputs read
+//! are found, and added alone (`pairs`). The cells of one component are gone through together (`parts`), and 64 of their outputs by one walk
+//! over the component's graph: each has a bit of its own in a word of each node (`together`).
 //!
-//! A component that many cells are made of is searched by each of them. So, where that makes its graph smaller, it is given a graph of its
-//! ports alone, once: each output reads the inputs that it reaches (`condense`).
+//! A component that many cells are made of is walked over for each 64 of them. So, where that makes its graph smaller, it is given a graph of
+//! its ports alone, once: each output reads the inputs that it reaches (`condense`).
 //!
 //! What the layer above uses: `flatten` gives a graph (`IsFlat`) whose first nodes are the ports; between them it reaches exactly what is
 //! reached at once and through cells, and a loop in it that starts with a port is one of ports, but for the nodes between. In the graph
@@ -24,6 +25,8 @@ mod cell;
 mod condensed;
 mod flat;
 mod pairs;
+mod parts;
+mod together;
 
 pub use cell::{Cell, Pin};
 pub use condensed::condense;

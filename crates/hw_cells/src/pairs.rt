@@ -1,51 +1,54 @@
-//! Entries between a cell's ports alone, with no copy of its graph.
-ghost use Rattle.std.specs.Prelude.{◌≡◌, ℕ, ◌<◌, ◌++◌, [], length, All, OnOk};
-ghost use Rattle.hw_graph.specs.Graph.{AreDistinct};
-ghost use Rattle.hw_graph.specs.Reach.{AreMarked};
-ghost use Rattle.hw_cells.specs.Cells.{IsFit};
-ghost use Rattle.hw_cells.specs.inside.Pairs.{AddsPairs, pair_entries};
+//! Entries between cells' ports alone, with no copy of the graph of what the cells are made of.
+ghost use Rattle.std.specs.Prelude.{◌≡◌, ◌<◌, ◌≤◌, ◌++◌, ℕ, All, List, length, map, IfOk, OnOk};
+ghost use Rattle.hw_graph.specs.Graph.{AreInRange, IsReadOrder};
+ghost use Rattle.hw_cells.specs.inside.Pairs.{AddsPairs, AddsStarts, IsWithin, pair_entries};
+ghost use Rattle.hw_cells.specs.inside.Words.{TellReached};
+ghost use Rattle.hw_cells.specs.declared.pairs.Start.{Start};
 
 use crate::cell::{Cell, Pin};
+use crate::together::{TOGETHER, reached_one_by_one, reached_together};
 use hw_bits::Memory;
-use hw_graph::{Entry, Reach};
+use hw_graph::{Entry, Groups};
 use std::alloc::Global;
 
-/// Marks these nodes.
-fn mark(marks: &mut [bool], nodes: &[usize])
-    requires none { AreMarked marks.old [] }
-    requires once { AreDistinct nodes.now }
-    requires in_range { All (λ node. node < length marks.old) nodes.now }
-    ensures { AreMarked marks.new nodes.now }
-{
-    for node in nodes {
-        marks[*node] = true;
-    }
+/// An output of a cell, with the inputs of the cell.
+#[derive(Clone, Copy, Debug)]
+pub struct Start<'a> {
+    pub output: Pin,
+    pub inputs: &'a [Pin],
 }
 
-/// Takes the marks of these nodes away.
-fn unmark(marks: &mut [bool], nodes: &[usize])
-    requires { AreMarked marks.old nodes.now }
-    ensures { AreMarked marks.new [] }
+/// Adds the cell's outputs, each with the cell's inputs, where it has any.
+pub fn add_starts<'a>(starts: &mut Vec<Start<'a>>, cell: &'a Cell) -> Result<(), Memory>
+    ensures { OnOk result (AddsStarts cell.now starts.old.items starts.new.items) }
 {
-    for node in nodes {
-        marks[*node] = false;
+    if cell.inputs.is_empty() {
+        return Ok(());
     }
+    for output in cell.outputs.as_slice() {
+        starts.push(Start {
+            output: *output,
+            inputs: &cell.inputs,
+        })?;
+    }
+    Ok(())
 }
 
-/// Adds that the output reads those of the inputs whose node is its own or has a mark.
+/// Adds that the start's output reads those of its inputs whose word has this bit.
 fn add_pairs_of(
     entries: &mut Vec<Entry>,
-    marks: &[bool],
-    output: Pin,
-    inputs: &[Pin],
+    words: &[u64],
+    bit: usize,
+    start: &Start,
 ) -> Result<(), Memory>
-    requires { All (λ input. input.node < length marks.now) inputs.now }
-    ensures { OnOk result (entries.new.items ≡ entries.old.items ++ pair_entries marks.now output inputs.now) }
+    requires bit { bit < 64 }
+    requires words { All (λ input. input.node < length words.now) start.now.inputs.now }
+    ensures { OnOk result (entries.new.items ≡ entries.old.items ++ pair_entries words.now bit start.now) }
 {
-    for input in inputs {
-        if input.node == output.node || marks[input.node] {
+    for input in start.inputs {
+        if words[input.node] >> bit & 1 == 1 {
             entries.push(Entry {
-                key: output.port,
+                key: start.output.port,
                 value: input.port,
             })?;
         }
@@ -53,21 +56,82 @@ fn add_pairs_of(
     Ok(())
 }
 
-/// Adds which of its inputs each of the cell's outputs reads. The search from an output takes time for what it reaches alone.
-pub fn add_pairs(alloc: Global, entries: &mut Vec<Entry>, cell: &Cell) -> Result<(), Memory>
-    requires { (ports : ℕ) × IsFit ports cell.now }
-    ensures { OnOk result (AddsPairs cell.now entries.old.items entries.new.items) }
+/// The nodes of the starts' outputs.
+fn output_nodes(alloc: Global, starts: &[Start]) -> Result<Vec<usize>, Memory>
+    ensures { IfOk result (λ nodes. nodes.items ≡ map (λ (start : Start). start.output.node) starts.now) }
 {
-    if cell.outputs.is_empty() || cell.inputs.is_empty() {
-        return Ok(());
+    let mut nodes = Vec::new(alloc);
+    for start in starts {
+        nodes.push(start.output.node)?;
     }
-    let mut reach = Reach::new(alloc, cell.reads)?;
-    let mut marks = vec![in alloc; false; cell.reads.len()]?;
-    for output in cell.outputs.as_slice() {
-        let reached = reach.from(alloc, cell.reads, output.node)?;
-        mark(marks.as_mut_slice(), reached.as_slice());
-        add_pairs_of(entries, marks.as_slice(), *output, cell.inputs.as_slice())?;
-        unmark(marks.as_mut_slice(), reached.as_slice());
+    Ok(nodes)
+}
+
+/// Adds which of its inputs the output of each of these starts reads: the words tell what the nodes of the outputs reach.
+fn add_pairs_by(entries: &mut Vec<Entry>, words: &[u64], starts: &[Start]) -> Result<(), Memory>
+    requires few { length starts.now ≤ 64 }
+    requires within { All (IsWithin (length words.now)) starts.now }
+    ensures { (reads : List (List ℕ)) → TellReached reads (map (λ (start : Start). start.output.node) starts.now) words.now
+        → OnOk result (AddsPairs reads starts.now entries.old.items entries.new.items) }
+{
+    for (bit, start) in starts.iter().enumerate() {
+        add_pairs_of(entries, words, bit, start)?;
+    }
+    Ok(())
+}
+
+/// Adds which of its inputs the output of each of these few starts reads through the graph.
+pub fn add_few_pairs(
+    alloc: Global,
+    entries: &mut Vec<Entry>,
+    reads: &Groups,
+    starts: &[Start],
+) -> Result<(), Memory>
+    requires in_range { AreInRange reads.now }
+    requires few { length starts.now ≤ 64 }
+    requires within { All (IsWithin (length reads.now)) starts.now }
+    ensures { OnOk result (AddsPairs reads.now starts.now entries.old.items entries.new.items) }
+{
+    let nodes = output_nodes(alloc, starts)?;
+    let words = reached_one_by_one(alloc, reads, &nodes)?;
+    add_pairs_by(entries, &words, starts)
+}
+
+/// Adds which of its inputs the output of each of these starts reads, of which there are no more than a word has bits.
+fn add_pairs_together(
+    alloc: Global,
+    entries: &mut Vec<Entry>,
+    reads: &Groups,
+    order: &[usize],
+    starts: &[Start],
+) -> Result<(), Memory>
+    requires in_range { AreInRange reads.now }
+    requires order { IsReadOrder reads.now order.now }
+    requires few { length starts.now ≤ 64 }
+    requires within { All (IsWithin (length reads.now)) starts.now }
+    ensures { OnOk result (AddsPairs reads.now starts.now entries.old.items entries.new.items) }
+{
+    let nodes = output_nodes(alloc, starts)?;
+    let words = reached_together(alloc, reads, order, &nodes)?;
+    add_pairs_by(entries, &words, starts)
+}
+
+/// Adds which of its inputs the output of each start reads through the graph, whose nodes come in the order after all that they
+/// read.
+pub fn add_pairs(
+    alloc: Global,
+    entries: &mut Vec<Entry>,
+    reads: &Groups,
+    order: &[usize],
+    starts: &[Start],
+) -> Result<(), Memory>
+    requires in_range { AreInRange reads.now }
+    requires order { IsReadOrder reads.now order.now }
+    requires within { All (IsWithin (length reads.now)) starts.now }
+    ensures { OnOk result (AddsPairs reads.now starts.now entries.old.items entries.new.items) }
+{
+    for some in starts.chunks(TOGETHER) {
+        add_pairs_together(alloc, entries, reads, order, some)?;
     }
     Ok(())
 }

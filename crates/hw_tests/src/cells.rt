@@ -1,6 +1,6 @@
-//! One graph of four ports and a cell's graph, and graphs of a cell's ports alone, told by hand.
+//! One graph of a holder's ports and its cells' graphs, and graphs of a cell's ports alone, told by hand.
 ghost use Rattle.std.specs.Prelude.{◌≡◌, ◌<◌, ◌≤◌, length, All, IfOk, IfSome, IsTrue};
-ghost use Rattle.hw_cells.specs.Cells.{IsFit, IsPinWithin};
+ghost use Rattle.hw_cells.specs.Cells.{AreOfParts, IsFit, IsPinWithin};
 ghost use Rattle.hw_graph.specs.Graph.{AreInRange};
 
 use crate::graphs::{Reads, all_reached, are_below, entries_of, graph};
@@ -13,84 +13,102 @@ use std::test::Fail;
 /// Pins of a cell: ports of its holder, and their nodes in its graph.
 type Pins = &'static [(usize, usize)];
 
+/// The outputs and inputs of a cell.
+type Sides = (Pins, Pins);
+
 /// So many ports has the holder.
 const PORTS: usize = 4;
 
-/// A cell and its graph.
-struct Part {
-    /// How many nodes the graph has, and what reads what.
+/// Cells of one component, what the holder's ports read beside them, and what they reach.
+struct Case {
+    /// How many nodes the component's graph has, and what reads what.
     nodes: usize,
     inside: Reads,
-    outputs: Pins,
-    inputs: Pins,
-}
-
-/// A cell, what its holder's ports read beside it, and what they reach.
-struct Case {
-    part: Part,
+    cells: &'static [Sides],
     /// What the ports read at once.
     beside: Reads,
     /// For each port those that it reaches.
     reached: [&'static [usize]; PORTS],
 }
 
-const CASES: [Case; 4] = [
+const CASES: [Case; 7] = [
     // One output and one input: a pair.
     Case {
-        part: Part {
-            nodes: 3,
-            inside: &[(0, 1), (1, 2)],
-            outputs: &[(0, 0)],
-            inputs: &[(2, 2)],
-        },
+        nodes: 3,
+        inside: &[(0, 1), (1, 2)],
+        cells: &[(&[(0, 0)], &[(2, 2)])],
         beside: &[(1, 0), (2, 3)],
         reached: [&[2, 3], &[0, 2, 3], &[3], &[]],
     },
     // An output that is an input's node, and one that reads nothing.
     Case {
-        part: Part {
-            nodes: 2,
-            inside: &[],
-            outputs: &[(0, 0), (1, 1)],
-            inputs: &[(2, 0)],
-        },
+        nodes: 2,
+        inside: &[],
+        cells: &[(&[(0, 0), (1, 1)], &[(2, 0)])],
         beside: &[],
         reached: [&[2], &[], &[], &[]],
     },
     // Two outputs that read two inputs by a node between: a copy, in which one port is on a loop.
     Case {
-        part: Part {
-            nodes: 3,
-            inside: &[(0, 1), (0, 2)],
-            outputs: &[(0, 0), (1, 0)],
-            inputs: &[(2, 1), (3, 2)],
-        },
+        nodes: 3,
+        inside: &[(0, 1), (0, 2)],
+        cells: &[(&[(0, 0), (1, 0)], &[(2, 1), (3, 2)])],
         beside: &[(2, 1)],
         reached: [&[1, 2, 3], &[1, 2, 3], &[1, 2, 3], &[]],
     },
     // Of a staircase the lower output reads one input, and the upper one both.
     Case {
-        part: Part {
-            nodes: 3,
-            inside: &[(1, 0), (1, 2)],
-            outputs: &[(0, 0), (1, 1)],
-            inputs: &[(2, 0), (3, 2)],
-        },
+        nodes: 3,
+        inside: &[(1, 0), (1, 2)],
+        cells: &[(&[(0, 0), (1, 1)], &[(2, 0), (3, 2)])],
         beside: &[(3, 0)],
         reached: [&[2], &[0, 2, 3], &[], &[0, 2]],
     },
+    // Two cells of one component: each reads its own input, and one of them by another output.
+    Case {
+        nodes: 3,
+        inside: &[(0, 1), (2, 1)],
+        cells: &[(&[(0, 0)], &[(1, 1)]), (&[(2, 2)], &[(3, 1)])],
+        beside: &[(1, 2)],
+        reached: [&[1, 2, 3], &[2, 3], &[3], &[]],
+    },
+    // One of the cells is copied, and the other gets a pair.
+    Case {
+        nodes: 2,
+        inside: &[(0, 1)],
+        cells: &[
+            (&[(0, 0), (1, 0), (2, 0)], &[(3, 1)]),
+            (&[(3, 0)], &[(0, 1)]),
+        ],
+        beside: &[],
+        reached: [&[0, 3], &[0, 3], &[0, 3], &[0, 3]],
+    },
+    // A component with a loop.
+    Case {
+        nodes: 3,
+        inside: &[(0, 1), (1, 0), (1, 2)],
+        cells: &[(&[(0, 0)], &[(1, 2)]), (&[(2, 2)], &[(3, 1)])],
+        beside: &[],
+        reached: [&[1], &[], &[], &[]],
+    },
 ];
 
-/// A cell whose ports are the first of its nodes, two inputs and then two outputs, and for each port those that it reaches in a graph
-/// of the ports alone; nothing where that graph is no smaller.
+/// A component: how many nodes its graph has, what reads what, and its ports.
+struct Part {
+    nodes: usize,
+    inside: Reads,
+    sides: Sides,
+}
+
+/// A cell, whose inputs are ports 0 and 1 and whose outputs come after them, and for each port those that it reaches in a graph of
+/// the ports alone; nothing where the cell's own graph is smaller.
 const ALONE: [(Part, Option<&[&[usize]]>); 4] = [
     // Ways from each output to an input of its own, through nodes between.
     (
         Part {
             nodes: 6,
             inside: &[(2, 4), (4, 1), (3, 5), (5, 0)],
-            outputs: &[(2, 2), (3, 3)],
-            inputs: &[(0, 0), (1, 1)],
+            sides: (&[(2, 2), (3, 3)], &[(0, 0), (1, 1)]),
         },
         Some(&[&[], &[], &[1], &[0]]),
     ),
@@ -99,8 +117,7 @@ const ALONE: [(Part, Option<&[&[usize]]>); 4] = [
         Part {
             nodes: 4,
             inside: &[(0, 1), (2, 0)],
-            outputs: &[(2, 2), (3, 3)],
-            inputs: &[(0, 0), (1, 1)],
+            sides: (&[(2, 2), (3, 3)], &[(0, 0), (1, 1)]),
         },
         Some(&[&[], &[], &[0, 1], &[]]),
     ),
@@ -109,20 +126,18 @@ const ALONE: [(Part, Option<&[&[usize]]>); 4] = [
         Part {
             nodes: 5,
             inside: &[(2, 4), (4, 0), (0, 1)],
-            outputs: &[(2, 2), (3, 4)],
-            inputs: &[(0, 0), (1, 1)],
+            sides: (&[(2, 2), (3, 4)], &[(0, 0), (1, 1)]),
         },
         None,
     ),
-    // More ports than nodes.
+    // Fewer nodes than ports: a port that has none reaches nothing.
     (
         Part {
             nodes: 3,
-            inside: &[(2, 0), (2, 1)],
-            outputs: &[(2, 2), (3, 0)],
-            inputs: &[(0, 0), (1, 1)],
+            inside: &[(2, 1), (1, 0)],
+            sides: (&[(2, 2)], &[(0, 0), (1, 1)]),
         },
-        None,
+        Some(&[&[], &[], &[0, 1], &[]]),
     ),
 ];
 
@@ -138,42 +153,101 @@ fn pins_of(alloc: Global, pins: Pins) -> Result<Vec<Pin>, Memory> {
     Ok(found)
 }
 
-/// Whether the pins are of these ports and of a graph with so many nodes.
-fn are_within(pins: &[Pin], nodes: usize) -> bool
-    ensures { IsTrue result → All (IsPinWithin PORTS nodes) pins.now }
+/// Whether the pins are of so many ports and of a graph with so many nodes.
+fn are_within(pins: &[Pin], ports: usize, nodes: usize) -> bool
+    ensures { IsTrue result → All (IsPinWithin ports nodes) pins.now }
 {
-    pins.iter().all(|pin| pin.port < PORTS && pin.node < nodes)
+    pins.iter().all(|pin| pin.port < ports && pin.node < nodes)
 }
 
-/// The cell with this graph.
-fn cell_of<'a>(alloc: Global, part: &Part, inside: &'a Groups) -> Result<Cell<'a>, Memory>
-    requires in_range { AreInRange inside.now }
-    requires nodes { length inside.now ≡ part.now.nodes }
-    ensures { IfOk result (IsFit PORTS) }
+/// A cell of a holder with so many ports, with this graph and these pins.
+fn cell_of<'a>(
+    ports: usize,
+    inside: &'a Groups,
+    outputs: Vec<Pin>,
+    inputs: Vec<Pin>,
+) -> Result<Cell<'a>, Memory>
+    requires { AreInRange inside.now }
+    ensures fit { IfOk result (IsFit ports) }
+    ensures graph { IfOk result (λ cell. cell.reads.now ≡ inside.now) }
 {
-    let outputs = pins_of(alloc, part.outputs)?;
-    let inputs = pins_of(alloc, part.inputs)?;
-    if !are_within(&outputs, part.nodes) || !are_within(&inputs, part.nodes) {
+    if !are_within(&outputs, ports, inside.len()) || !are_within(&inputs, ports, inside.len()) {
         return Err(Memory);
     }
     Ok(Cell {
+        part: 0,
         reads: inside,
         outputs,
         inputs,
     })
 }
 
+/// Cells with this graph and these pins.
+fn cells_of<'a>(alloc: Global, inside: &'a Groups, all: &[Sides]) -> Result<Vec<Cell<'a>>, Memory>
+    requires { AreInRange inside.now }
+    ensures fit { IfOk result (λ cells. All (IsFit PORTS) cells.items) }
+    ensures parts { IfOk result (λ cells. AreOfParts cells.items) }
+{
+    let mut cells = Vec::new(alloc);
+    for (outputs, inputs) in all {
+        let (outputs, inputs) = (pins_of(alloc, outputs)?, pins_of(alloc, inputs)?);
+        cells.push(cell_of(PORTS, inside, outputs, inputs)?)?;
+    }
+    Ok(cells)
+}
+
 /// The graph of a case.
 fn flat(alloc: Global, case: &Case) -> Result<Groups, Memory>
     ensures in_range { IfOk result AreInRange }
 {
-    let inside = graph(alloc, case.part.inside, case.part.nodes)?;
+    let inside = graph(alloc, case.inside, case.nodes)?;
     let entries = entries_of(alloc, case.beside)?;
     if !are_below(&entries, PORTS) {
         return Err(Memory);
     }
-    let cells = [cell_of(alloc, &case.part, &inside)?];
+    let cells = cells_of(alloc, &inside, case.cells)?;
     flatten(alloc, entries, PORTS, &cells)
+}
+
+/// More cells than are searched together.
+const MANY: usize = 70;
+
+/// So many ports has the holder of many cells, two of each.
+const MANY_PORTS: usize = 140;
+
+/// A pin of this port and node, alone.
+fn pin(alloc: Global, port: usize, node: usize) -> Result<Vec<Pin>, Memory> {
+    let mut pins = Vec::new(alloc);
+    pins.push(Pin { port, node })?;
+    Ok(pins)
+}
+
+/// Cells of a component, each with another output: cell k has the port 2 k at node k, and the port 2 k + 1 at the node in the middle.
+fn many_cells<'a>(alloc: Global, inside: &'a Groups) -> Result<Vec<Cell<'a>>, Memory>
+    requires { AreInRange inside.now }
+    ensures fit { IfOk result (λ cells. All (IsFit MANY_PORTS) cells.items) }
+    ensures parts { IfOk result (λ cells. AreOfParts cells.items) }
+{
+    let mut cells = Vec::new(alloc);
+    for number in 0..MANY {
+        let output = pin(alloc, 2 * number, number)?;
+        let input = pin(alloc, 2 * number + 1, MANY / 2)?;
+        cells.push(cell_of(MANY_PORTS, inside, output, input)?)?;
+    }
+    Ok(cells)
+}
+
+/// The graph of these cells, where each node of their component reads the next.
+fn many_flat(alloc: Global) -> Result<Groups, Memory>
+    ensures in_range { IfOk result AreInRange }
+{
+    let mut chain = Vec::new(alloc);
+    for node in 1..MANY {
+        chain.push((node - 1, node))?;
+    }
+    let inside = graph(alloc, &chain, MANY)?;
+    let cells = many_cells(alloc, &inside)?;
+    flatten(alloc, Vec::new(alloc), MANY_PORTS, &cells)
 }
 
 /// Whether outputs stand from port 2 on, and inputs before it.
@@ -189,7 +263,13 @@ fn alone(alloc: Global, part: &Part) -> Result<Option<Groups>, Memory>
     ensures { IfOk result (λ kept. IfSome kept AreInRange) }
 {
     let inside = graph(alloc, part.inside, part.nodes)?;
-    let cell = cell_of(alloc, part, &inside)?;
+    let (outputs, inputs) = part.sides;
+    let cell = cell_of(
+        PORTS,
+        &inside,
+        pins_of(alloc, outputs)?,
+        pins_of(alloc, inputs)?,
+    )?;
     if !are_apart(&cell.outputs, &cell.inputs) {
         return Err(Memory);
     }
@@ -229,6 +309,24 @@ fn ports_reach_what_they_read_through_cells(rt: HostRuntime) -> Result<(), Fail>
             found.retain(|other| *other < PORTS);
             found.sort()?;
             assert_eq!(rt; found.as_slice(), *told, "case {number}, from port {port}");
+        }
+    }
+    Ok(())
+}
+
+#[test]
+fn of_many_cells_each_reads_by_its_own_output(rt: HostRuntime) -> Result<(), Fail> {
+    let graph = many_flat(rt.alloc())?;
+    let all = all_reached(rt.alloc(), &graph)?;
+    for number in 0..MANY {
+        let output = all.get(2 * number).ok_or("no such port")?;
+        let input = all.get(2 * number + 1).ok_or("no such port")?;
+        let read = 2 * number + 1;
+        assert!(rt; input.is_empty(), "cell {number}");
+        if number <= MANY / 2 {
+            assert_eq!(rt; output.as_slice(), [read].as_slice(), "cell {number}");
+        } else {
+            assert!(rt; output.is_empty(), "cell {number}");
         }
     }
     Ok(())

@@ -3,7 +3,8 @@
 //! Only ports that the component's text names are in its graph. A port of an instance that is not named reads nothing or is read
 //! by nothing, so it lies on no way between the component's own ports, and on no loop; and an instance costs nothing unless it is
 //! named. Where the name of an instance has a dot, a full name can be that of ports of two instances, so all of its ports are in.
-ghost use Rattle.std.specs.Prelude.{◌≡◌, ◌↔◌, ◌<◌, Some, length, option_map, slice_get, All, Contains, IfOk, IsTrue, OnOk};
+ghost use Rattle.std.specs.Prelude.{◌≡◌, ◌↔◌, ◌<◌, ℕ, Some, length, option_map, slice_get, All, Contains, IfOk, IsTrue, OnOk};
+ghost use Rattle.hw_cells.specs.Cells.{AreOfParts};
 ghost use Rattle.hw_names.specs.Name.{AreDistinct, HasNoDot, Text, dotted};
 ghost use Rattle.fil_check.specs.inside.CellPins.{AddsInstances, AreInstancePorts, HasPins, IsPortOfInstance, TellsPin};
 ghost use Rattle.fil_check.specs.inside.Cells.{AreCells, IsInsideAt, NumbersDotted};
@@ -115,6 +116,13 @@ fn instance_ports(alloc: Global, ports: &Ports) -> Result<Vec<Entry>, Memory>
     ports_by_names(alloc, ports)
 }
 
+/// The number of the component that the instance of this number is made of, if it is made of one.
+fn part_at(parts: &[Option<usize>], instance: usize) -> Option<usize>
+    ensures { (part : ℕ) → (result ≡ Some part) ↔ (slice_get parts.now instance ≡ Some (Some part)) }
+{
+    *parts.get(instance)?
+}
+
 /// What is known of the component that the instance of this number is made of, if it is made of one.
 fn inside_at<'w>(
     parts: &[Option<usize>],
@@ -123,8 +131,7 @@ fn inside_at<'w>(
 ) -> Option<&'w Inside>
     ensures { (inside : Inside) → (option_map (λ found. found.now) result ≡ Some inside) ↔ IsInsideAt parts.now insides.now instance inside }
 {
-    let part = (*parts.get(instance)?)?;
-    insides.get(part)
+    insides.get(part_at(parts, instance)?)
 }
 
 /// Gives each port of an instance, by the names of what it is made of, a number.
@@ -202,19 +209,23 @@ fn pin_at(
     Ok(cell_pin(inside, &name[before..], node))
 }
 
-/// The instance of this number as a cell, with those of its ports that are these nodes.
+/// The instance of this number as a cell, with those of its ports that are these nodes. It is made of the component of number
+/// `part`, of which `inside` is known.
 fn cell_of<'w>(
-    alloc: Global,
     ports: &Ports,
     instance: usize,
+    part: usize,
     inside: &'w Inside,
     nodes: &[usize],
 ) -> Result<Cell<'w>, Memory>
     requires instance { instance < length ports.now.instances }
     requires nodes { All (IsPortOfInstance ports.now instance) nodes.now }
-    ensures { IfOk result (HasPins ports.now instance inside.now nodes.now) }
+    ensures pins { IfOk result (HasPins ports.now instance inside.now nodes.now) }
+    ensures graph { IfOk result (λ cell. (cell.part ≡ part) × (cell.reads.now ≡ inside.now.reads)) }
 {
+    let alloc = ports.alloc();
     let mut cell = Cell {
+        part,
         reads: &inside.reads,
         outputs: Vec::new(alloc),
         inputs: Vec::new(alloc),
@@ -240,15 +251,18 @@ pub fn cells_of<'w>(
     parts: &[Option<usize>],
     insides: &'w [Inside],
 ) -> Result<Vec<Cell<'w>>, Memory>
-    ensures { IfOk result (λ cells. AreCells parts.now insides.now ports.now cells.items) }
+    ensures cells { IfOk result (λ cells. AreCells parts.now insides.now ports.now cells.items) }
+    ensures parts { IfOk result (λ cells. AreOfParts cells.items) }
 {
     let count = ports.instances();
     let entries = instance_ports(alloc, ports)?;
     let nodes = gather(alloc, entries.as_slice(), count)?;
     let mut cells = Vec::new(alloc);
     for instance in 0..count {
-        if let Some(inside) = inside_at(parts, insides, instance) {
-            cells.push(cell_of(alloc, ports, instance, inside, nodes.get(instance))?)?;
+        if let Some(part) = part_at(parts, instance) {
+            if let Some(inside) = insides.get(part) {
+                cells.push(cell_of(ports, instance, part, inside, nodes.get(instance))?)?;
+            }
         }
     }
     Ok(cells)

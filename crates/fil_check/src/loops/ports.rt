@@ -160,6 +160,11 @@ impl<'a> Ports<'a> {
         }
     }
 
+    /// What the ports are allocated with.
+    pub fn alloc(&self) -> Global {
+        self.alloc
+    }
+
     /// The number of the port of this full name; a new one goes last.
     pub fn named(&mut self, name: &[u8]) -> Result<usize, Memory>
         ensures number { IfOk result (λ n. slice_get self.new.names n ≡ Some name.now) }
@@ -267,6 +272,7 @@ impl<'a> Ports<'a> {
         }
         Ok(names)
     }
+
     /// Names by number, of which the order is that of the full names. They are short, unless a text has a dot, as none has
     /// that was read.
     pub fn names_in_order(&self) -> Result<Names, Memory>

@@ -35,6 +35,7 @@ fn graph_of_ports(alloc: Global, inside: &Inside) -> Result<Option<Groups>, Memo
     let ports = inside.nodes.len();
     let nodes = inside.nodes.as_slice();
     let cell = Cell {
+        part: 0,
         reads: &inside.reads,
         outputs: pins_between(alloc, nodes, inside.inputs, ports)?,
         inputs: pins_between(alloc, nodes, 0, inside.inputs)?,

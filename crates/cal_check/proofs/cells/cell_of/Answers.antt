@@ -6,6 +6,7 @@ use Rattle.cal_check.proofs.cells.cell_of.Goals as goal
 
 pub loop-port-init : goal.loop-port-init
 loop-port-init c = record {
+  part = refl;
   reads = refl;
   both = λ part at. record {
     outputs = no_pins (IsOutputPin c.args.graph.now part c.args.inside.now) c.new.result.items c.new.ensures.items;
@@ -31,6 +32,7 @@ loop-port-preserved c =
       | in-Some+then-found+in_ok-push w ↦
           let pin = w.in-Some.found.pin in
           rw (w.cell-is, w.in_ok-push.ensures.items) (record {
+            part = so_far.part;
             reads = so_far.reads;
             both = λ part at.
                 let told = subst (TellsPin g part inside port) w.in-Some.is (c.cell_pin.ensures part at) in
@@ -40,6 +42,7 @@ loop-port-preserved c =
       | in-Some+else-found+in_ok-push-2 w ↦
           let pin = w.in-Some.found.pin in
           rw (w.cell-is, w.in_ok-push-2.ensures.items) (record {
+            part = so_far.part;
             reads = so_far.reads;
             both = λ part at.
                 let told = subst (TellsPin g part inside port) w.in-Some.is (c.cell_pin.ensures part at) in
@@ -48,6 +51,7 @@ loop-port-preserved c =
           })
       | in_default w ↦
           rw w.cell-is (record {
+            part = so_far.part;
             reads = so_far.reads;
             both = λ part at.
                 let told = subst (TellsPin g part inside port) w.in_default.is (c.cell_pin.ensures part at) in
@@ -55,9 +59,12 @@ loop-port-preserved c =
           })
     ]
 
-pub returns : goal.returns
-returns c = λ part at.
+pub returns-clause-pins : goal.returns-clause-pins
+returns-clause-pins c = λ part at.
     let ports = c.args.ports.now in
     let cell = c.loop-port.cell in
     let both = both_all c.args.graph.now part c.args.inside.now ports c.loop-port.port-index cell.outputs.items cell.inputs.items c.loop-port-test.false (c.loop-port.invariant.both part at) in
     record { reads = c.loop-port.invariant.reads; outputs = both.outputs; inputs = both.inputs }
+
+pub returns-clause-graph : goal.returns-clause-graph
+returns-clause-graph c = (c.loop-port.invariant.part, c.loop-port.invariant.reads)

@@ -7,6 +7,7 @@ use Rattle.cal_check.proofs.cells.cell_of.Given as goal
 -- the pins of the ports so far
 abbrev pub invariant-loop-port : goal.invariant-loop-port
 invariant-loop-port l = record {
+  part : l.cell.part ≡ l.part;
   reads : l.cell.reads.now ≡ l.inside.reads;
   both : (c : Component) → slice_get (design_at l.place) l.part ≡ Some c → HasBoth l.graph c l.inside (take l.port-index l.ports) l.cell.outputs.items l.cell.inputs.items;
 }

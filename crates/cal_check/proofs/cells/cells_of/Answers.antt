@@ -1,11 +1,13 @@
 use Rattle.std.proofs.Common.{rules, ◌≡◌, ℕ, ◌<◌, List, All, Some, length, option_and_then, arith, ap, subst, sym, ◌∙◌}
 use Rattle.std.proofs.lemmas.Option.{slice_get-get_or}
+use Rattle.hw_cells.proofs.GraphLemmas.{of_parts}
 use Rattle.hw_graph.specs.Groups.{IsGathered}
 use Rattle.hw_graph.specs.declared.groups.Entry.{Entry}
 use Rattle.cal_check.specs.Around.{comp_at, design_at}
 use Rattle.cal_check.specs.Mades.{made_component}
 use Rattle.cal_check.proofs.CellLemmas.{are_cells, cells_more, cells_none, cells_same, made_cell, made_known, made_part, made_within, none_made}
 use Rattle.cal_check.proofs.CellPinLemmas.{nodes_within, ports_gathered, ports_within}
+use Rattle.cal_check.proofs.PartGraphLemmas.{graph_in, graphs_more, graphs_none, has_graph}
 use Rattle.cal_check.proofs.WiredCellLemmas.{cells_counted}
 use Rattle.cal_check.proofs.cells.cells_of.Goals.{in-Some+in-Some-insides+in_ok-cell_of+in_ok-push, in-Some+in_default-insides, in_default}
 use Rattle.cal_check.proofs.cells.cells_of.Goals as goal
@@ -21,7 +23,11 @@ gather-requires-clause-in_range c =
     subst (λ (l : List Entry). All (λ (e : Entry). e.key < c.len-count.result) l) (sym c.as_slice.ensures.value) counted
 
 pub loop-number-init : goal.loop-number-init
-loop-number-init c = rw c.new-cells.ensures.items (cells_none (design_at c.args.place.now) (comp_at c.args.place.now) c.args.graph.now)
+loop-number-init c =
+    rw c.new-cells.ensures.items (record {
+      cells = cells_none (design_at c.args.place.now) (comp_at c.args.place.now) c.args.graph.now;
+      graphs = graphs_none c.args.insides.now;
+    })
 
 pub get-requires : goal.get-requires
 get-requires c = omega (arith, c.in_ok-nodes.ensures.all, c.loop-number-test.true)
@@ -96,9 +102,12 @@ loop-number-preserved c =
           let gathered = subst (λ (l : List Entry). IsGathered l count nodes) c.as_slice.ensures.value c.in_ok-nodes.ensures in
           let ports = w.get.result.now in
           let are = ports_gathered d own g entries c.in_ok-entries.ensures count nodes gathered number c.loop-number-test.true ports w.get.ensures in
-          let pins = w.in_ok-cell_of.ensures part.0 part.1 in
+          let pins = w.in_ok-cell_of.ensures.pins part.0 part.1 in
           let cell = made_cell d p.number own here number less made of m some g insides c.requires.parts _ at ports are _ pins in
-          rw (w.cells-is, w.in_ok-push.ensures.items) (cells_more d own g number cells part.0 _ cell so_far)
+          rw (w.cells-is, w.in_ok-push.ensures.items) (record {
+            cells = cells_more d own g number cells part.0 _ cell so_far.cells;
+            graphs = graphs_more insides cells _ (has_graph insides m _ at w.in_ok-cell_of.field-0 w.in_ok-cell_of.ensures.graph) so_far.graphs;
+          })
       | in-Some+in_default-insides w ↦
           let m = w.in-Some.part in
           let some : option_and_then made_component made ≡ Some m = sym c.component_of.ensures ∙ w.in-Some.is in
@@ -108,12 +117,18 @@ loop-number-preserved c =
           let at = slice_get-get_or insides m r lt ∙ ap Some (sym w.index-insides-part.is ∙ w.in_default-insides.is) in
           absurd (made_known d p.number own here number less made of m some insides c.requires.parts at)
       | in_default w ↦
-          rw w.cells-is (cells_same d own g number cells (none_made d p.number own here number less made of (sym c.component_of.ensures ∙ w.in_default.is)) so_far)
+          rw w.cells-is (record {
+            cells = cells_same d own g number cells (none_made d p.number own here number less made of (sym c.component_of.ensures ∙ w.in_default.is)) so_far.cells;
+            graphs = so_far.graphs;
+          })
     ]
 
-pub returns : goal.returns
-returns c =
+pub returns-clause-cells : goal.returns-clause-cells
+returns-clause-cells c =
     let p = c.args.place.now in
     let comp = c.comp.result.now in
     are_cells (design_at p) (comp_at p) c.args.graph.now c.requires.kept p.number c.comp.ensures.at c.loop-number.cells.items c.loop-number.number
-    (omega (arith, cells_counted p comp c.comp.ensures.comp, c.loop-number-test.false, c.len-count.ensures, comp.cells.ok.0)) c.loop-number.invariant
+    (omega (arith, cells_counted p comp c.comp.ensures.comp, c.loop-number-test.false, c.len-count.ensures, comp.cells.ok.0)) c.loop-number.invariant.cells
+
+pub returns-clause-parts : goal.returns-clause-parts
+returns-clause-parts c = of_parts (graph_in c.args.insides.now) c.loop-number.cells.items c.loop-number.invariant.graphs

@@ -1,6 +1,6 @@
 use Rattle.std.proofs.Common.{◌≡◌, ◌<◌, ℕ, List, length, sym, subst, subst₂}
 use Rattle.std.specs.Prelude.{All}
-use Rattle.hw_cells.specs.Cells.{IsFit, IsFlat}
+use Rattle.hw_cells.specs.Cells.{AreOfParts, IsFit, IsFlat}
 use Rattle.hw_cells.specs.declared.cell.Cell.{Cell}
 use Rattle.hw_graph.specs.declared.groups.Entry.{Entry}
 use Rattle.hw_names.specs.Name.{AreDistinct}
@@ -25,16 +25,19 @@ flatten-requires-clause-entries c =
 
 pub flatten-requires-clause-cells : goal.flatten-requires-clause-cells
 flatten-requires-clause-cells c =
-    subst₂ (λ (n : ℕ) (l : List Cell). All (IsFit n) l) (sym c.len-count.ensures.len) (sym c.deref.ensures.value) c.in_ok-cells.ensures.fit
+    subst₂ (λ (n : ℕ) (l : List Cell). All (IsFit n) l) (sym c.len-count.ensures.len) (sym c.deref.ensures.value) c.in_ok-cells.ensures.cells.fit
+
+pub flatten-requires-clause-parts : goal.flatten-requires-clause-parts
+flatten-requires-clause-parts c = subst AreOfParts (sym c.deref.ensures.value) c.in_ok-cells.ensures.parts
 
 pub least_loop-requires-clause-graph : goal.least_loop-requires-clause-graph
 least_loop-requires-clause-graph c =
-    leads c.args.place.now c.requires.kept c.in_ok-graph.graph c.len-count.ensures.distinct c.in_ok-graph.ensures.reads c.in_ok-cells.cells.items c.deref.result.now c.in_ok-cells.ensures c.len-count.result c.in_ok-reads.reads c.len-count.ensures.len c.deref.ensures.value
+    leads c.args.place.now c.requires.kept c.in_ok-graph.graph c.len-count.ensures.distinct c.in_ok-graph.ensures.reads c.in_ok-cells.cells.items c.deref.result.now c.in_ok-cells.ensures.cells c.len-count.result c.in_ok-reads.reads c.len-count.ensures.len c.deref.ensures.value
     c.in_ok-reads.ensures.flat
 
 pub part_inside-requires-clause-graph : goal.part_inside-requires-clause-graph
 part_inside-requires-clause-graph c =
-    leads c.args.place.now c.requires.kept c.in_ok-graph.graph c.len-count.ensures.distinct c.in_ok-graph.ensures.reads c.in_ok-cells.cells.items c.deref.result.now c.in_ok-cells.ensures c.len-count.result c.in_ok-reads.reads c.len-count.ensures.len c.deref.ensures.value
+    leads c.args.place.now c.requires.kept c.in_ok-graph.graph c.len-count.ensures.distinct c.in_ok-graph.ensures.reads c.in_ok-cells.cells.items c.deref.result.now c.in_ok-cells.ensures.cells c.len-count.result c.in_ok-reads.reads c.len-count.ensures.len c.deref.ensures.value
     c.in_ok-reads.ensures.flat
 
 pub returns-clause-inside : goal.returns-clause-inside

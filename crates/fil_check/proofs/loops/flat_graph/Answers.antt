@@ -1,5 +1,5 @@
 use Rattle.std.proofs.Common.{ℕ, List, Option, length, sym, subst, subst₂}
-use Rattle.hw_cells.specs.Cells.{IsFlat}
+use Rattle.hw_cells.specs.Cells.{AreOfParts, IsFlat}
 use Rattle.hw_cells.specs.declared.cell.Cell.{Cell}
 use Rattle.fil_ast.specs.Tree.{Component, component_tree}
 use Rattle.fil_ast.specs.Wires.{whole_scope}
@@ -13,7 +13,10 @@ use Rattle.fil_check.proofs.loops.flat_graph.Goals as goal
 
 pub flatten-requires-clause-cells : goal.flatten-requires-clause-cells
 flatten-requires-clause-cells c =
-    fit_cells c.deref-2.result.now c.args.insides.now c.number_dotted.new.graph.ports c.in_ok-cells.cells.items c.deref-3.result.now c.len-count.result c.in_ok-cells.ensures (sym c.deref-3.ensures.value) (sym c.len-count.ensures.len)
+    fit_cells c.deref-2.result.now c.args.insides.now c.number_dotted.new.graph.ports c.in_ok-cells.cells.items c.deref-3.result.now c.len-count.result c.in_ok-cells.ensures.cells (sym c.deref-3.ensures.value) (sym c.len-count.ensures.len)
+
+pub flatten-requires-clause-parts : goal.flatten-requires-clause-parts
+flatten-requires-clause-parts c = subst AreOfParts (sym c.deref-3.ensures.value) c.in_ok-cells.ensures.parts
 
 pub returns-clause-leads : goal.returns-clause-leads
 returns-clause-leads c comps place shows keeps own_keeps =
@@ -25,7 +28,7 @@ returns-clause-leads c comps place shows keeps own_keeps =
     let parts = c.in_ok-parts.parts.items in
     let cells = c.in_ok-cells.cells.items in
     let dots : NumbersDotted parts c.args.insides.now g.ports = subst (λ (l : List (Option ℕ)). NumbersDotted l c.args.insides.now g.ports) c.deref.ensures.value c.in_ok-number_dotted.ensures.numbered in
-    let are : AreCells parts c.args.insides.now g.ports cells = subst (λ (l : List (Option ℕ)). AreCells l c.args.insides.now g.ports cells) c.deref-2.ensures.value c.in_ok-cells.ensures in
+    let are : AreCells parts c.args.insides.now g.ports cells = subst (λ (l : List (Option ℕ)). AreCells l c.args.insides.now g.ports cells) c.deref-2.ensures.value c.in_ok-cells.ensures.cells in
     let flat : IsFlat g.entries.items (length g.ports.names) cells c.in_ok-reads.reads = subst₂ (λ (n : ℕ) (l : List Cell). IsFlat g.entries.items n l c.in_ok-reads.reads) c.len-count.ensures.len c.deref-3.ensures.value c.in_ok-reads.ensures.flat in
     leads_as_read comps tree names c.args.place.now.earlier.now comp c.args.place.now.tables.now place c.in_ok-parts.ensures.distinct keeps own_keeps parts (c.in_ok-parts.ensures.parts comps place) c.args.insides.now shows g
     (instances_kept NoPair (whole_scope comps tree) c.in_ok-graph.field-0.graph g adds (c.in_ok-graph.ensures.instances comps place keeps)) (own_kept comps tree c.in_ok-graph.field-0.graph g adds (c.in_ok-graph.ensures.reads comps place keeps)) c.len-count.ensures.distinct dots cells are

@@ -33,6 +33,7 @@ loop-node-preserved c =
           let found = subst (TellsPin inside name node) w.in-Some.is told in
           let input = subst (λ (side : Bool). TellsPin inside name node (Some (record { pin = pin; is_input = side }))) w.if-found.true found in
           rw (w.cell-is, w.in_ok-push.ensures.items) (record {
+            part = so_far.part;
             reads = so_far.reads;
             both = λ inst at_inst.
                 both_of inside ports own inst _ _ _ (same_Some own inst (sym at_own ∙ at_inst)) (both_on inside ports own nodes k outputs _ less (both_input inside ports own _ outputs inputs before node name at pin input));
@@ -42,6 +43,7 @@ loop-node-preserved c =
           let found = subst (TellsPin inside name node) w.in-Some.is told in
           let output = subst (λ (side : Bool). TellsPin inside name node (Some (record { pin = pin; is_input = side }))) w.if-found.false found in
           rw (w.cell-is, w.in_ok-push-2.ensures.items) (record {
+            part = so_far.part;
             reads = so_far.reads;
             both = λ inst at_inst.
                 both_of inside ports own inst _ _ _ (same_Some own inst (sym at_own ∙ at_inst)) (both_on inside ports own nodes k _ inputs less (both_output inside ports own _ outputs inputs before node name at pin output));
@@ -49,13 +51,14 @@ loop-node-preserved c =
       | in_default w ↦
           let none = subst (TellsPin inside name node) w.in_default.is told in
           rw w.cell-is (record {
+            part = so_far.part;
             reads = so_far.reads;
             both = λ inst at_inst. both_of inside ports own inst _ _ _ (same_Some own inst (sym at_own ∙ at_inst)) (both_on inside ports own nodes k outputs inputs less (both_none inside ports own _ outputs inputs before node name at none));
           })
     ]
 
-pub returns : goal.returns
-returns c =
+pub returns-clause-pins : goal.returns-clause-pins
+returns-clause-pins c =
     let instances = c.args.ports.now.instances in
     let nodes = c.args.nodes.now in
     let cell = c.loop-node.cell in
