@@ -379,9 +379,16 @@ def fil_long_parts_loop(count):
 
 
 def cal_wide_parts_loop(count):
-    """So many cells, one behind another, of a component with as many outputs, each the sum of the inputs up to it, beside a loop."""
+    """So many cells, one behind another, of a component with as many inputs and outputs, each read by another output, beside a loop."""
     cells = "l = std_wire(1);\n" + "".join(f"x{i} = wide();\n" for i in range(count))
-    return cal(wide_cal(count) + component(cells, "l.in = l.out;\n" + "".join(f"x{i}.a0 = x{i - 1}.o{count - 1};\n" for i in range(1, count))))
+    return cal(wide_cal(count) + component(cells, "l.in = l.out;\n" + "".join(f"x{i}.a0 = x{i - 1}.o{i - 1};\n" for i in range(1, count))))
+
+
+def cal_wide_holders_loop(count):
+    """So many components with a cell each of a component with as many inputs and outputs, before one with a loop."""
+    holders = "".join(component("x = wide();", f"x.a0 = a; o = x.o{i};", name=f"h{i}", face="(a: 1) -> (o: 1)") for i in range(count))
+    cells = "".join(f"y{i} = h{i}();\n" for i in range(count))
+    return cal(wide_cal(count) + holders + component(f"l = std_wire(1);\n{cells}", "l.in = l.out;\n"))
 
 
 def lead(count):
