@@ -39,6 +39,7 @@ use Rattle.cal_check.proofs.GraphLemmas.{exists_at}
 use Rattle.cal_check.proofs.KeyLemmas.{same_node, same_pin}
 use Rattle.cal_check.proofs.NestLemmas.{part_from_cell}
 use Rattle.cal_check.proofs.PortLemmas.{distinct_first}
+use Rattle.cal_check.proofs.ToldLemmas.{told_rightly}
 
 -- ---- a port's place among the ports of its component
 
@@ -174,6 +175,7 @@ module _ (design : Design) (c : Component) (g : WireGraph) where
   cell_fits : (number : ℕ) (part : Component) (cell : Cell) → IsCellAt design c g number part cell → IsFit (length g.ports.keys) cell
   cell_fits number part cell is = record {
     in_range = subst AreInRange (sym is.pins.reads) is.shows.in_range;
+    told = told_rightly is.inside.reads cell.reads.now is.inside.told.cells.items is.shows.told is.pins.reads cell.told is.pins.told;
     outputs = within cell.outputs.items (λ pin has. let r = ((is.pins.outputs pin).0 has).1 in (r.0, r.2));
     inputs = within cell.inputs.items (λ pin has. let r = ((is.pins.inputs pin).0 has).1 in (r.0, r.2));
   }

@@ -1,18 +1,21 @@
 -- A graph of a component's ports alone leads as the graph of all that it is made of.
 use Rattle.std.proofs.Common.{◌≡◌, ◌↔◌, ◌⊎◌, inl, inr, ℕ, ◌+◌, ◌<◌, ◌≤◌, List, [], ◌∷◌, ◌++◌, Option, Some, None, length, get_or, slice_get, Contains, refl, sym, ap₂, subst, ◌∙◌, arith}
+use Rattle.std.specs.Borrow.{Bor}
 use Rattle.std.specs.Prelude.{IfSome}
 use Rattle.std.proofs.lemmas.Bool.{cases_lt}
 use Rattle.std.proofs.lemmas.List.Elements.{Contains-append_left, Contains-get_or, Contains-push, Contains-push_cases}
 use Rattle.std.proofs.lemmas.Option.{same_Some, slice_get_within}
-use Rattle.hw_cells.specs.Cells.{IsCondensed, IsFit, IsOrReaches, IsPinWithin, ReadsThrough}
+use Rattle.hw_cells.specs.Cells.{IsCondensed, IsFit, IsOrReaches, IsPinWithin, IsTold, ReadsThrough}
 use Rattle.hw_cells.specs.declared.cell.Cell.{Cell}
 use Rattle.hw_cells.specs.declared.cell.Pin.{Pin}
+use Rattle.hw_cells.specs.declared.told.Told.{Told}
 use Rattle.hw_graph.specs.Graph as graph
 use Rattle.hw_graph.specs.Graph.{AreInRange}
 use Rattle.cal_ast.specs.Ports.{inputs_in}
 use Rattle.cal_ast.specs.Tree.{Component, Design}
 use Rattle.cal_check.specs.inside.Wiring.{HasOwnNodes, IsInside, IsOfPorts, IsPinBetween, LeadsInside}
 use Rattle.cal_check.specs.declared.inside.Inside.{Inside}
+use Rattle.cal_check.proofs.ToldLemmas.{none_told}
 
 -- ---- the pins of ports from a start to an end
 
@@ -105,9 +108,10 @@ module _ (inside : Inside) (inputs ports : ℕ) (cell : Cell) (nodes : List (Opt
         subst (λ (r : List (List ℕ)). pin.node < length r) (sym reads_are) (within pin.port pin.node there),
       )
 
-  pub ports_fit : AreInRange inside.reads → HasOwnNodes inside → IsFit ports cell
-  ports_fit in_range within = record {
+  pub ports_fit : IfSome cell.told (λ (told : Bor Told). IsTold cell.reads.now told.now) → AreInRange inside.reads → HasOwnNodes inside → IsFit ports cell
+  ports_fit told in_range within = record {
     in_range = subst AreInRange (sym reads_are) in_range;
+    told = told;
     outputs = λ k d lt.
         (let pin = get_or cell.outputs.items k d in pin_within within pin ((outputs pin).0 (Contains-get_or cell.outputs.items k d lt)).has_node);
     inputs = λ k d lt. (let pin = get_or cell.inputs.items k d in pin_within within pin ((ins pin).0 (Contains-get_or cell.inputs.items k d lt)).has_node);
@@ -154,7 +158,7 @@ module _ (inside : Inside) (inputs ports : ℕ) (cell : Cell) (nodes : List (Opt
 -- ---- what is known of the component
 
 module _ (design : Design) (c : Component) (old new : Inside) (inputs : ℕ) (inputs_are : inputs ≡ length (inputs_in c)) (known : IsInside design c old) (is : IsOfPorts old inputs new.reads)
-    (all : length new.nodes.items ≡ length old.nodes.items) (each : (n : ℕ) → n < length old.nodes.items → slice_get new.nodes.items n ≡ Some (Some n)) where
+    (all : length new.nodes.items ≡ length old.nodes.items) (each : (n : ℕ) → n < length old.nodes.items → slice_get new.nodes.items n ≡ Some (Some n)) (nothing : new.told.cells.items ≡ []) where
   -- the node of a port is its number
   own_number : (n node : ℕ) → slice_get new.nodes.items n ≡ Some (Some node) → (n ≡ node) × (n < length old.nodes.items)
   own_number n node at =
@@ -188,4 +192,5 @@ module _ (design : Design) (c : Component) (old new : Inside) (inputs : ℕ) (in
         let below : m < inputs = omega (arith, to, inputs_are) in
         let was = known.leads n m output input at_n at_m from to in
         (λ l. was.0 (to_old n m past below l), λ reaches. to_new n m past below (was.1 reaches)));
+    told = none_told new.reads new.told.cells.items nothing;
   }

@@ -12,10 +12,12 @@ use Rattle.cal_check.specs.inside.Cells.{LeadsAsRead}
 use Rattle.cal_check.specs.inside.Nodes.{APort, key_of, ports_in}
 use Rattle.cal_check.specs.inside.Wiring.{AreNodes, IsInside, LeadsInside}
 use Rattle.cal_check.specs.declared.inside.Inside.{Inside}
+use Rattle.cal_check.specs.declared.told.ToldCells.{ToldCells}
 use Rattle.cal_check.proofs.FirstLemmas.{slice_get-front, slice_get-last}
 use Rattle.cal_check.proofs.GraphLemmas.{exists_at}
 use Rattle.cal_check.proofs.KeyLemmas.{same_port}
 use Rattle.cal_check.proofs.NumberLemmas.{first_of, last_of, leads, reach_nodes}
+use Rattle.cal_check.proofs.ToldLemmas.{none_told}
 
 -- ---- the nodes of own ports
 
@@ -73,9 +75,10 @@ module _ (c : Component) (keys : List Text) where
 
 -- ---- the graph leads from outputs to inputs as they reach them
 
-module _ (design : Design) (c : Component) (keys : List Text) (reads : List (List ℕ)) (is : LeadsAsRead design c keys reads) (distinct : AreDistinct (ports_in c)) (nodes : Vec (Option ℕ) Global) (are : AreNodes c keys nodes.items) where
+module _ (design : Design) (c : Component) (keys : List Text) (reads : List (List ℕ)) (is : LeadsAsRead design c keys reads) (distinct : AreDistinct (ports_in c)) (nodes : Vec (Option ℕ) Global) (are : AreNodes c keys nodes.items)
+    (told : ToldCells) (nothing : told.cells.items ≡ []) where
   abbrev pub inside : Inside
-  inside = record { reads = reads; nodes = nodes }
+  inside = record { reads = reads; nodes = nodes; told = told }
 
   node_within : (n node : ℕ) → slice_get nodes.items n ≡ Some (Some node) → node < length reads
   node_within n node at =
@@ -122,4 +125,5 @@ module _ (design : Design) (c : Component) (keys : List Text) (reads : List (Lis
     in_range = is.in_range;
     within = node_within;
     leads = λ n m output input at_n at_m from to. (to_reaches n m output input at_n at_m (λ same. omega (arith, same, from, to)), from_reaches n m output input at_n at_m);
+    told = none_told reads told.cells.items nothing;
   }

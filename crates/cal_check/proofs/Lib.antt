@@ -56,6 +56,7 @@ pub mod SourceLemmas
 pub mod StandLemmas
 pub mod TableLemmas
 pub mod TestLemmas
+pub mod ToldLemmas
 pub mod TopLemmas
 pub mod TypingLemmas
 pub mod WalkLemmas

@@ -2,22 +2,23 @@
 //!
 //! Only ports that the component's text names are in its graph. A port of a cell that is not named reads nothing or is read by
 //! nothing, so it lies on no way between the component's own ports, and on no loop; and a cell costs nothing unless it is named.
-ghost use Rattle.std.specs.Prelude.{◌≡◌, ◌↔◌, ◌<◌, ℕ, All, Some, length, slice_get, IfOk};
+ghost use Rattle.std.specs.Prelude.{◌≡◌, ◌↔◌, ◌<◌, ℕ, List, All, Some, length, slice_get, IfOk};
 ghost use Rattle.hw_cells.specs.Cells.{AreOfParts};
 ghost use Rattle.cal_ast.specs.Rules.{KeepsRules};
 ghost use Rattle.cal_ast.specs.Tree.{Component};
 ghost use Rattle.cal_check.specs.Around.{comp_at, design_at};
-ghost use Rattle.cal_check.specs.inside.CellPins.{AreCellPorts, HasPins, IsPortOfCell, TellsPin};
+ghost use Rattle.cal_check.specs.inside.CellPins.{AreCellPorts, ArePortsOfCell, HasPins, IsPortOfCell, TellsPin};
 ghost use Rattle.cal_check.specs.inside.Cells.{AreCells};
 ghost use Rattle.cal_check.specs.inside.Wiring.{ShowsParts};
 
 use crate::inside::Inside;
 use crate::made::component_of;
 use crate::place::Place;
+use crate::told::CellKey;
 use crate::wire_graph::WireGraph;
 use hw_bits::Memory;
 use hw_cells::{Cell, Pin};
-use hw_graph::{Entry, gather};
+use hw_graph::{Entry, Groups, gather};
 
 /// The number of the cell whose port the node is, if that is made of a component.
 fn cell_number(place: &Place, graph: &WireGraph, node: usize) -> Option<usize>
@@ -44,6 +45,24 @@ fn cell_ports(place: &Place, graph: &WireGraph) -> Result<Vec<Entry>, Memory>
         }
     }
     Ok(entries)
+}
+
+/// For each cell that is made of a component its ports that the graph has.
+pub fn cell_nodes(place: &Place, graph: &WireGraph) -> Result<Groups, Memory>
+    ensures all { IfOk result (λ nodes. length nodes ≡ length (comp_at place.now).cells) }
+    ensures each { IfOk result (λ nodes. (cell : ℕ) (ports : List ℕ) → slice_get nodes cell ≡ Some ports
+        → ArePortsOfCell (design_at place.now) (comp_at place.now) graph.now cell ports) }
+{
+    let count = place.comp().cells.len();
+    let entries = cell_ports(place, graph)?;
+    gather(graph.alloc, entries.as_slice(), count)
+}
+
+/// A component that cells are made of: its number, and what is known of it.
+#[derive(Clone, Copy)]
+struct Part<'w> {
+    number: usize,
+    inside: &'w Inside,
 }
 
 /// A port of a cell, and whether it is an input.
@@ -75,27 +94,33 @@ fn cell_pin(
     })
 }
 
-/// A cell that is made of the component of this number, with these ports.
+/// The cell of this number, which is made of the component, with these ports.
 fn cell_of<'w>(
     place: &Place,
     graph: &WireGraph,
-    part: usize,
-    inside: &'w Inside,
+    part: Part<'w>,
+    number: usize,
     ports: &[usize],
 ) -> Result<Cell<'w>, Memory>
-    requires part { part < length (design_at place.now) }
+    requires part { part.number < length (design_at place.now) }
     requires ports { All (λ port. port < length graph.now.ports.keys) ports.now }
-    ensures pins { (c : Component) → slice_get (design_at place.now) part ≡ Some c → IfOk result (HasPins graph.now c inside.now ports.now) }
-    ensures graph { IfOk result (λ cell. (cell.part ≡ part) × (cell.reads.now ≡ inside.now.reads)) }
+    ensures pins { (c : Component) → slice_get (design_at place.now) part.entry.number ≡ Some c
+        → IfOk result (HasPins graph.now c part.entry.inside.now ports.now) }
+    ensures graph { IfOk result (λ cell. (cell.part ≡ part.entry.number) × (cell.reads.now ≡ part.entry.inside.now.reads)) }
 {
+    let key = CellKey {
+        holder: place.number(),
+        cell: number,
+    };
     let mut cell = Cell {
-        part,
-        reads: &inside.reads,
+        part: part.number,
+        reads: &part.inside.reads,
+        told: part.inside.told.get(key),
         outputs: Vec::new(graph.alloc),
         inputs: Vec::new(graph.alloc),
     };
     for port in ports {
-        if let Some(found) = cell_pin(place, graph, part, inside, *port) {
+        if let Some(found) = cell_pin(place, graph, part.number, part.inside, *port) {
             if found.is_input {
                 cell.inputs.push(found.pin)?;
             } else {
@@ -119,13 +144,16 @@ pub fn cells_of<'w>(
     ensures parts { IfOk result (λ cells. AreOfParts cells.items) }
 {
     let count = place.comp().cells.len();
-    let entries = cell_ports(place, graph)?;
-    let nodes = gather(graph.alloc, entries.as_slice(), count)?;
+    let nodes = cell_nodes(place, graph)?;
     let mut cells = Vec::new(graph.alloc);
     for number in 0..count {
         if let Some(part) = component_of(place.made(number)) {
             if let Some(inside) = &insides[part] {
-                cells.push(cell_of(place, graph, part, inside, nodes.get(number))?)?;
+                let part = Part {
+                    number: part,
+                    inside,
+                };
+                cells.push(cell_of(place, graph, part, number, nodes.get(number))?)?;
             }
         }
     }

@@ -9,6 +9,7 @@ ghost use Rattle.cal_check.specs.Tables.{ShowsTables};
 ghost use Rattle.cal_check.specs.Told.{ComponentIs, TellsRefusal};
 ghost use Rattle.cal_check.specs.inside.Wiring.{IsInside, ShowsParts, TellsLoop};
 
+use crate::asked::{AskedCell, asked_cells};
 use crate::component::judge_component;
 use crate::inside::Inside;
 use crate::levels::have_levels;
@@ -17,6 +18,7 @@ use crate::nesting::{Nesting, PartOrder};
 use crate::place::{Overview, Place};
 use crate::rule::{CalEnd, CompEnd};
 use crate::tables::Tables;
+use crate::telling::tell_cells;
 use cal_ast::{CalDesign, CalOk};
 use hw_bits::Memory;
 use hw_names::{NameId, Word};
@@ -80,10 +82,11 @@ fn first_looped(alloc: Global, overview: &Overview) -> Result<Option<Looped>, Me
     let PartOrder::Parts(order) = &overview.nesting.order else {
         unreachable!();
     };
+    let asked = asked_cells(alloc, overview)?;
     let mut insides = none_known(alloc, overview.design.comps.len())?;
     let mut looped = None;
     for number in order {
-        let judged = judge_number(alloc, overview, &insides, *number)?;
+        let judged = judge_number(alloc, overview, &insides, *number, &asked[*number])?;
         let Judged { inside, least_loop } = judged;
         keep_inside(&mut insides, *number, inside);
         looped = earlier(looped, *number, least_loop);
@@ -91,12 +94,13 @@ fn first_looped(alloc: Global, overview: &Overview) -> Result<Option<Looped>, Me
     Ok(looped)
 }
 
-/// Judges the component of this number by C12, where the components that it has cells of are judged.
+/// Judges the component of this number by C12, where the components that it has cells of are judged. These cells are made of it.
 fn judge_number(
     alloc: Global,
     overview: &Overview,
     insides: &[Option<Inside>],
     number: usize,
+    asked: &[AskedCell],
 ) -> Result<Judged, Memory>
     requires numbers { HasNumbers overview.now.design.now }
     requires tables { ShowsTables (design_of overview.now.design.now) overview.now.tables.now }
@@ -112,7 +116,10 @@ fn judge_number(
 {
     let place = Place::of(alloc, overview, number)?;
     let is_part = !overview.nesting.holders.get(number).is_empty();
-    judge_loops(alloc, &place, insides, is_part)
+    let judged = judge_loops(alloc, &place, insides, is_part)?;
+    let Judged { inside, least_loop } = judged;
+    let inside = tell_cells(alloc, inside, asked)?;
+    Ok(Judged { inside, least_loop })
 }
 
 /// Keeps what is known of the component of this number.

@@ -12,6 +12,7 @@ ghost use Rattle.cal_check.specs.inside.Wiring.{AreNodes, HasOwnNodes, IsInside,
 use crate::pin_name::PinName;
 use crate::place::Place;
 use crate::ports::Ports;
+use crate::told::ToldCells;
 use crate::wires::{own_port, port_names};
 use hw_bits::Memory;
 use hw_cells::{Cell, Pin, condense};
@@ -26,6 +27,8 @@ pub struct Inside {
     pub reads: Groups,
     /// The node of each port by its number, inputs first; none of a port of which the component's text says nothing.
     pub nodes: Vec<Option<usize>>,
+    /// What is told of cells that are made of the component.
+    pub told: ToldCells,
 }
 
 /// The node of the component's own port of this name, if the graph has it.
@@ -79,6 +82,7 @@ fn graph_of_ports(alloc: Global, inside: &Inside, inputs: usize) -> Result<Optio
     let cell = Cell {
         part: 0,
         reads: &inside.reads,
+        told: None,
         outputs: pins_between(alloc, nodes, inputs, ports)?,
         inputs: pins_between(alloc, nodes, 0, inputs)?,
     };
@@ -107,7 +111,8 @@ pub fn condensed(alloc: Global, inside: Inside, inputs: usize) -> Result<Inside,
     match graph_of_ports(alloc, &inside, inputs)? {
         Some(reads) => {
             let nodes = numbers(alloc, inside.nodes.len())?;
-            Ok(Inside { reads, nodes })
+            let told = ToldCells::none(alloc);
+            Ok(Inside { reads, nodes, told })
         }
         None => Ok(inside),
     }

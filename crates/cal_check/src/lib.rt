@@ -16,8 +16,10 @@
 //! `Place` has what travels with an item. At last comes C12. `levels` asks `hw_levels` for levels of each component's ports, parts
 //! first, from those of its parts: where all have them none has a loop, and the design is accepted. Where one has none,
 //! `hw_cells` makes one graph of a component's own text (`wires`) and of its cells' graphs (`cells`), which is what is kept of
-//! it for its holders (`inside`), and `hw_graph` is asked for an order. A port there is known by the numbers of its names
-//! (`ports`). Only where there is a loop are the ports put in the order of their full names (`loops`, by names
+//! it for its holders (`inside`), and `hw_graph` is asked for an order. A component may have very many holders, and each would
+//! walk over its graph. So first all cells that are made of components are collected (`asked`), and as soon as a component's graph
+//! is known, `hw_cells` tells of all cells made of it at once which outputs reach which inputs (`telling`, `told`). A port there is
+//! known by the numbers of its names (`ports`). Only where there is a loop are the ports put in the order of their full names (`loops`, by names
 //! of `hw_short`); full names are made of the least loop's ports alone, which is told.
 //!
 //! What the layer above uses is `check_calyx`: it is `Ok` exactly where the design keeps the rules (`CalRules`), and its
@@ -25,6 +27,7 @@
 //! memories, at most `2^64 - 1`.
 #![tactic(auto)]
 
+mod asked;
 mod cells;
 mod check;
 mod component;
@@ -46,6 +49,8 @@ mod rule;
 mod sides;
 mod signature;
 mod tables;
+mod telling;
+mod told;
 mod typing;
 mod walk;
 mod weight;

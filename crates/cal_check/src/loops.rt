@@ -17,6 +17,7 @@ use crate::inside::{Inside, condensed, own_nodes};
 use crate::keys::name_in;
 use crate::place::Place;
 use crate::ports::Ports;
+use crate::told::ToldCells;
 use crate::wire_graph::WireGraph;
 use crate::wires::text_graph;
 use hw_bits::Memory;
@@ -75,27 +76,7 @@ fn full_names(alloc: Global, ports: &Ports, numbers: &[usize]) -> Result<Vec<Wor
     Ok(names)
 }
 
-/// The least loop of ports, where there may be one. Full names are made of its ports alone.
-fn told_loop(
-    alloc: Global,
-    place: &Place,
-    ports: &Ports,
-    reads: &Groups,
-) -> Result<Option<Vec<Word>>, Memory>
-    requires kept { KeepsRules (design_at place.now) }
-    requires distinct { AreDistinct ports.now.keys }
-    requires graph { LeadsAsRead (design_at place.now) (comp_at place.now) ports.now.keys reads.now }
-    requires room { length reads.now < 2 ^ 32 }
-    ensures { IfOk result (TellsLoop (design_at place.now) (comp_at place.now)) }
-{
-    let names = ports.names_in_order()?;
-    match least_loop_among(alloc, reads, &names)? {
-        Some(nodes) => Ok(Some(full_names(alloc, ports, &nodes)?)),
-        None => Ok(None),
-    }
-}
-
-/// The least loop, if there is a loop.
+/// The least loop, if there is a loop. Full names are made of its ports alone.
 fn least_loop(
     alloc: Global,
     place: &Place,
@@ -111,7 +92,11 @@ fn least_loop(
     if has_order(alloc, reads)? {
         return Ok(None);
     }
-    told_loop(alloc, place, ports, reads)
+    let names = ports.names_in_order()?;
+    match least_loop_among(alloc, reads, &names)? {
+        Some(nodes) => Ok(Some(full_names(alloc, ports, &nodes)?)),
+        None => Ok(None),
+    }
 }
 
 /// What is known of a component that has cells of it, where it is one.
@@ -134,8 +119,10 @@ fn part_inside(
     // The component stands in the design, so its ports have distinct names.
     let _comp = place.comp();
     let nodes = own_nodes(alloc, place, ports)?;
+    let told = ToldCells::none(alloc);
+    let inside = Inside { reads, nodes, told };
     let inputs = place.signature().inputs;
-    Ok(Some(condensed(alloc, Inside { reads, nodes }, inputs)?))
+    Ok(Some(condensed(alloc, inside, inputs)?))
 }
 
 /// Judges a component of a design that keeps C1 to C11 by C12, where `insides` are those of its parts, by the numbers of the

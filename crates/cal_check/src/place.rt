@@ -159,6 +159,13 @@ impl<'a> Place<'a> {
         self.comp
     }
 
+    /// The component's number.
+    pub fn number(&self) -> usize
+        ensures { result ≡ self.now.number }
+    {
+        self.number
+    }
+
     /// The text of a name.
     pub fn text(&self, id: NameId) -> &'a [u8]
         requires { IsNumberOf (names_at self.now) id }

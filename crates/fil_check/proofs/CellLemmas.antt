@@ -1,13 +1,16 @@
 -- The instances of components as cells, from the ports of them that a graph has, and the ports that are given numbers.
 use Rattle.std.proofs.Common.{◌≡◌, ◌↔◌, inl, inr, ℕ, ◌+◌, ◌<◌, ◌≤◌, List, [], ◌∷◌, ◌++◌, Option, None, Some, option_map, length, get_or, take, slice_get, All, Contains, refl, sym, ap, subst, ◌∙◌, arith}
+use Rattle.std.specs.Borrow.{Bor}
+use Rattle.std.specs.Prelude.{IfSome}
 use Rattle.std.proofs.lemmas.Bool.{cases_lt}
 use Rattle.std.proofs.lemmas.List.{take_all}
 use Rattle.std.proofs.lemmas.List.Elements.{All-contains, All-push, All-weaker, Contains-append_left, Contains-get_or, Contains-push, Contains-push_cases}
 use Rattle.std.proofs.lemmas.Option.{none-some, same_Some, slice_get-get_or, slice_get_within}
 use Rattle.hw_cells.proofs.GraphLemmas.{HasGraphOf}
-use Rattle.hw_cells.specs.Cells.{IsFit, IsOrReaches, IsPinWithin, ReadsThrough}
+use Rattle.hw_cells.specs.Cells.{IsFit, IsOrReaches, IsPinWithin, IsTold, ReadsThrough}
 use Rattle.hw_cells.specs.declared.cell.Cell.{Cell}
 use Rattle.hw_cells.specs.declared.cell.Pin.{Pin}
+use Rattle.hw_cells.specs.declared.told.Told.{Told}
 use Rattle.hw_graph.specs.Graph.{AreInRange}
 use Rattle.hw_names.proofs.NameLemmas.{Contains-slice_get}
 use Rattle.hw_names.specs.Name.{HasNoDot, KeepsTexts, Text, dotted}
@@ -39,6 +42,10 @@ pub not_known : (parts : List (Option ℕ)) (insides : List Inside) (instance pa
 not_known parts insides instance part at past inside known = none-some inside (sym past ∙ (known_inside parts insides instance part at (slice_get insides part) refl inside).1 known)
 
 -- ---- the cells
+
+-- nothing was told of the cell's pins
+pub none_told : (cell : Cell) → cell.told ≡ None → IfSome cell.told (λ (told : Bor Told). IsTold cell.reads.now told.now)
+none_told cell untold = subst (λ (found : Option (Bor Told)). IfSome found (λ (told : Bor Told). IsTold cell.reads.now told.now)) (sym untold) tt
 
 -- the graph of the component of this number, if it is known
 abbrev pub graph_in : List Inside → ℕ → Option (List (List ℕ))
@@ -92,6 +99,7 @@ module _ (parts : List (Option ℕ)) (insides : List Inside) (ports : PortList) 
   cell_fits : (instance : ℕ) (inside : Inside) (cell : Cell) → IsCellAt parts insides ports instance inside cell → IsFit (length ports.names) cell
   cell_fits instance inside cell is = record {
     in_range = subst AreInRange (sym is.pins.reads) inside.in_range;
+    told = none_told cell is.pins.untold;
     outputs = within cell.outputs.items (λ pin has. let r = (is.pins.outputs pin).0 has in lies pin r.0 r.2 r.4.0 r.3 r.4.2);
     inputs = within cell.inputs.items (λ pin has. let r = (is.pins.inputs pin).0 has in lies pin r.0 r.2 r.4.0 r.3 r.4.2);
   }

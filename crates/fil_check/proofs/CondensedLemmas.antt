@@ -13,6 +13,7 @@ use Rattle.hw_names.specs.Name.{AreDistinct}
 use Rattle.fil_ast.specs.Tree.{Component, DataPort, Design}
 use Rattle.fil_ast.specs.Wires.{Reaches, through_before, whole_scope}
 use Rattle.fil_share.proofs.ListLemmas.{Contains-at}
+use Rattle.fil_check.proofs.CellLemmas.{none_told}
 use Rattle.fil_check.specs.inside.Wiring.{HaveNodes, IsInside, IsOfPorts, IsPinBetween, LeadsInside}
 use Rattle.fil_check.specs.declared.loops.inside.Inside.{Inside}
 
@@ -107,9 +108,10 @@ module _ (inside : Inside) (ports : ℕ) (cell : Cell) (nodes : List ℕ) (nodes
         subst (λ (r : List (List ℕ)). pin.node < length r) (sym reads_are) (All-contains (λ (n : ℕ). n < length inside.reads) inside.nodes.items pin.node inside.within (Contains-at inside.nodes.items pin.port pin.node there)),
       )
 
-  pub ports_fit : IsFit ports cell
-  ports_fit = record {
+  pub ports_fit : cell.told ≡ None → IsFit ports cell
+  ports_fit untold = record {
     in_range = subst AreInRange (sym reads_are) inside.in_range;
+    told = none_told cell untold;
     outputs = λ k d lt.
         (let pin = get_or cell.outputs.items k d in pin_within pin ((outputs pin).0 (Contains-get_or cell.outputs.items k d lt)).has_node);
     inputs = λ k d lt. (let pin = get_or cell.inputs.items k d in pin_within pin ((ins pin).0 (Contains-get_or cell.inputs.items k d lt)).has_node);

@@ -8,6 +8,7 @@ pub mod GivenLemmas
 pub mod GrowLemmas
 pub mod InstanceLemmas
 pub mod ItemLemmas
+pub mod KeptLemmas
 pub mod LeastLemmas
 pub mod LevelLemmas
 pub mod Lookup

@@ -34,10 +34,6 @@ use Rattle.fil_check.specs.declared.tables.Tables.{Tables}
 use Rattle.fil_check.specs.declared.timeline.times.Offset.{Offset}
 use Rattle.fil_share.proofs.ListLemmas.{slice_get-take, take_next}
 use Rattle.fil_ast.specs.Naming.{component_names, event_names}
-use Rattle.fil_ast.specs.Rules.{Rule, Keeps, KeepsComponent, all_rules}
-use Rattle.fil_check.specs.inside.First.{TellsItem}
-use Rattle.fil_check.specs.declared.rules.Broken.{Broken}
-use Rattle.fil_check.specs.declared.rules.CompEnd.TheVariants as component
 use Rattle.fil_check.specs.inside.Weights.{AreWeights, IsAsked, capped, last_need, last_time, last_row, needs_for, weight_after, weight_among}
 
 same_name : (a b : Text) → a ≡ b → bytes_eq a b ≡ true
@@ -143,14 +139,6 @@ pub unmapped : {X Y : Type 0} (f : X → Y) (xs : List X) (k : ℕ) (y : Y) → 
 unmapped f [] k y at = absurd (none-some y at)
 unmapped f (x ∷ xs) zero y at = (x, refl, same_Some (f x) y at)
 unmapped f (x ∷ xs) (suc k) y at = unmapped f xs k y at
-
--- a component that keeps the rules has no first broken rule
-pub keeps_all : (comps : Design) (c : Component) (item : ℕ) (broken : Broken) → KeepsComponent all_rules comps c → TellsItem comps c (component.Broken item broken) → ⊥
-keeps_all comps c item broken keeps first =
-    let least = first.least in
-    let at = least.numbered in
-    let P : Rule → Type 0 = Keeps comps c first.item in
-    least.broken (subst P (get_or_from_slice_get all_rules least.place least.rule least.rule at) (keeps item first.item first.here least.place least.rule (slice_get_within all_rules least.place least.rule at)))
 
 same_map : {X Y : Type 0} (f g : X → Y) (xs : List X) → ((x : X) → Contains xs x → f x ≡ g x) → map f xs ≡ map g xs
 same_map f g [] same = refl

@@ -13,7 +13,6 @@ ghost use Rattle.fil_check.specs.inside.Tables.{IsPlace, ShowsEarlier};
 use crate::connections::connects_all;
 use crate::place::Around;
 use crate::rules::{CompEnd, ItemEnd, Rule, breaks};
-use crate::sharing::starts::Starts;
 use crate::signature::judge_signature;
 use crate::statement::judge_statement;
 use crate::tables::{Earlier, Tables};
@@ -48,17 +47,7 @@ pub fn judge_component(
         Ok(()) => {}
         Err(end) => return Err(at_item(0, end)),
     }
-    let mut tables = Tables {
-        events,
-        ports,
-        instances: names.beside(),
-        made: Vec::new(alloc),
-        invoked: Vec::new(alloc),
-        times: Vec::new(alloc),
-        calls: Vec::new(alloc),
-        starts: Starts::new(alloc),
-        connected: names.beside(),
-    };
+    let mut tables = Tables::new(alloc, events, ports);
     judge_body(alloc, &around, &mut tables)?;
     Ok(tables)
 }

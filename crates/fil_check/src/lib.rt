@@ -22,7 +22,8 @@
 //!
 //! A statement is judged in `statement`, a signature in `signature`, by the modules of the rules: `naming` F1 and F2, `typing`
 //! F3 to F5, `timeline` F6 to F8 and F10, `connections` F9, `sharing` F11 to F13, `loops` F14. A `Place` has what travels with
-//! an item; `tables` has what names mean there, `meaning` looks it up, and `grow` takes it from statement to statement. In the
+//! an item; `tables` has what names mean there, `meaning` looks it up, and `grow` takes it from statement to statement. Where the
+//! rules are known to be kept, as where a design is weighed, `kept` fills the tables and judges nothing. In the
 //! graph of F14 a port is known by the numbers of its names (`loops::ports`); full names are made only of the loop that is told.
 //!
 //! F14 is judged by levels first (`loops::levels`): a number for each port of a component, above those of all that it reads, which
@@ -37,6 +38,7 @@ mod check;
 mod component;
 mod connections;
 mod grow;
+mod kept;
 mod laws;
 mod loops;
 mod meaning;

@@ -133,7 +133,6 @@ fn flat_graph<'a>(
         → ShowInsides comps insides.now → KeepsRules all_rules comps → KeepsComponent all_rules comps (component_tree place.now.names.now place.now.comp.now)
         → IfOk result (λ flat. LeadsAsRead comps (component_tree place.now.names.now place.now.comp.now) flat.ports.names flat.reads) }
     ensures own { (comps : Design) → IsPlaceIn place.now (whole_scope comps (component_tree place.now.names.now place.now.comp.now))
-        → KeepsRules all_rules comps
         → IfOk result (λ flat. AreNumbered flat.ports.names flat.own.items (own_port_names (component_tree place.now.names.now place.now.comp.now))) }
     ensures within { IfOk result (λ flat. All (λ port. port < length flat.ports.names) flat.own.items) }
     ensures distinct { IfOk result (λ flat. AreDistinct flat.ports.names) }
@@ -163,13 +162,10 @@ struct ComponentGraph<'a> {
 fn component_graph<'a>(alloc: Global, place: &Place<'a>) -> Result<ComponentGraph<'a>, Memory>
     requires numbers { ComponentHasNumbers place.now.names.now place.now.comp.now }
     ensures reads { (comps : Design) → IsPlaceIn place.now (whole_scope comps (component_tree place.now.names.now place.now.comp.now))
-        → KeepsRules all_rules comps
         → IfOk result (λ made. HasOwnReadings comps (component_tree place.now.names.now place.now.comp.now) made.graph) }
     ensures instances { (comps : Design) → IsPlaceIn place.now (whole_scope comps (component_tree place.now.names.now place.now.comp.now))
-        → KeepsRules all_rules comps
         → IfOk result (λ made. HasInstances (whole_scope comps (component_tree place.now.names.now place.now.comp.now)) made.graph) }
     ensures own { (comps : Design) → IsPlaceIn place.now (whole_scope comps (component_tree place.now.names.now place.now.comp.now))
-        → KeepsRules all_rules comps
         → IfOk result (λ made. AreNumbered made.graph.ports.names made.own.items (own_port_names (component_tree place.now.names.now place.now.comp.now))) }
     ensures within { IfOk result (λ made. All (λ port. port < length made.graph.ports.names) made.own.items) }
 {
@@ -213,7 +209,7 @@ fn has_order(alloc: Global, reads: &Groups) -> Result<bool, Memory>
     }
 }
 
-/// The least loop, if there is a loop.
+/// The least loop, if there is a loop. Names are made only where there may be one, and full names only of its ports.
 fn least_loop(alloc: Global, ports: &Ports, reads: &Groups) -> Result<Option<Vec<Word>>, Memory>
     requires distinct { AreDistinct ports.now.names }
     requires in_range { AreInRange reads.now }
@@ -224,17 +220,6 @@ fn least_loop(alloc: Global, ports: &Ports, reads: &Groups) -> Result<Option<Vec
     if has_order(alloc, reads)? {
         return Ok(None);
     }
-    told_loop(alloc, ports, reads)
-}
-
-/// The least loop, where there may be one. Full names are made only of its ports.
-fn told_loop(alloc: Global, ports: &Ports, reads: &Groups) -> Result<Option<Vec<Word>>, Memory>
-    requires distinct { AreDistinct ports.now.names }
-    requires in_range { AreInRange reads.now }
-    requires all { length ports.now.names ≤ length reads.now }
-    requires room { length reads.now < 2 ^ 32 }
-    ensures { (comps : Design) (c : Component) → LeadsAsRead comps c ports.now.names reads.now → IfOk result (TellsLeastLoop comps c) }
-{
     let names = ports.names_in_order()?;
     match least_loop_among(alloc, reads, &names)? {
         Some(nodes) => Ok(Some(full_names(alloc, ports, &nodes)?)),

@@ -19,7 +19,7 @@ use std::alloc::Global;
 
 /// Whether the signature keeps F1. Puts the names of its events and
 /// of its ports into the two lists, where it does.
-fn has_new_names(
+pub fn has_new_names(
     alloc: Global,
     around: &Around,
     events: &mut Names,

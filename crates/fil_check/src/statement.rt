@@ -30,7 +30,7 @@ use hw_names::Names;
 use std::alloc::Global;
 
 /// What the statement's instance is made of; `None` where it makes none, or its parameters are wrong.
-fn made_at(
+pub fn made_at(
     alloc: Global,
     names: &Names,
     earlier: &Earlier,

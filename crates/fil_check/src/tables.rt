@@ -3,6 +3,7 @@ use crate::callee::Callee;
 use crate::sharing::starts::Starts;
 use crate::timeline::times::Offset;
 use hw_names::Names;
+use std::alloc::Global;
 
 /// The components before one, by name and by number.
 #[derive(Drop)]
@@ -43,4 +44,36 @@ pub struct Tables {
     pub starts: Starts,
     /// The names of the outputs that are connected so far.
     pub connected: Names,
+}
+
+impl Tables {
+    ghost use Rattle.std.specs.Prelude.{◌≡◌, ℕ, [], None};
+    ghost use Rattle.fil_ast.specs.Items.{scope_after};
+    ghost use Rattle.fil_ast.specs.Naming.{event_names, port_names};
+    ghost use Rattle.fil_ast.specs.Tree.{Component, Design};
+    ghost use Rattle.fil_check.specs.inside.Starts.{use_at};
+    ghost use Rattle.fil_check.specs.inside.Tables.{Shows, ShowsEarlier};
+    ghost use Rattle.fil_check.specs.declared.tables.Earlier.{Earlier};
+
+    /// What names mean before the first statement of a component whose events and ports have these names.
+    pub fn new(alloc: Global, events: Names, ports: Names) -> Tables
+        ensures shows { (earlier : Earlier) (comps : Design) (c : Component) → ShowsEarlier earlier comps
+            → events ≡ event_names c → ports ≡ port_names c → Shows earlier result (scope_after comps c []) }
+        ensures unused { (instance event start : ℕ) → use_at result.starts instance event start ≡ None }
+        ensures connected { result.connected ≡ [] }
+    {
+        let instances = events.beside();
+        let connected = events.beside();
+        Tables {
+            events,
+            ports,
+            instances,
+            made: Vec::new(alloc),
+            invoked: Vec::new(alloc),
+            times: Vec::new(alloc),
+            calls: Vec::new(alloc),
+            starts: Starts::new(alloc),
+            connected,
+        }
+    }
 }

@@ -18,10 +18,9 @@ ghost use Rattle.fil_check.specs.inside.Times.{AreTimes, ShowsInterval, time_sho
 ghost use Rattle.fil_check.specs.inside.Weights.{AreWeights, IsAsked, capped, instances_weight, needs_for, weight_after};
 
 use crate::check::add_component;
-use crate::component::judge_component;
+use crate::kept::tables_of;
 use crate::meaning::callee_at;
 use crate::place::Place;
-use crate::rules::CompEnd;
 use crate::tables::{Earlier, Tables};
 use crate::timeline::times::{Interval, Offset, interval_at};
 use fil_ast::{FilComp, FilOk, Stmt};
@@ -214,26 +213,6 @@ fn weight(alloc: Global, place: &Place, weights: &[u128]) -> Result<u128, Memory
     )
 }
 
-/// The tables of a component that keeps the rules.
-fn tables_of(
-    alloc: Global,
-    names: &Names,
-    earlier: &Earlier,
-    comp: &FilComp,
-) -> Result<Tables, Memory>
-    requires numbers { ComponentHasNumbers names.now comp.now }
-    requires small { KeepsLimits comp.now }
-    requires kept { (comps : Design) × ShowsEarlier earlier.now comps × KeepsComponent all_rules comps (component_tree names.now comp.now) }
-    ensures { (comps : Design) → ShowsEarlier earlier.now comps
-        → IfOk result (λ tables. IsPlace names.now earlier.now comp.now tables (whole_scope comps (component_tree names.now comp.now))) }
-{
-    match judge_component(alloc, names, earlier, comp) {
-        Ok(tables) => Ok(tables),
-        Err(CompEnd::Broken { .. }) => unreachable!(),
-        Err(CompEnd::Memory) => Err(Memory),
-    }
-}
-
 /// The weight of a component that keeps the rules, after the components before it and with their weights.
 fn weigh(
     alloc: Global,
@@ -244,7 +223,6 @@ fn weigh(
 ) -> Result<u128, Memory>
     requires numbers { ComponentHasNumbers names.now comp.now }
     requires small { KeepsLimits comp.now }
-    requires kept { (comps : Design) × ShowsEarlier earlier.now comps × KeepsComponent all_rules comps (component_tree names.now comp.now) }
     ensures { (comps : Design) → ShowsEarlier earlier.now comps → KeepsComponent all_rules comps (component_tree names.now comp.now)
         → AreWeights comps weights.now
         → IfOk result (λ weight. weight ≡ capped (weight_after comps (component_tree names.now comp.now))) }

@@ -7,3 +7,5 @@ pub mod CondenseLemmas
 pub mod PartLemmas
 pub mod TogetherLemmas
 pub mod GraphLemmas
+pub mod SearchLemmas
+pub mod ToldLemmas

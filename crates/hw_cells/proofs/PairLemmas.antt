@@ -1,15 +1,16 @@
 -- Entries between cells' ports alone say what the ports read through the cells.
-use Rattle.std.proofs.Common.{◌≡◌, ◌↔◌, ◌⊎◌, inl, inr, ℕ, ◌+◌, ◌<◌, List, [], ◌∷◌, ◌++◌, length, map, get_or, take, sym, ap, ap₂, subst, ◌∙◌, arith}
+use Rattle.std.proofs.Common.{◌≡◌, ◌↔◌, ◌⊎◌, inl, inr, ℕ, ◌+◌, ◌<◌, Bool, true, List, [], ◌∷◌, ◌++◌, length, map, get_or, take, sym, ap, ap₂, subst, ◌∙◌, arith}
 use Rattle.std.specs.Prelude.{All, Contains, filter}
 use Rattle.std.specs.Int.{bit_at}
 use Rattle.std.proofs.lemmas.Bool.Decides.{Decides-eqb}
-use Rattle.std.proofs.lemmas.List.{append-nil, append_assoc, get_or-map, length-map, nil_from_length, take_more}
+use Rattle.std.proofs.lemmas.List.{append-nil, append_assoc, get_or-map, get_or-take, length-map, length-take, nil_from_length, take_more}
 use Rattle.std.proofs.lemmas.List.Elements.{All-contains, All-get_or, All-map, All-weaker, Contains-append_cases, Contains-append_left, Contains-append_right, Contains-get_or, Contains-push, Contains-push_cases}
 use Rattle.hw_graph.proofs.MemberLemmas.{In, in_of, contains_of, in_map, from_map, in_filter, from_filter}
 use Rattle.hw_graph.specs.declared.groups.Entry.{Entry}
 use Rattle.hw_cells.specs.Cells.{IsFit, IsOrReaches, IsPinWithin, ReadsThrough}
 use Rattle.hw_cells.specs.inside.Pairs.{AddsPairs, AddsStarts, HasStarts, IsStartOf, IsWithin, ReadsFrom, has_bit, pair_entries, pair_entry}
-use Rattle.hw_cells.specs.inside.Words.{HasBit, TellReached}
+use Rattle.hw_cells.specs.Cells.{HasBit}
+use Rattle.hw_cells.specs.inside.Words.{TellReached}
 use Rattle.hw_cells.specs.declared.cell.Cell.{Cell}
 use Rattle.hw_cells.specs.declared.cell.Pin.{Pin}
 use Rattle.hw_cells.specs.declared.pairs.Start.{Start}
@@ -59,39 +60,45 @@ starts_end cell old new adds = record { kept = adds.kept; only = adds.only; all 
 pub starts_of_none : (cell : Cell) (old : List Start) → length cell.inputs.items ≡ 0 → AddsStarts cell old old
 starts_of_none cell old none = record { kept = λ start has. has; only = λ start has. inl has; all = λ output input has has_input. absurd (omega (arith, none, has_input.1)) }
 
+-- one of the first is one of all
+pub from_take : (count : ℕ) (starts : List Start) (start : Start) → Contains (take count starts) start → Contains starts start
+from_take count starts start has =
+    let lower : has.0 < length starts = omega (arith, has.1, length-take count starts) in
+    let below : has.0 < count = omega (arith, has.1, length-take count starts) in
+    (has.0, lower, sym (get_or-take count starts has.0 start below) ∙ has.2)
+
 -- ---- pairs, start by start
 
 -- the list keeps its entries where it goes on
 pub pairs_none : (reads : List (List ℕ)) (old : List Entry) → AddsPairs reads [] old old
 pairs_none reads old = record { kept = λ entry has. has; only = λ entry has. inl has; all = λ start port other has from. absurd (omega (arith, has.1)) }
 
-module _ (reads : List (List ℕ)) (words : List ℕ) (k : ℕ) (start : Start) (tells : (input : Pin) → HasBit (get_or words input.node 0) k ↔ IsOrReaches reads start.output.node input.node) where
+module _ (reads : List (List ℕ)) (test : Pin → Bool) (start : Start) (tells : (input : Pin) → (test input ≡ true) ↔ IsOrReaches reads start.output.node input.node) where
   -- an entry of the start says what it reads
-  from_entry : (e : Entry) → Contains (pair_entries words k start) e → ReadsFrom reads start e.key e.value
+  from_entry : (e : Entry) → Contains (pair_entries test start) e → ReadsFrom reads start e.key e.value
   from_entry e has =
-      let m = from_map (pair_entry start.output) (filter (has_bit words k) start.inputs.now) e (in_of (pair_entries words k start) e has) in
-      let f = from_filter (has_bit words k) start.inputs.now m.0 m.1 in
+      let m = from_map (pair_entry start.output) (filter test start.inputs.now) e (in_of (pair_entries test start) e has) in
+      let f = from_filter test start.inputs.now m.0 m.1 in
       record {
         input = m.0;
         has_input = contains_of start.inputs.now m.0 f.0;
         is_output = ap (λ (x : Entry). x.key) m.2;
         is_input = ap (λ (x : Entry). x.value) m.2;
-        reaches = (tells m.0).0 ((Decides-eqb (bit_at (get_or words (m.0).node 0) k) 1).0 f.1);
+        reaches = (tells m.0).0 f.1;
       }
 
-  to_entry : (port other : ℕ) → ReadsFrom reads start port other → Contains (pair_entries words k start) (record { key = port; value = other })
+  to_entry : (port other : ℕ) → ReadsFrom reads start port other → Contains (pair_entries test start) (record { key = port; value = other })
   to_entry port other from =
-      let bit = (Decides-eqb (bit_at (get_or words from.input.node 0) k) 1).1 ((tells from.input).1 from.reaches) in
-      let there = in_filter (has_bit words k) start.inputs.now from.input (in_of start.inputs.now from.input from.has_input) bit in
+      let there = in_filter test start.inputs.now from.input (in_of start.inputs.now from.input from.has_input) ((tells from.input).1 from.reaches) in
       let make : ℕ → ℕ → Entry = λ a b. record { key = a; value = b } in
-      contains_of (pair_entries words k start) (record { key = port; value = other })
-      (subst (In (pair_entries words k start)) (ap₂ make from.is_output from.is_input) (in_map (pair_entry start.output) (filter (has_bit words k) start.inputs.now) from.input there))
+      contains_of (pair_entries test start) (record { key = port; value = other })
+      (subst (In (pair_entries test start)) (ap₂ make from.is_output from.is_input) (in_map (pair_entry start.output) (filter test start.inputs.now) from.input there))
 
-  pub pairs_more : (starts : List Start) (old before new : List Entry) → new ≡ before ++ pair_entries words k start → AddsPairs reads starts old before → AddsPairs reads (starts ++ start ∷ []) old new
+  pub pairs_more : (starts : List Start) (old before new : List Entry) → new ≡ before ++ pair_entries test start → AddsPairs reads starts old before → AddsPairs reads (starts ++ start ∷ []) old new
   pairs_more starts old before new is so_far = record { kept = kept; only = only; all = all }
     where
       more : List Entry
-      more = pair_entries words k start
+      more = pair_entries test start
 
       has_new : (e : Entry) → Contains (before ++ more) e → Contains new e
       has_new e = subst (λ (l : List Entry). Contains l e) (sym is)
@@ -116,22 +123,28 @@ module _ (reads : List (List ℕ)) (words : List ℕ) (k : ℕ) (start : Start) 
             | inr same ↦ has_new e (Contains-append_right before more e (to_entry port other (subst (λ (s : Start). ReadsFrom reads s port other) (sym same) from)))
           ]
 
--- the next of the starts, whose nodes have bits in the words
-pub pairs_next : (reads : List (List ℕ)) (starts : List Start) (nodes words : List ℕ) (k : ℕ) (d start : Start) (old before new : List Entry) → nodes ≡ map (λ (s : Start). s.output.node) starts → TellReached reads nodes words → k < length starts → start ≡ get_or starts k d → new ≡ before ++ pair_entries words k start → AddsPairs reads (take k starts) old before → AddsPairs reads (take (k + 1) starts) old new
-pairs_next reads starts nodes words k d start old before new nodes_are reached within is new_is so_far =
-    subst (λ (list : List Start). AddsPairs reads list old new) (sym next) (pairs_more reads words k start tells (take k starts) old before new new_is so_far)
-  where
-    next : take (k + 1) starts ≡ take k starts ++ start ∷ []
-    next = take_more starts k d within ∙ ap (λ (s : Start). take k starts ++ s ∷ []) (sym is)
+-- the next of the starts, of whose inputs a test tells which are reached
+pub pairs_next : (reads : List (List ℕ)) (test : Pin → Bool) (starts : List Start) (k : ℕ) (d start : Start) (old before new : List Entry) → ((input : Pin) → (test input ≡ true) ↔ IsOrReaches reads start.output.node input.node) → k < length starts → start ≡ get_or starts k d → new ≡ before ++ pair_entries test start → AddsPairs reads (take k starts) old before → AddsPairs reads (take (k + 1) starts) old new
+pairs_next reads test starts k d start old before new tells within is new_is so_far =
+    let next : take (k + 1) starts ≡ take k starts ++ start ∷ [] = take_more starts k d within ∙ ap (λ (s : Start). take k starts ++ s ∷ []) (sym is) in
+    subst (λ (list : List Start). AddsPairs reads list old new) (sym next) (pairs_more reads test start tells (take k starts) old before new new_is so_far)
 
+-- the bits of words tell it of starts whose nodes have bits in them
+pub bits_tell : (reads : List (List ℕ)) (starts : List Start) (nodes words : List ℕ) (k : ℕ) (d start : Start) → nodes ≡ map (λ (s : Start). s.output.node) starts → TellReached reads nodes words → k < length starts → start ≡ get_or starts k d → (input : Pin) → (has_bit words k input ≡ true) ↔ IsOrReaches reads start.output.node input.node
+bits_tell reads starts nodes words k d start nodes_are reached within is input =
+    (λ has. tells.0 (decides.0 has), λ reaches. decides.1 (tells.1 reaches))
+  where
     in_nodes : k < length nodes
     in_nodes = omega (arith, within, ap length nodes_are, length-map starts (λ (s : Start). s.output.node))
 
     node_is : get_or nodes k 0 ≡ start.output.node
     node_is = ap (λ (l : List ℕ). get_or l k 0) nodes_are ∙ get_or-map (λ (s : Start). s.output.node) starts k d 0 within ∙ ap (λ (s : Start). s.output.node) (sym is)
 
-    tells : (input : Pin) → HasBit (get_or words input.node 0) k ↔ IsOrReaches reads start.output.node input.node
-    tells input = subst (λ (n : ℕ). HasBit (get_or words input.node 0) k ↔ IsOrReaches reads n input.node) node_is (reached k input.node in_nodes)
+    tells : HasBit (get_or words input.node 0) k ↔ IsOrReaches reads start.output.node input.node
+    tells = subst (λ (n : ℕ). HasBit (get_or words input.node 0) k ↔ IsOrReaches reads n input.node) node_is (reached k input.node in_nodes)
+
+    decides : (has_bit words k input ≡ true) ↔ HasBit (get_or words input.node 0) k
+    decides = Decides-eqb (bit_at (get_or words input.node 0) k) 1
 
 -- the nodes of the outputs of starts within the nodes
 pub outputs_within : (nodes : ℕ) (starts : List Start) → All (IsWithin nodes) starts → All (λ (node : ℕ). node < nodes) (map (λ (s : Start). s.output.node) starts)
@@ -156,6 +169,19 @@ pairs_then reads some more old before new first second = record { kept = λ e ha
     all x port other has from = elim (Contains-append_cases some more x has) [
       | inl early ↦ second.kept (record { key = port; value = other }) (first.all x port other early from)
       | inr late ↦ second.all x port other late from
+    ]
+
+-- the first of the starts, and then all
+pub pairs_again : (reads : List (List ℕ)) (count : ℕ) (starts : List Start) (old before new : List Entry) → AddsPairs reads (take count starts) old before → AddsPairs reads starts before new → AddsPairs reads starts old new
+pairs_again reads count starts old before new first all = record { kept = λ e has. all.kept e (first.kept e has); only = only; all = all.all }
+  where
+    only : (e : Entry) → Contains new e → Contains old e ⊎ ((x : Start) × Contains starts x × ReadsFrom reads x e.key e.value)
+    only e has = elim (all.only e has) [
+      | inl early ↦ elim (first.only e early) [
+        | inl at_first ↦ inl at_first
+        | inr one ↦ inr (one.0, from_take count starts one.0 one.1, one.2)
+      ]
+      | inr one ↦ inr one
     ]
 
 -- ---- starts, some after others

@@ -19,7 +19,7 @@ use Rattle.hw_cells.specs.inside.Parts.{AreByPart, IsAmong, SayAll, Splits, Take
 use Rattle.hw_cells.specs.declared.cell.Cell.{Cell}
 use Rattle.hw_cells.specs.declared.pairs.Start.{Start}
 use Rattle.hw_cells.proofs.FlatLemmas.{entry_read, read_entry}
-use Rattle.hw_cells.proofs.PairLemmas.{reads_through, says_through, start_within}
+use Rattle.hw_cells.proofs.PairLemmas.{from_take, reads_through, says_through, start_within}
 
 -- ---- lists
 
@@ -46,15 +46,17 @@ some_element (x ∷ xs) some = (x, contains_of (x ∷ xs) x (inl refl))
 abbrev pub HasPlace : List Cell → List ℕ → Entry → Type 0
 HasPlace cells parts entry = (cell : Cell) × (slice_get cells entry.value ≡ Some cell) × (slice_get parts entry.key ≡ Some cell.part)
 
--- each of the first cells has an entry
-pub record ArePlaced (cells : List Cell) (count : ℕ) (parts : List ℕ) (entries : List Entry) : Type 0 where
+-- each of the cells of these numbers has an entry
+pub record ArePlaced (cells : List Cell) (numbers : List ℕ) (parts : List ℕ) (entries : List Entry) : Type 0 where
   pub each : (entry : Entry) → In entries entry → HasPlace cells parts entry
-  pub all : (number : ℕ) → number < count → (key : ℕ) × In entries (record { key = key; value = number })
+  pub only : (entry : Entry) → In entries entry → Contains numbers entry.value
+  pub all : (number : ℕ) → Contains numbers number → (key : ℕ) × In entries (record { key = key; value = number })
 
-pub placed_none : (cells : List Cell) (parts : List ℕ) (entries : List Entry) → entries ≡ [] → ArePlaced cells 0 parts entries
+pub placed_none : (cells : List Cell) (parts : List ℕ) (entries : List Entry) → entries ≡ [] → ArePlaced cells [] parts entries
 placed_none cells parts entries none = record {
   each = λ entry has. absurd (subst (λ (list : List Entry). In list entry) none has);
-  all = λ number below. absurd (omega (arith, below));
+  only = λ entry has. absurd (subst (λ (list : List Entry). In list entry) none has);
+  all = λ number has. absurd (omega (arith, has.1));
 }
 
 insert_kept : (before after : List ℕ) (part : ℕ) → after ≡ insert_key eqb before part → (k x : ℕ) → slice_get before k ≡ Some x → slice_get after k ≡ Some x
@@ -64,8 +66,8 @@ insert_kept before after part is k x at = by (list_any (eqb part) before) is
     by true e = ap (λ (list : List ℕ). slice_get list k) e ∙ at
     by false e = ap (λ (list : List ℕ). slice_get list k) e ∙ at_left before (part ∷ []) k x at
 
-pub placed_more : (cells : List Cell) (number : ℕ) (cell : Cell) (before after : List ℕ) (key : ℕ) (entries : List Entry) → slice_get cells number ≡ Some cell → after ≡ insert_key eqb before cell.part → slice_get after key ≡ Some cell.part → ArePlaced cells number before entries → ArePlaced cells (number + 1) after (entries ++ record { key = key; value = number } ∷ [])
-placed_more cells number cell before after key entries at is stored placed = record { each = each; all = all }
+placed_more : (cells : List Cell) (numbers : List ℕ) (number : ℕ) (cell : Cell) (before after : List ℕ) (key : ℕ) (entries : List Entry) → slice_get cells number ≡ Some cell → after ≡ insert_key eqb before cell.part → slice_get after key ≡ Some cell.part → ArePlaced cells numbers before entries → ArePlaced cells (numbers ++ number ∷ []) after (entries ++ record { key = key; value = number } ∷ [])
+placed_more cells numbers number cell before after key entries at is stored placed = record { each = each; only = only; all = all }
   where
     this : Entry
     this = record { key = key; value = number }
@@ -77,32 +79,42 @@ placed_more cells number cell before after key entries at is stored placed = rec
       | inr (inr none) ↦ absurd none
     ]
 
-    all : (n : ℕ) → n < number + 1 → (k : ℕ) × In (entries ++ this ∷ []) (record { key = k; value = n })
-    all n below = elim (cases_lt n number) [
-      | inl early ↦ let p = placed.all n early in (p.0, in_left entries (this ∷ []) (record { key = p.0; value = n }) p.1)
-      | inr past ↦
-          let is_last : number ≡ n = omega (arith, below, past) in
-          (key, in_right entries (this ∷ []) (record { key = key; value = n }) (inl (ap (λ (v : ℕ). record { key = key; value = v }) is_last)))
+    only : (entry : Entry) → In (entries ++ this ∷ []) entry → Contains (numbers ++ number ∷ []) entry.value
+    only entry has = elim (in_append entries (this ∷ []) entry has) [
+      | inl early ↦ Contains-append_left numbers (number ∷ []) entry.value (placed.only entry early)
+      | inr (inl same) ↦ subst (λ (e : Entry). Contains (numbers ++ number ∷ []) e.value) same (Contains-push numbers number)
+      | inr (inr none) ↦ absurd none
     ]
 
-pub keys_within : (cells : List Cell) (count : ℕ) (parts : List ℕ) (entries : List Entry) → ArePlaced cells count parts entries → All (λ (entry : Entry). entry.key < length parts) entries
-keys_within cells count parts entries placed = λ k d lt.
+    all : (n : ℕ) → Contains (numbers ++ number ∷ []) n → (k : ℕ) × In (entries ++ this ∷ []) (record { key = k; value = n })
+    all n has = elim (Contains-push_cases numbers number n has) [
+      | inl early ↦ let p = placed.all n early in (p.0, in_left entries (this ∷ []) (record { key = p.0; value = n }) p.1)
+      | inr is_last ↦ (key, in_right entries (this ∷ []) (record { key = key; value = n }) (inl (ap (λ (v : ℕ). record { key = key; value = v }) is_last)))
+    ]
+
+pub placed_next : (cells : List Cell) (numbers : List ℕ) (k d : ℕ) (cell : Cell) (before after : List ℕ) (key : ℕ) (entries : List Entry) → k < length numbers → slice_get cells (get_or numbers k d) ≡ Some cell → after ≡ insert_key eqb before cell.part → slice_get after key ≡ Some cell.part → ArePlaced cells (take k numbers) before entries → ArePlaced cells (take (k + 1) numbers) after (entries ++ record { key = key; value = get_or numbers k d } ∷ [])
+placed_next cells numbers k d cell before after key entries lt at is stored so_far =
+    subst (λ (list : List ℕ). ArePlaced cells list after (entries ++ record { key = key; value = get_or numbers k d } ∷ [])) (sym (take_more numbers k d lt))
+    (placed_more cells (take k numbers) (get_or numbers k d) cell before after key entries at is stored so_far)
+
+pub keys_within : (cells : List Cell) (numbers : List ℕ) (parts : List ℕ) (entries : List Entry) → ArePlaced cells numbers parts entries → All (λ (entry : Entry). entry.key < length parts) entries
+keys_within cells numbers parts entries placed = λ k d lt.
     let entry = get_or entries k d in
     let p = placed.each entry (in_of entries entry (Contains-get_or entries k d lt)) in
     slice_get_within parts entry.key (p.0).part p.2
 
-pub by_part : (cells : List Cell) (count : ℕ) (parts : List ℕ) (entries : List Entry) (groups : List (List ℕ)) → length cells ≤ count → ArePlaced cells count parts entries → IsGathered entries (length parts) groups → AreByPart cells groups
-by_part cells count parts entries groups whole placed gathered = record { within = within; all = all; same = same }
+pub by_part : (cells : List Cell) (numbers : List ℕ) (parts : List ℕ) (entries : List Entry) (groups : List (List ℕ)) → ArePlaced cells numbers parts entries → IsGathered entries (length parts) groups → AreByPart cells numbers groups
+by_part cells numbers parts entries groups placed gathered = record { only = only; all = all; same = same }
   where
     place : (group number : ℕ) → HasRead groups group number → HasPlace cells parts (record { key = group; value = number })
     place group number has = placed.each (record { key = group; value = number }) (read_entry entries (length parts) groups gathered group number has)
 
-    within : (group number : ℕ) → HasRead groups group number → number < length cells
-    within group number has = let p = place group number has in slice_get_within cells number p.0 p.1
+    only : (group number : ℕ) → HasRead groups group number → Contains numbers number
+    only group number has = placed.only (record { key = group; value = number }) (read_entry entries (length parts) groups gathered group number has)
 
-    all : (number : ℕ) → number < length cells → (group : ℕ) × HasRead groups group number
-    all number below =
-        let p = placed.all number (omega (arith, below, whole)) in
+    all : (number : ℕ) → Contains numbers number → (group : ℕ) × HasRead groups group number
+    all number has =
+        let p = placed.all number has in
         let entry : Entry = record { key = p.0; value = number } in
         let q = placed.each entry p.1 in
         (p.0, entry_read entries (length parts) groups gathered p.0 number (slice_get_within parts p.0 (q.0).part q.2) p.1)
@@ -128,7 +140,7 @@ among_more cells numbers number cell other at among = elim (Contains-push_cases 
 among_early : (cells : List Cell) (numbers : List ℕ) (number : ℕ) (cell : Cell) → IsAmong cells numbers cell → IsAmong cells (numbers ++ number ∷ []) cell
 among_early cells numbers number cell among = (among.0, contains_of (numbers ++ number ∷ []) among.0 (in_left numbers (number ∷ []) among.0 (in_of numbers among.0 among.1)), among.2)
 
-contains_early : {X : Type 0} (xs : List X) (y x : X) → Contains xs x → Contains (xs ++ y ∷ []) x
+pub contains_early : {X : Type 0} (xs : List X) (y x : X) → Contains xs x → Contains (xs ++ y ∷ []) x
 contains_early xs y x has = contains_of (xs ++ y ∷ []) x (in_left xs (y ∷ []) x (in_of xs x has))
 
 -- the cell that is left is the last one
@@ -279,17 +291,30 @@ module _ (cells : List Cell) (numbers : List ℕ) (starts : List Start) (before 
         let fit = All-contains (IsFit ports) cells r.0 fits (contains_at cells r.1.0 r.0 r.1.2) in
         start_within ports reads r.0 start (same r.0 r.1) fit r.2
 
-    pub splits_pairs : (old new : List Entry) → AddsPairs reads starts old new → Splits cells (IsAmong cells numbers) old new before now
-    splits_pairs old new adds = record { kept = adds.kept; only = only; left = takes.kept; others = takes.others; each = each }
-      where
-        only : (entry : Entry) → Contains new entry → Contains old entry ⊎ ((cell : Cell) × Contains cells cell × ReadsThrough cell entry.key entry.value)
-        only entry has = elim (adds.only entry has) [
-          | inl early ↦ inl early
-          | inr (start, given, from) ↦
-              let r = takes.from start given in
-              inr (r.0, contains_at cells r.1.0 r.0 r.1.2, reads_through reads r.0 start entry.key entry.value (same r.0 r.1) r.2 from)
-        ]
+    only_through : (some : List Start) → ((start : Start) → Contains some start → Contains starts start) → (old new : List Entry) → AddsPairs reads some old new → (entry : Entry) → Contains new entry → Contains old entry ⊎ ((cell : Cell) × Contains cells cell × ReadsThrough cell entry.key entry.value)
+    only_through some are old new adds entry has = elim (adds.only entry has) [
+      | inl early ↦ inl early
+      | inr (start, given, from) ↦
+          let r = takes.from start (are start given) in
+          inr (r.0, contains_at cells r.1.0 r.0 r.1.2, reads_through reads r.0 start entry.key entry.value (same r.0 r.1) r.2 from)
+    ]
 
+    -- where some starts were searched from, the entries say more, and it is no matter which cells are left
+    pub splits_searched : (count : ℕ) (old new : List Entry) (after : List Cell) → AddsPairs reads (take count starts) old new → Splits cells (IsAmong cells numbers) old old before after → Splits cells (IsAmong cells numbers) old new before after
+    splits_searched count old new after adds splits = record {
+      kept = adds.kept;
+      only = only_through (take count starts) (from_take count starts) old new adds;
+      left = splits.left;
+      others = splits.others;
+      each = λ cell among. elim (splits.each cell among) [
+        | inl left ↦ inl left
+        | inr said ↦ inr (λ port other through. adds.kept (record { key = port; value = other }) (said port other through))
+      ];
+    }
+
+    pub splits_pairs : (old new : List Entry) → AddsPairs reads starts old new → Splits cells (IsAmong cells numbers) old new before now
+    splits_pairs old new adds = record { kept = adds.kept; only = only_through starts (λ start has. has) old new adds; left = takes.kept; others = takes.others; each = each }
+      where
         each : (cell : Cell) → IsAmong cells numbers cell → Contains now cell ⊎ SayAll new cell
         each cell among = elim (takes.each cell among) [ inl left ↦ inl left | inr given ↦ inr (says_through reads cell starts old new (same cell among) given adds) ]
 
@@ -329,7 +354,7 @@ splits_more cells groups part numbers first old new before now after at so_far m
           more.each cell (subst (λ (list : List ℕ). IsAmong cells list cell) numbers_are among.2)
     ]
 
-module _ (cells : List Cell) (groups : List (List ℕ)) (by : AreByPart cells groups) where
+module _ (cells : List Cell) (among : List ℕ) (groups : List (List ℕ)) (by : AreByPart cells among groups) where
   -- the group of a number is one of them
   group_within : (group number : ℕ) → HasRead groups group number → group < length groups
   group_within group number has = elim (cases_lt group (length groups)) [
@@ -337,12 +362,10 @@ module _ (cells : List Cell) (groups : List (List ℕ)) (by : AreByPart cells gr
     | inr past ↦ let none : get_or groups group [] ≡ [] = get_or_past groups group [] past in absurd (omega (arith, has.1, ap length none))
   ]
 
-  in_group : (cell : Cell) → Contains cells cell → IsAmongFirst cells groups (length groups) cell
-  in_group cell has =
-      let r = by.all has.0 has.1 in
-      (r.0, group_within r.0 has.0 r.1, (has.0, r.1, slice_get-get_or cells has.0 cell has.1 ∙ ap Some has.2))
+  in_group : (cell : Cell) → IsAmong cells among cell → IsAmongFirst cells groups (length groups) cell
+  in_group cell has = let r = by.all has.0 has.1 in (r.0, group_within r.0 has.0 r.1, (has.0, r.1, has.2))
 
-  pub splits_end : (count : ℕ) (first new : List Entry) (before after : List Cell) → length groups ≤ count → Splits cells (IsAmongFirst cells groups count) first new before after → Splits cells (Contains cells) first new before after
+  pub splits_end : (count : ℕ) (first new : List Entry) (before after : List Cell) → length groups ≤ count → Splits cells (IsAmongFirst cells groups count) first new before after → Splits cells (IsAmong cells among) first new before after
   splits_end count first new before after whole splits = record {
     kept = splits.kept;
     only = splits.only;
@@ -355,8 +378,10 @@ module _ (cells : List Cell) (groups : List (List ℕ)) (by : AreByPart cells gr
     of_group : (number : ℕ) → Contains numbers number → HasRead groups part number
     of_group number has = subst (λ (list : List ℕ). Contains list number) (sym (get_or_from_slice_get groups part numbers [] at)) has
 
-    pub numbers_within : All (λ (number : ℕ). number < length cells) numbers
-    numbers_within = λ k d lt. by.within part (get_or numbers k d) (of_group (get_or numbers k d) (Contains-get_or numbers k d lt))
+    pub numbers_within : All (λ (number : ℕ). number < length cells) among → All (λ (number : ℕ). number < length cells) numbers
+    numbers_within within = λ k d lt.
+        let number = get_or numbers k d in
+        All-contains (λ (n : ℕ). n < length cells) among number within (by.only part number (of_group number (Contains-get_or numbers k d lt)))
 
     pub one_graph : AreOfParts cells → (cell other : Cell) → IsAmong cells numbers cell → IsAmong cells numbers other → cell.reads.now ≡ other.reads.now
     one_graph parts cell other one two =

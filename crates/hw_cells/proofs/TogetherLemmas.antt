@@ -12,7 +12,8 @@ use Rattle.hw_graph.proofs.ReachLemmas.{reach_on}
 use Rattle.hw_graph.proofs.SearchLemmas.{contained_at}
 use Rattle.hw_graph.specs.Graph.{HasRead, IsReadOrder, Reaches, Directly, Through}
 use Rattle.hw_cells.specs.Cells.{IsOrReaches}
-use Rattle.hw_cells.specs.inside.Words.{HasBit, TellStarts, TellReached}
+use Rattle.hw_cells.specs.Cells.{HasBit}
+use Rattle.hw_cells.specs.inside.Words.{TellStarts, TellReached}
 
 -- ---- bits of two words in one
 
@@ -144,7 +145,7 @@ module _ (word : ℕ) (given old new : List ℕ) (read : ℕ) (within : read < l
 
 -- ---- the order is gone through from its end
 
-has_read : (reads : List (List ℕ)) (port : ℕ) (got : List ℕ) → slice_get reads port ≡ Some got → (other : ℕ) → Contains got other → HasRead reads port other
+pub has_read : (reads : List (List ℕ)) (port : ℕ) (got : List ℕ) → slice_get reads port ≡ Some got → (other : ℕ) → Contains got other → HasRead reads port other
 has_read reads port got at other has = subst (λ (l : List ℕ). Contains l other) (sym (get_or_from_slice_get reads port got [] at)) has
 
 -- each bit is of a start that reaches the node; the nodes from a place of the order on have passed their bits on
@@ -229,67 +230,3 @@ module _ (reads : List (List ℕ)) (order starts words : List ℕ) (is_order : I
       | inr reaches ↦ along bit (get_or starts bit 0) node reaches (over.begun bit lt)
     ],
   )
-
--- ---- one start after another
-
--- each start has its bit, and so many have passed theirs to all that they reach
-abbrev pub TellSearched : ℕ → List (List ℕ) → List ℕ → List ℕ → Type 0
-TellSearched count reads starts words =
-    (bit node : ℕ) → HasBit (get_or words node 0) bit ↔ (slice_get starts bit ≡ Some node) ⊎ ((bit < count) × Reaches reads (get_or starts bit 0) node)
-
-pub searched_none : (reads : List (List ℕ)) (starts words : List ℕ) → TellStarts starts words → TellSearched 0 reads starts words
-searched_none reads starts words told bit node =
-    (λ has. inl ((told bit node).0 has), λ either. elim either [ inl at ↦ (told bit node).1 at | inr none ↦ absurd (omega (arith, none.0)) ])
-
--- a word of one bit has that alone
-one_bit : (k bit : ℕ) → k < 64 → HasBit (1 * 2 ^ k % 18446744073709551616) bit → bit ≡ k
-one_bit k bit few has = elim (cases_eq bit k) [
-  | inl same ↦ same
-  | inr ne ↦
-      let word = 1 * 2 ^ k % 18446744073709551616 in
-      absurd (zero_has_no_bit bit (sym (bit_at_set_other w64 0 k few bit ne) ∙ bit_of_right 0 word bit has))
-]
-
-its_bit : (k : ℕ) → k < 64 → HasBit (1 * 2 ^ k % 18446744073709551616) k
-its_bit k few =
-    let word = 1 * 2 ^ k % 18446744073709551616 in
-    elim (bit_of_either 0 word k (bit_at_set_same w64 0 k few)) [
-      | inl none ↦ absurd (zero_has_no_bit k none)
-      | inr has ↦ has
-    ]
-
-pub searched_more : (reads : List (List ℕ)) (starts nodes old new : List ℕ) (k : ℕ) → k < 64 → ((node : ℕ) → Contains nodes node ↔ Reaches reads (get_or starts k 0) node) → AreGiven (1 * 2 ^ k % 18446744073709551616) nodes old new → TellSearched k reads starts old → TellSearched (k + 1) reads starts new
-searched_more reads starts nodes old new k few are given so_far bit node = (to, from)
-  where
-    to : HasBit (get_or new node 0) bit → (slice_get starts bit ≡ Some node) ⊎ ((bit < k + 1) × Reaches reads (get_or starts bit 0) node)
-    to has = elim ((given bit node).0 has) [
-      | inl had ↦ elim ((so_far bit node).0 had) [
-        | inl at ↦ inl at
-        | inr early ↦ inr (omega (arith, early.0), early.1)
-      ]
-      | inr now ↦
-          let is : bit ≡ k = one_bit k bit few now.1 in
-          inr (omega (arith, is), subst (λ (n : ℕ). Reaches reads (get_or starts n 0) node) (sym is) ((are node).0 now.0))
-    ]
-
-    from : (slice_get starts bit ≡ Some node) ⊎ ((bit < k + 1) × Reaches reads (get_or starts bit 0) node) → HasBit (get_or new node 0) bit
-    from (inl at) = (given bit node).1 (inl ((so_far bit node).1 (inl at)))
-    from (inr some) = elim (cases_eq bit k) [
-      | inl is ↦
-          let reached = (are node).1 (subst (λ (n : ℕ). Reaches reads (get_or starts n 0) node) is some.1) in
-          (given bit node).1 (inr (reached, subst (HasBit (1 * 2 ^ k % 18446744073709551616)) (sym is) (its_bit k few)))
-      | inr ne ↦ (given bit node).1 (inl ((so_far bit node).1 (inr (omega (arith, some.0, ne), some.1))))
-    ]
-
-pub searched_all : (reads : List (List ℕ)) (starts words : List ℕ) (count : ℕ) → length starts ≤ count → TellSearched count reads starts words → TellReached reads starts words
-searched_all reads starts words count all so_far bit node within = (to, from)
-  where
-    to : HasBit (get_or words node 0) bit → IsOrReaches reads (get_or starts bit 0) node
-    to has = elim ((so_far bit node).0 has) [
-      | inl at ↦ inl (get_or_from_slice_get starts bit node 0 at)
-      | inr some ↦ inr some.1
-    ]
-
-    from : IsOrReaches reads (get_or starts bit 0) node → HasBit (get_or words node 0) bit
-    from (inl same) = (so_far bit node).1 (inl (slice_get-get_or starts bit 0 within ∙ ap Some same))
-    from (inr reaches) = (so_far bit node).1 (inr (omega (arith, within, all), reaches))

@@ -1,10 +1,13 @@
 -- Ports that read one another, at once or through cells that have graphs of their own. This project's.
-use Rattle.std.specs.Prelude.{◌≡◌, ◌⊎◌, ◌↔◌, ℕ, ◌+◌, ◌-◌, ◌<◌, ◌≤◌, nat_lt, Bool, List, length, filter, slice_index, All, Contains}
+use Rattle.std.specs.Prelude.{◌≡◌, ◌⊎◌, ◌↔◌, ℕ, ◌+◌, ◌-◌, ◌<◌, ◌≤◌, nat_lt, Bool, List, [], length, filter, slice_index, All, Contains, IfSome}
+use Rattle.std.specs.Borrow.{Bor}
+use Rattle.std.specs.Int.{bit_at}
 use Rattle.hw_graph.specs.Graph as graph
 use Rattle.hw_graph.specs.Graph.{AreInRange}
 use Rattle.hw_graph.specs.declared.groups.Entry.{Entry}
 use Rattle.hw_cells.specs.declared.cell.Cell.{Cell}
 use Rattle.hw_cells.specs.declared.cell.Pin.{Pin}
+use Rattle.hw_cells.specs.declared.told.Told.{Told}
 
 -- the nodes are one, or the one reaches the other
 abbrev pub IsOrReaches : List (List ℕ) → ℕ → ℕ → Type 0
@@ -37,6 +40,22 @@ pub record IsLoop (entries : List Entry) (cells : List Cell) (ports : List ℕ) 
   pub back : Reads entries cells (slice_index ports (length ports - 1)) (slice_index ports 0)
   pub once : (i j : ℕ) → i < length ports → j < length ports → slice_index ports i ≡ slice_index ports j → i ≡ j
 
+-- the word has the bit
+abbrev pub HasBit : ℕ → ℕ → Type 0
+HasBit word bit = bit_at word bit ≡ 1
+
+-- no more outputs than a word has bits, all nodes are some of so many, and nothing is told yet
+pub record IsAskable (nodes : ℕ) (told : Told) : Type 0 where
+  pub few : length told.outputs.items ≤ 64
+  pub outputs : All (λ node. node < nodes) told.outputs.items
+  pub inputs : All (λ node. node < nodes) told.inputs.items
+  pub untold : told.words.items ≡ []
+
+-- the k-th bit of an input's word tells whether the k-th output is the input or reaches it; nothing is told of an input without a word
+abbrev pub IsTold : List (List ℕ) → Told → Type 0
+IsTold reads told = (bit place : ℕ) → bit < length told.outputs.items → place < length told.words.items →
+    HasBit (slice_index told.words.items place) bit ↔ IsOrReaches reads (slice_index told.outputs.items bit) (slice_index told.inputs.items place)
+
 -- the pin is one of so many ports, and its node one of so many nodes
 abbrev pub IsPinWithin : ℕ → ℕ → Pin → Type 0
 IsPinWithin ports nodes pin = (pin.port < ports) × (pin.node < nodes)
@@ -44,6 +63,7 @@ IsPinWithin ports nodes pin = (pin.port < ports) × (pin.node < nodes)
 -- a cell of a holder that has so many ports
 pub record IsFit (ports : ℕ) (cell : Cell) : Type 0 where
   pub in_range : AreInRange cell.reads.now
+  pub told : IfSome cell.told (λ (told : Bor Told). IsTold cell.reads.now told.now)
   pub outputs : All (IsPinWithin ports (length cell.reads.now)) cell.outputs.items
   pub inputs : All (IsPinWithin ports (length cell.reads.now)) cell.inputs.items
 

@@ -3,3 +3,4 @@ pub mod Copies
 pub mod Words
 pub mod Pairs
 pub mod Parts
+pub mod Told

@@ -1,5 +1,6 @@
 //! Cells with graphs of their own.
 
+use crate::told::Told;
 use hw_graph::Groups;
 
 /// A port of a holder that is one of a cell: its number among the holder's ports, and its node in the cell's graph.
@@ -16,6 +17,8 @@ pub struct Cell<'a> {
     pub part: usize,
     /// For each node of the graph the nodes that it reads.
     pub reads: &'a Groups,
+    /// What was told of its pins before, if that was asked for.
+    pub told: Option<&'a Told>,
     pub outputs: Vec<Pin>,
     pub inputs: Vec<Pin>,
 }

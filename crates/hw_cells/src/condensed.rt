@@ -9,9 +9,6 @@ use hw_bits::Memory;
 use hw_graph::{Groups, gather};
 use std::alloc::Global;
 
-/// A component with more outputs keeps its graph, since 64 of them are a walk over it.
-const OUTPUTS: usize = 4_096;
-
 /// A component with more pairs of an output and an input for each entry of its graph keeps it.
 const PAIRS: usize = 16;
 
@@ -26,12 +23,12 @@ fn count_entries(reads: &Groups) -> usize {
 
 /// Whether a graph of the cell's ports alone may have no more entries than its own, which has so many, and is soon found.
 fn may_be_smaller(cell: &Cell, entries: usize) -> bool {
-    let (outputs, inputs) = (cell.outputs.len(), cell.inputs.len());
-    outputs <= OUTPUTS && outputs.saturating_mul(inputs) <= entries.saturating_mul(PAIRS)
+    let pairs = cell.outputs.len().saturating_mul(cell.inputs.len());
+    pairs <= entries.saturating_mul(PAIRS)
 }
 
 /// A graph of the cell's ports alone, of which there are so many, in which each output reads the inputs that it reads through
-/// the cell. None where the cell's own graph has fewer entries, or where the searches would take long.
+/// the cell. None where the cell's own graph has fewer entries, or may have far fewer than the cell has pairs.
 pub fn condense(alloc: Global, ports: usize, cell: &Cell) -> Result<Option<Groups>, Memory>
     requires fit { IsFit ports cell.now }
     requires sides { HasTwoSides cell.now }

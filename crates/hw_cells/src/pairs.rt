@@ -1,12 +1,12 @@
 //! Entries between cells' ports alone, with no copy of the graph of what the cells are made of.
 ghost use Rattle.std.specs.Prelude.{◌≡◌, ◌<◌, ◌≤◌, ◌++◌, ℕ, All, List, length, map, IfOk, OnOk};
 ghost use Rattle.hw_graph.specs.Graph.{AreInRange, IsReadOrder};
-ghost use Rattle.hw_cells.specs.inside.Pairs.{AddsPairs, AddsStarts, IsWithin, pair_entries};
+ghost use Rattle.hw_cells.specs.inside.Pairs.{AddsPairs, AddsStarts, IsWithin, has_bit, pair_entries};
 ghost use Rattle.hw_cells.specs.inside.Words.{TellReached};
 ghost use Rattle.hw_cells.specs.declared.pairs.Start.{Start};
 
 use crate::cell::{Cell, Pin};
-use crate::together::{TOGETHER, reached_one_by_one, reached_together};
+use crate::together::{TOGETHER, reached_together};
 use hw_bits::Memory;
 use hw_graph::{Entry, Groups};
 use std::alloc::Global;
@@ -43,7 +43,7 @@ fn add_pairs_of(
 ) -> Result<(), Memory>
     requires bit { bit < 64 }
     requires words { All (λ input. input.node < length words.now) start.now.inputs.now }
-    ensures { OnOk result (entries.new.items ≡ entries.old.items ++ pair_entries words.now bit start.now) }
+    ensures { OnOk result (entries.new.items ≡ entries.old.items ++ pair_entries (has_bit words.now bit) start.now) }
 {
     for input in start.inputs {
         if words[input.node] >> bit & 1 == 1 {
@@ -78,23 +78,6 @@ fn add_pairs_by(entries: &mut Vec<Entry>, words: &[u64], starts: &[Start]) -> Re
         add_pairs_of(entries, words, bit, start)?;
     }
     Ok(())
-}
-
-/// Adds which of its inputs the output of each of these few starts reads through the graph.
-pub fn add_few_pairs(
-    alloc: Global,
-    entries: &mut Vec<Entry>,
-    reads: &Groups,
-    starts: &[Start],
-) -> Result<(), Memory>
-    requires in_range { AreInRange reads.now }
-    requires few { length starts.now ≤ 64 }
-    requires within { All (IsWithin (length reads.now)) starts.now }
-    ensures { OnOk result (AddsPairs reads.now starts.now entries.old.items entries.new.items) }
-{
-    let nodes = output_nodes(alloc, starts)?;
-    let words = reached_one_by_one(alloc, reads, &nodes)?;
-    add_pairs_by(entries, &words, starts)
 }
 
 /// Adds which of its inputs the output of each of these starts reads, of which there are no more than a word has bits.

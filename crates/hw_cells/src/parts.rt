@@ -6,31 +6,34 @@ ghost use Rattle.hw_cells.specs.inside.Parts.{AreByPart, IsAmong, Splits, Takes,
 ghost use Rattle.hw_cells.specs.declared.cell.Cell.{Cell};
 
 use crate::cell::Cell;
-use crate::pairs::{Start, add_few_pairs, add_pairs, add_starts};
+use crate::pairs::{Start, add_pairs, add_starts};
+use crate::search::add_searched;
 use crate::together::TOGETHER;
+use crate::told_pairs::split_told;
 use hw_bits::Memory;
 use hw_graph::{Entry, Groups, OrderEnd, gather, read_order};
 use indexmap::IndexSet;
 use std::alloc::Global;
 
-/// So many outputs are searched from one by one: an order of the graph's nodes takes as long.
-const FEW: usize = 2;
-
 /// Whether pairs of a cell's outputs and inputs take no more room and time than a copy of its graph.
-fn has_few_pins(cell: &Cell) -> bool {
+pub fn has_few_pins(cell: &Cell) -> bool {
     let (outputs, inputs) = (cell.outputs.len(), cell.inputs.len());
     outputs <= TOGETHER && outputs.saturating_mul(inputs) <= cell.reads.len()
 }
 
-/// The numbers of the cells of each component.
-fn by_part(alloc: Global, cells: &[Cell]) -> Result<Groups, Memory>
-    ensures { IfOk result (AreByPart cells.now) }
+/// For each component the numbers of its cells among the cells of these numbers.
+fn by_part(alloc: Global, cells: &[Cell], numbers: &[usize]) -> Result<Groups, Memory>
+    requires { All (λ number. number < length cells.now) numbers.now }
+    ensures { IfOk result (AreByPart cells.now numbers.now) }
 {
     let mut parts = IndexSet::new(alloc);
     let mut entries = Vec::new(alloc);
-    for (number, cell) in cells.iter().enumerate() {
-        let (key, _) = parts.insert_full(cell.part)?;
-        entries.push(Entry { key, value: number })?;
+    for number in numbers {
+        let (key, _) = parts.insert_full(cells[*number].part)?;
+        entries.push(Entry {
+            key,
+            value: *number,
+        })?;
     }
     gather(alloc, entries.as_slice(), parts.len())
 }
@@ -96,8 +99,8 @@ fn add_part(
         return Ok(());
     }
     let reads = cells[numbers[0]].reads;
-    if starts.len() <= FEW {
-        return add_few_pairs(alloc, &mut split.entries, reads, &starts);
+    if add_searched(alloc, &mut split.entries, reads, &starts)? {
+        return Ok(());
     }
     match order_of(alloc, reads)? {
         Some(order) => add_pairs(alloc, &mut split.entries, reads, &order, &starts),
@@ -105,14 +108,16 @@ fn add_part(
     }
 }
 
-/// Adds to the entries what is read through cells with few pins, component by component. The other cells are left.
-pub fn split_cells(alloc: Global, entries: Vec<Entry>, cells: &[Cell]) -> Result<Split, Memory>
+/// Adds to the entries what is read through cells that were told of, and through others with few pins, component by component. The
+/// other cells are left.
+pub fn split_cells(alloc: Global, mut entries: Vec<Entry>, cells: &[Cell]) -> Result<Split, Memory>
     requires fit { (ports : ℕ) × All (IsFit ports) cells.now }
     requires parts { AreOfParts cells.now }
     ensures splits { IfOk result (λ split. Splits cells.now (Contains cells.now) entries.items split.entries.items [] (cells_at cells.now split.left.items)) }
     ensures within { IfOk result (λ split. All (λ number. number < length cells.now) split.left.items) }
 {
-    let parts = by_part(alloc, cells)?;
+    let untold = split_told(alloc, &mut entries, cells)?;
+    let parts = by_part(alloc, cells, &untold)?;
     let mut split = Split {
         entries,
         left: Vec::new(alloc),

@@ -1,10 +1,11 @@
 //! What several nodes of a graph reach: each has a bit of its own in a word of each node.
 ghost use Rattle.std.specs.Prelude.{◌≡◌, ◌↔◌, ◌⊎◌, ℕ, ◌<◌, ◌≤◌, All, Contains, Some, length, slice_get, slice_index, IfOk};
 ghost use Rattle.hw_graph.specs.Graph.{AreInRange, IsReadOrder};
-ghost use Rattle.hw_cells.specs.inside.Words.{HasBit, TellReached, TellStarts};
+ghost use Rattle.hw_cells.specs.Cells.{HasBit};
+ghost use Rattle.hw_cells.specs.inside.Words.{TellReached, TellStarts};
 
 use hw_bits::Memory;
-use hw_graph::{Groups, Reach};
+use hw_graph::Groups;
 use std::alloc::Global;
 
 /// So many nodes at most have bits in a word.
@@ -56,27 +57,6 @@ pub fn reached_together(
         let node = order[place];
         let word = words[node];
         add_bits(words.as_mut_slice(), word, reads.get(node));
-    }
-    Ok(words)
-}
-
-/// The same words by a search from each start. It takes time for what they reach alone, and no order.
-pub fn reached_one_by_one(
-    alloc: Global,
-    reads: &Groups,
-    starts: &[usize],
-) -> Result<Vec<u64>, Memory>
-    requires in_range { AreInRange reads.now }
-    requires few { length starts.now ≤ 64 }
-    requires within { All (λ start. start < length reads.now) starts.now }
-    ensures all { IfOk result (λ words. length words.items ≡ length reads.now) }
-    ensures reached { IfOk result (λ words. TellReached reads.now starts.now words.items) }
-{
-    let mut words = begin(alloc, reads.len(), starts)?;
-    let mut reach = Reach::new(alloc, reads)?;
-    for (bit, start) in starts.iter().enumerate() {
-        let reached = reach.from(alloc, reads, *start)?;
-        add_bits(words.as_mut_slice(), 1 << bit, &reached);
     }
     Ok(words)
 }

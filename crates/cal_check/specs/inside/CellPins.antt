@@ -1,7 +1,9 @@
 -- The ports of cells that are made of components, as the graph of the component that has the cells knows them. This project's.
 use Rattle.std.specs.Prelude.{◌≡◌, ◌↔◌, ℕ, ◌<◌, ◌≤◌, true, false, List, length, slice_get, Option, Some, Contains, IfSome}
+use Rattle.std.specs.Borrow.{Bor}
 use Rattle.hw_cells.specs.declared.cell.Cell.{Cell}
 use Rattle.hw_cells.specs.declared.cell.Pin.{Pin}
+use Rattle.hw_cells.specs.declared.told.Told.{Told}
 use Rattle.hw_graph.specs.declared.groups.Entry.{Entry}
 use Rattle.hw_names.specs.Name.{Text}
 use Rattle.cal_ast.specs.Naming.{cell_names}
@@ -22,6 +24,10 @@ pub record IsPortOfCell (design : Design) (c : Component) (g : WireGraph) (cell 
   pub part : Component
   pub made : part_in design c name ≡ Some part
   pub at : HasNumber g (APort (port_of name pin)) node
+
+-- the nodes are all such ports of the cell
+abbrev pub ArePortsOfCell : Design → Component → WireGraph → ℕ → List ℕ → Type 0
+ArePortsOfCell design c g cell nodes = (node : ℕ) → Contains nodes node ↔ IsPortOfCell design c g cell node
 
 -- the entries have each such port by the number of its cell
 abbrev pub AreCellPorts : Design → Component → WireGraph → List Entry → Type 0
@@ -52,8 +58,9 @@ pub record TellsPin (g : WireGraph) (part : Component) (inside : Inside) (port :
 abbrev pub ArePins : (Pin → Type 0) → List ℕ → List Pin → Type 0
 ArePins is_pin ports pins = (pin : Pin) → Contains pins pin ↔ (Contains ports pin.port × is_pin pin)
 
--- the cell has the graph inside, and of these nodes those that are outputs and inputs there
+-- the cell has the graph inside and what is told of it there, if anything, and of these nodes those that are outputs and inputs there
 pub record HasPins (g : WireGraph) (part : Component) (inside : Inside) (ports : List ℕ) (cell : Cell) : Type 0 where
   pub reads : cell.reads.now ≡ inside.reads
+  pub told : IfSome cell.told (λ (told : Bor Told). Contains inside.told.cells.items told.now)
   pub outputs : ArePins (IsOutputPin g part inside) ports cell.outputs.items
   pub inputs : ArePins (IsInputPin g part inside) ports cell.inputs.items

@@ -1,7 +1,7 @@
 -- Which outputs of a component reach which of its inputs within a row, and least loops, as code has them. This project's.
-use Rattle.std.specs.Prelude.{◌≡◌, ◌↔◌, ℕ, ◌<◌, ◌≤◌, ◌∷◌, List, length, map, slice_get, Option, Some, None, Vec}
+use Rattle.std.specs.Prelude.{◌≡◌, ◌↔◌, ℕ, ◌<◌, ◌≤◌, ◌∷◌, List, length, map, slice_get, Option, Some, None, Vec, All}
 use Rattle.std.specs.declared.alloc.Global.{Global}
-use Rattle.hw_cells.specs.Cells.{IsOrReaches}
+use Rattle.hw_cells.specs.Cells.{IsOrReaches, IsTold}
 use Rattle.hw_cells.specs.declared.cell.Pin.{Pin}
 use Rattle.hw_graph.specs.Graph as graph
 use Rattle.hw_graph.specs.Graph.{AreInRange}
@@ -43,12 +43,13 @@ pub record IsOfPorts (inside : Inside) (inputs : ℕ) (reads : List (List ℕ)) 
   pub in_range : AreInRange reads
   pub reaches : (n m : ℕ) → inputs ≤ n → m < inputs → graph.Reaches reads n m ↔ LeadsInside inside n m
 
--- in the graph each output leads to exactly the inputs that it reaches; ports by their numbers, inputs first
+-- in the graph each output leads to exactly the inputs that it reaches; ports by their numbers, inputs first. What is told of cells is right of it.
 pub record IsInside (design : Design) (c : Component) (inside : Inside) : Type 0 where
   pub in_range : AreInRange inside.reads
   pub within : HasOwnNodes inside
   pub leads : (n m : ℕ) (output input : Text) → slice_get (ports_in c) n ≡ Some output → slice_get (ports_in c) m ≡ Some input →
       length (inputs_in c) ≤ n → m < length (inputs_in c) → LeadsInside inside n m ↔ Reaches design c (own output) (own input)
+  pub told : All (IsTold inside.reads) inside.told.cells.items
 
 -- this of each component that component n has a cell of
 pub record ShowsParts (design : Design) (n : ℕ) (insides : List (Option Inside)) : Type 0 where

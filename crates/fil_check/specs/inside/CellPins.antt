@@ -1,5 +1,5 @@
 -- The ports of instances of components, as the graph of the component that has the instances knows them. This project's.
-use Rattle.std.specs.Prelude.{◌≡◌, ◌⊎◌, ◌↔◌, ℕ, ◌<◌, ◌≤◌, true, false, List, slice_get, Option, Some, Contains}
+use Rattle.std.specs.Prelude.{◌≡◌, ◌⊎◌, ◌↔◌, ℕ, ◌<◌, ◌≤◌, true, false, List, slice_get, Option, None, Some, Contains}
 use Rattle.hw_cells.specs.declared.cell.Cell.{Cell}
 use Rattle.hw_cells.specs.declared.cell.Pin.{Pin}
 use Rattle.hw_graph.specs.declared.groups.Entry.{Entry}
@@ -55,10 +55,11 @@ ArePins is_pin ports inst nodes pins =
     (pin : Pin) → Contains pins pin ↔
     ((node : ℕ) × Contains nodes node × (name : Text) × (slice_get ports.names node ≡ Some (dotted inst name)) × is_pin name node pin)
 
--- the cell has the graph inside, and of these nodes those that are outputs and inputs there
+-- the cell has the graph inside, and of these nodes those that are outputs and inputs there; nothing was told of them
 pub record HasPins (ports : PortList) (instance : ℕ) (inside : Inside) (nodes : List ℕ) (cell : Cell) : Type 0 where
   pub inst : Text
   pub instance_at : slice_get ports.instances instance ≡ Some inst
   pub reads : cell.reads.now ≡ inside.reads
+  pub untold : cell.told ≡ None
   pub outputs : ArePins (IsOutputPin inside) ports inst nodes cell.outputs.items
   pub inputs : ArePins (IsInputPin inside) ports inst nodes cell.inputs.items

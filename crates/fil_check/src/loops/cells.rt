@@ -227,6 +227,7 @@ fn cell_of<'w>(
     let mut cell = Cell {
         part,
         reads: &inside.reads,
+        told: None,
         outputs: Vec::new(alloc),
         inputs: Vec::new(alloc),
     };

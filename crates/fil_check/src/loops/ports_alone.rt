@@ -37,6 +37,7 @@ fn graph_of_ports(alloc: Global, inside: &Inside) -> Result<Option<Groups>, Memo
     let cell = Cell {
         part: 0,
         reads: &inside.reads,
+        told: None,
         outputs: pins_between(alloc, nodes, inside.inputs, ports)?,
         inputs: pins_between(alloc, nodes, 0, inside.inputs)?,
     };

@@ -1,5 +1,5 @@
 -- Cells by the components that they are made of, and what is known of them while they are gone through. This project's, for private functions alone.
-use Rattle.std.specs.Prelude.{◌≡◌, ◌⊎◌, ℕ, ◌<◌, List, [], ◌∷◌, length, Option, Some, None, slice_get, Contains}
+use Rattle.std.specs.Prelude.{◌≡◌, ◌⊎◌, ℕ, List, [], ◌∷◌, Option, Some, None, slice_get, Contains}
 use Rattle.std.specs.List.{flat_map}
 use Rattle.hw_graph.specs.Graph.{HasRead}
 use Rattle.hw_graph.specs.declared.groups.Entry.{Entry}
@@ -8,10 +8,10 @@ use Rattle.hw_cells.specs.declared.cell.Cell.{Cell}
 use Rattle.hw_cells.specs.declared.pairs.Start.{Start}
 use Rattle.hw_cells.specs.inside.Pairs.{HasStarts, IsStartOf}
 
--- each cell stands in a group, by its number, and those of a group are of one component
-pub record AreByPart (cells : List Cell) (groups : List (List ℕ)) : Type 0 where
-  pub within : (group number : ℕ) → HasRead groups group number → number < length cells
-  pub all : (number : ℕ) → number < length cells → (group : ℕ) × HasRead groups group number
+-- of these numbers, and no others, each stands in a group, and the cells of a group are of one component
+pub record AreByPart (cells : List Cell) (numbers : List ℕ) (groups : List (List ℕ)) : Type 0 where
+  pub only : (group number : ℕ) → HasRead groups group number → Contains numbers number
+  pub all : (number : ℕ) → Contains numbers number → (group : ℕ) × HasRead groups group number
   pub same : (group one other : ℕ) (a b : Cell) → HasRead groups group one → HasRead groups group other →
       slice_get cells one ≡ Some a → slice_get cells other ≡ Some b → a.part ≡ b.part
 

@@ -1,11 +1,6 @@
 -- What several nodes of a graph reach, told by the bits of words, one word for each node. This project's, for private functions alone.
 use Rattle.std.specs.Prelude.{◌≡◌, ◌↔◌, ℕ, ◌<◌, List, length, slice_get, slice_index, Some}
-use Rattle.std.specs.Int.{bit_at}
-use Rattle.hw_cells.specs.Cells.{IsOrReaches}
-
--- the word has the bit
-abbrev pub HasBit : ℕ → ℕ → Type 0
-HasBit word bit = bit_at word bit ≡ 1
+use Rattle.hw_cells.specs.Cells.{HasBit, IsOrReaches}
 
 -- the k-th bit stands in the word of the k-th start alone
 abbrev pub TellStarts : List ℕ → List ℕ → Type 0

@@ -8,9 +8,10 @@ pub loop-port-init : goal.loop-port-init
 loop-port-init c = record {
   part = refl;
   reads = refl;
+  told = c.get.ensures;
   both = λ part at. record {
-    outputs = no_pins (IsOutputPin c.args.graph.now part c.args.inside.now) c.new.result.items c.new.ensures.items;
-    inputs = no_pins (IsInputPin c.args.graph.now part c.args.inside.now) c.new-2.result.items c.new-2.ensures.items;
+    outputs = no_pins (IsOutputPin c.args.graph.now part c.args.part.inside.now) c.new.result.items c.new.ensures.items;
+    inputs = no_pins (IsInputPin c.args.graph.now part c.args.part.inside.now) c.new-2.result.items c.new-2.ensures.items;
   };
 }
 
@@ -20,7 +21,7 @@ cell_pin-requires-clause-port c = c.requires.ports c.loop-port.port-index 0 c.lo
 pub loop-port-preserved : goal.loop-port-preserved
 loop-port-preserved c =
     let g = c.args.graph.now in
-    let inside = c.args.inside.now in
+    let inside = c.args.part.inside.now in
     let ports = c.args.ports.now in
     let k = c.loop-port.port-index in
     let port = get_or ports k 0 in
@@ -34,6 +35,7 @@ loop-port-preserved c =
           rw (w.cell-is, w.in_ok-push.ensures.items) (record {
             part = so_far.part;
             reads = so_far.reads;
+            told = so_far.told;
             both = λ part at.
                 let told = subst (TellsPin g part inside port) w.in-Some.is (c.cell_pin.ensures part at) in
                 let input = subst (λ (side : Bool). TellsPin g part inside port (Some (record { pin = pin; is_input = side }))) w.if-found.true told in
@@ -44,6 +46,7 @@ loop-port-preserved c =
           rw (w.cell-is, w.in_ok-push-2.ensures.items) (record {
             part = so_far.part;
             reads = so_far.reads;
+            told = so_far.told;
             both = λ part at.
                 let told = subst (TellsPin g part inside port) w.in-Some.is (c.cell_pin.ensures part at) in
                 let output = subst (λ (side : Bool). TellsPin g part inside port (Some (record { pin = pin; is_input = side }))) w.if-found.false told in
@@ -53,6 +56,7 @@ loop-port-preserved c =
           rw w.cell-is (record {
             part = so_far.part;
             reads = so_far.reads;
+            told = so_far.told;
             both = λ part at.
                 let told = subst (TellsPin g part inside port) w.in_default.is (c.cell_pin.ensures part at) in
                 both_on g part inside ports k outputs inputs less (both_none g part inside _ outputs inputs (so_far.both part at) port told);
@@ -63,8 +67,8 @@ pub returns-clause-pins : goal.returns-clause-pins
 returns-clause-pins c = λ part at.
     let ports = c.args.ports.now in
     let cell = c.loop-port.cell in
-    let both = both_all c.args.graph.now part c.args.inside.now ports c.loop-port.port-index cell.outputs.items cell.inputs.items c.loop-port-test.false (c.loop-port.invariant.both part at) in
-    record { reads = c.loop-port.invariant.reads; outputs = both.outputs; inputs = both.inputs }
+    let both = both_all c.args.graph.now part c.args.part.inside.now ports c.loop-port.port-index cell.outputs.items cell.inputs.items c.loop-port-test.false (c.loop-port.invariant.both part at) in
+    record { reads = c.loop-port.invariant.reads; told = c.loop-port.invariant.told; outputs = both.outputs; inputs = both.inputs }
 
 pub returns-clause-graph : goal.returns-clause-graph
 returns-clause-graph c = (c.loop-port.invariant.part, c.loop-port.invariant.reads)

@@ -1,26 +1,14 @@
 use Rattle.std.proofs.Common.{rules, ◌≡◌, ℕ, ◌<◌, List, All, Some, length, option_and_then, arith, ap, subst, sym, ◌∙◌}
 use Rattle.std.proofs.lemmas.Option.{slice_get-get_or}
 use Rattle.hw_cells.proofs.GraphLemmas.{of_parts}
-use Rattle.hw_graph.specs.Groups.{IsGathered}
-use Rattle.hw_graph.specs.declared.groups.Entry.{Entry}
 use Rattle.cal_check.specs.Around.{comp_at, design_at}
 use Rattle.cal_check.specs.Mades.{made_component}
 use Rattle.cal_check.proofs.CellLemmas.{are_cells, cells_more, cells_none, cells_same, made_cell, made_known, made_part, made_within, none_made}
-use Rattle.cal_check.proofs.CellPinLemmas.{nodes_within, ports_gathered, ports_within}
+use Rattle.cal_check.proofs.CellPinLemmas.{nodes_within}
 use Rattle.cal_check.proofs.PartGraphLemmas.{graph_in, graphs_more, graphs_none, has_graph}
 use Rattle.cal_check.proofs.WiredCellLemmas.{cells_counted}
 use Rattle.cal_check.proofs.cells.cells_of.Goals.{in-Some+in-Some-insides+in_ok-cell_of+in_ok-push, in-Some+in_default-insides, in_default}
 use Rattle.cal_check.proofs.cells.cells_of.Goals as goal
-
-pub gather-requires-clause-in_range : goal.gather-requires-clause-in_range
-gather-requires-clause-in_range c =
-    let p = c.args.place.now in
-    let comp = c.comp.result.now in
-    let entries = c.in_ok-entries.entries.items in
-    let same : length (comp_at p).cells ≡ c.len-count.result = omega (arith, cells_counted p comp c.comp.ensures.comp, c.len-count.ensures, comp.cells.ok.0) in
-    let within = ports_within (design_at p) (comp_at p) c.args.graph.now entries c.in_ok-entries.ensures in
-    let counted = subst (λ (n : ℕ). All (λ (e : Entry). e.key < n) entries) same within in
-    subst (λ (l : List Entry). All (λ (e : Entry). e.key < c.len-count.result) l) (sym c.as_slice.ensures.value) counted
 
 pub loop-number-init : goal.loop-number-init
 loop-number-init c =
@@ -30,7 +18,10 @@ loop-number-init c =
     })
 
 pub get-requires : goal.get-requires
-get-requires c = omega (arith, c.in_ok-nodes.ensures.all, c.loop-number-test.true)
+get-requires c =
+    let p = c.args.place.now in
+    let comp = c.comp.result.now in
+    omega (arith, cells_counted p comp c.comp.ensures.comp, c.len-count.ensures, comp.cells.ok.0, c.in_ok-nodes.ensures.all, c.loop-number-test.true)
 
 pub offset_bounds-insides-part : goal.offset_bounds-insides-part
 offset_bounds-insides-part c =
@@ -65,12 +56,9 @@ cell_of-requires-clause-ports c =
     let d = design_at p in
     let own = comp_at p in
     let g = c.args.graph.now in
-    let entries = c.in_ok-entries.entries.items in
-    let count = c.len-count.result in
-    let nodes = c.in_ok-nodes.nodes in
     let number = c.loop-number.number in
-    let gathered = subst (λ (l : List Entry). IsGathered l count nodes) c.as_slice.ensures.value c.in_ok-nodes.ensures in
-    nodes_within d own g number c.get.result.now (ports_gathered d own g entries c.in_ok-entries.ensures count nodes gathered number c.loop-number-test.true c.get.result.now c.get.ensures)
+    let ports = c.get.result.now in
+    nodes_within d own g number ports (c.in_ok-nodes.ensures.each number ports c.get.ensures)
 
 pub loop-number-preserved : goal.loop-number-preserved
 loop-number-preserved c =
@@ -83,7 +71,6 @@ loop-number-preserved c =
     let number = c.loop-number.number in
     let cells = c.loop-number.cells.items in
     let so_far = c.loop-number.invariant in
-    let count = c.len-count.result in
     let insides = c.args.insides.now in
     let made = c.made.result in
     let of = c.made.ensures in
@@ -97,11 +84,8 @@ loop-number-preserved c =
           let r = w.index-insides-part.result in
           let at = slice_get-get_or insides m r lt ∙ ap Some (sym w.index-insides-part.is ∙ w.in-Some-insides.is) in
           let part = made_part d p.number own here number less made of m some in
-          let entries = c.in_ok-entries.entries.items in
-          let nodes = c.in_ok-nodes.nodes in
-          let gathered = subst (λ (l : List Entry). IsGathered l count nodes) c.as_slice.ensures.value c.in_ok-nodes.ensures in
           let ports = w.get.result.now in
-          let are = ports_gathered d own g entries c.in_ok-entries.ensures count nodes gathered number c.loop-number-test.true ports w.get.ensures in
+          let are = c.in_ok-nodes.ensures.each number ports w.get.ensures in
           let pins = w.in_ok-cell_of.ensures.pins part.0 part.1 in
           let cell = made_cell d p.number own here number less made of m some g insides c.requires.parts _ at ports are _ pins in
           rw (w.cells-is, w.in_ok-push.ensures.items) (record {

@@ -40,6 +40,15 @@ judge_number-requires-clause-parts c =
     let lt : k < length items = omega arith in
     parts_shown d c.in-Parts.order.items items k c.loop-number.insides.items c.deref.result.now c.deref-number-items.ensures.value first lt c.loop-number.invariant.sized c.loop-number.invariant.knows c.deref.ensures.value
 
+pub index-requires : goal.index-requires
+index-requires c =
+    let d = design_of c.args.overview.now.design.now in
+    let items = c.deref-number-items.result.now in
+    let k = c.loop-number.number-index in
+    let first = parts_first d c.args.overview.now.nesting.now.order c.in-Parts.order c.in-Parts.is c.requires.nesting.order in
+    let lt : k < length items = omega arith in
+    omega (arith, in_order d c.in-Parts.order.items items k c.deref-number-items.ensures.value first lt, c.in_ok-asked.ensures, c.in_ok-asked.asked.ok.0)
+
 pub keep_inside-requires : goal.keep_inside-requires
 keep_inside-requires c =
     let d = design_of c.args.overview.now.design.now in

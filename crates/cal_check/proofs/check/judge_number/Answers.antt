@@ -1,13 +1,13 @@
-use Rattle.std.proofs.Common.{◌≡◌, IfOk, sym, subst, subst₂, ◌∙◌, arith}
+use Rattle.std.proofs.Common.{◌≡◌, sym, subst, subst₂, ◌∙◌, arith}
 use Rattle.std.specs.Prelude.{IfSome}
 use Rattle.std.proofs.lemmas.List.{length-map}
 use Rattle.std.proofs.lemmas.Option.{same_Some}
 use Rattle.cal_ast.specs.Rules.{KeepsRules}
 use Rattle.cal_ast.specs.Tree.{Component, Design, component_tree, design_of}
-use Rattle.cal_check.specs.Around.{comp_at}
+use Rattle.cal_check.specs.Around.{comp_at, design_at}
 use Rattle.cal_check.specs.inside.Wiring.{IsInside, ShowsParts, TellsLoop}
-use Rattle.cal_check.specs.declared.loops.Judged.{Judged}
 use Rattle.cal_check.proofs.LoopedLemmas.{told_part}
+use Rattle.cal_check.proofs.ToldLemmas.{some_inside}
 use Rattle.cal_check.proofs.check.judge_number.Goals as goal
 
 pub get-requires : goal.get-requires
@@ -24,25 +24,30 @@ pub judge_loops-requires-clause-parts : goal.judge_loops-requires-clause-parts
 judge_loops-requires-clause-parts c =
     subst₂ (λ d n. ShowsParts d n c.args.insides.now) (sym c.in_ok-place.ensures.design) (sym c.in_ok-place.ensures.number) c.requires.parts
 
+pub tell_cells-requires : goal.tell_cells-requires
+tell_cells-requires c =
+    let p = c.in_ok-place.place in
+    some_inside (design_at p) (comp_at p) c.in_ok-judged.judged.inside c.in_ok-judged.ensures.shows
+
 pub returns-clause-inside : goal.returns-clause-inside
 returns-clause-inside c = λ holder held.
     let d = design_of c.args.overview.now.design.now in
     let nesting = c.args.overview.now.nesting.now in
     let part = told_part d nesting.holders holder c.args.number c.get.result.now c.is_empty-is_part.result c.requires.nesting.holders held c.get.ensures c.is_empty-is_part.ensures in
-    c.judge_loops.ensures.inside part
+    c.in_ok-inside.ensures.some (c.in_ok-judged.ensures.inside part)
 
 pub returns-clause-shows : goal.returns-clause-shows
 returns-clause-shows c = λ comp at.
     let e = c.in_ok-place.ensures in
     let p = c.in_ok-place.place in
     let same : comp_at p ≡ comp = same_Some (comp_at p) comp (sym e.comp ∙ at) in
-    let J : Design → Component → Type 0 = λ design x. IfOk c.judge_loops.result (λ (judged : Judged). IfSome judged.inside (IsInside design x)) in
-    subst₂ J e.design same c.judge_loops.ensures.shows
+    let J : Design → Component → Type 0 = λ design x. IfSome c.in_ok-inside.inside (IsInside design x) in
+    subst₂ J e.design same (c.in_ok-inside.ensures.shows (design_at p) (comp_at p) c.in_ok-judged.ensures.shows)
 
 pub returns-clause-cycle : goal.returns-clause-cycle
 returns-clause-cycle c = λ comp at.
     let e = c.in_ok-place.ensures in
     let p = c.in_ok-place.place in
     let same : comp_at p ≡ comp = same_Some (comp_at p) comp (sym e.comp ∙ at) in
-    let J : Design → Component → Type 0 = λ design x. IfOk c.judge_loops.result (λ (judged : Judged). TellsLoop design x judged.least_loop) in
-    subst₂ J e.design same c.judge_loops.ensures.cycle
+    let J : Design → Component → Type 0 = λ design x. TellsLoop design x c.in_ok-judged.judged.least_loop in
+    subst₂ J e.design same c.in_ok-judged.ensures.cycle

@@ -8,7 +8,7 @@ use Rattle.cal_check.proofs.inside.condensed.Goals as goal
 pub returns-in_ok-nodes-in-Some : goal.returns-in_ok-nodes-in-Some
 returns-in_ok-nodes-in-Some c design comp inputs_are known =
     let old = c.args.inside in
-    let new : Inside = record { reads = c.in-Some.reads; nodes = c.in_ok-nodes-in-Some.nodes } in
+    let new : Inside = record { reads = c.in-Some.reads; nodes = c.in_ok-nodes-in-Some.nodes; told = c.none-told.result } in
     let kept = subst (λ (found : Option (List (List ℕ))). IfSome found (IsOfPorts old c.args.inputs)) c.in-Some.is c.in_ok-reads.ensures in
     let numbers = c.in_ok-nodes-in-Some.ensures in
-    still_inside design comp old new c.args.inputs inputs_are known kept (omega (arith, numbers.all, c.len.ensures, old.nodes.ok.0)) (λ n lt. numbers.each n (omega (arith, lt, c.len.ensures, old.nodes.ok.0)))
+    still_inside design comp old new c.args.inputs inputs_are known kept (omega (arith, numbers.all, c.len.ensures, old.nodes.ok.0)) (λ n lt. numbers.each n (omega (arith, lt, c.len.ensures, old.nodes.ok.0))) c.none-told.ensures

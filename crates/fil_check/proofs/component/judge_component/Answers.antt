@@ -3,7 +3,7 @@ use Rattle.fil_ast.specs.Rules.{F1}
 use Rattle.fil_ast.specs.Tree.{component_tree}
 use Rattle.fil_check.specs.inside.First.{TellsItem}
 use Rattle.fil_check.proofs.ItemLemmas.{passed_up, signature_ends, signature_kept}
-use Rattle.fil_check.proofs.StartLemmas.{start, start_shown}
+use Rattle.fil_check.proofs.StartLemmas.{start}
 use Rattle.fil_check.proofs.component.judge_component.Goals as goal
 
 pub returns-in-Err-clause-broken : goal.returns-in-Err-clause-broken
@@ -16,8 +16,8 @@ returns-clause-kept c comps shows =
     let tree = component_tree c.args.names.now c.args.comp.now in
     let signature = c.in-Ok.ensures.kept comps shows.names in
     let new_names = signature 0 F1 (omega arith) in
-    let shown = start_shown c.args.earlier.now comps tree _ shows c.in-Ok.ensures.events c.in-Ok.ensures.ports c.beside.ensures c.new.ensures.items c.new-2.ensures.items c.new-3.ensures.items c.new-4.ensures.items in
-    let stands = start c.args.names.now c.args.earlier.now comps c.args.comp.now _ shown new_names c.new-5.ensures c.beside-2.ensures in
+    let shown = c.new-tables.ensures.shows c.args.earlier.now comps tree shows c.in-Ok.ensures.events c.in-Ok.ensures.ports in
+    let stands = start c.args.names.now c.args.earlier.now comps c.args.comp.now _ shown new_names c.new-tables.ensures.unused c.new-tables.ensures.connected in
     c.in_ok-judge_body.ensures.kept comps stands (signature_kept comps tree signature)
 
 pub returns-clause-tables : goal.returns-clause-tables
@@ -25,8 +25,8 @@ returns-clause-tables c comps shows =
     let tree = component_tree c.args.names.now c.args.comp.now in
     let signature = c.in-Ok.ensures.kept comps shows.names in
     let new_names = signature 0 F1 (omega arith) in
-    let shown = start_shown c.args.earlier.now comps tree _ shows c.in-Ok.ensures.events c.in-Ok.ensures.ports c.beside.ensures c.new.ensures.items c.new-2.ensures.items c.new-3.ensures.items c.new-4.ensures.items in
-    let stands = start c.args.names.now c.args.earlier.now comps c.args.comp.now _ shown new_names c.new-5.ensures c.beside-2.ensures in
+    let shown = c.new-tables.ensures.shows c.args.earlier.now comps tree shows c.in-Ok.ensures.events c.in-Ok.ensures.ports in
+    let stands = start c.args.names.now c.args.earlier.now comps c.args.comp.now _ shown new_names c.new-tables.ensures.unused c.new-tables.ensures.connected in
     c.in_ok-judge_body.ensures.tables comps stands
 
 pub returns-in_err-judge_body-clause-broken : goal.returns-in_err-judge_body-clause-broken
@@ -34,7 +34,7 @@ returns-in_err-judge_body-clause-broken c comps shows =
     let tree = component_tree c.args.names.now c.args.comp.now in
     let signature = c.in-Ok.ensures.kept comps shows.names in
     let new_names = signature 0 F1 (omega arith) in
-    let shown = start_shown c.args.earlier.now comps tree _ shows c.in-Ok.ensures.events c.in-Ok.ensures.ports c.beside.ensures c.new.ensures.items c.new-2.ensures.items c.new-3.ensures.items c.new-4.ensures.items in
-    let stands = start c.args.names.now c.args.earlier.now comps c.args.comp.now _ shown new_names c.new-5.ensures c.beside-2.ensures in
+    let shown = c.new-tables.ensures.shows c.args.earlier.now comps tree shows c.in-Ok.ensures.events c.in-Ok.ensures.ports in
+    let stands = start c.args.names.now c.args.earlier.now comps c.args.comp.now _ shown new_names c.new-tables.ensures.unused c.new-tables.ensures.connected in
     let told = c.in_err-judge_body.ensures.broken comps stands (signature_kept comps tree signature) in
     passed_up c.from_residual.result c.in_err-judge_body.field-0.0 (TellsItem comps tree) c.from_residual.ensures.1 told

@@ -15,7 +15,7 @@ use Rattle.fil_check.proofs.ReadingLemmas.{whole_graph}
 use Rattle.fil_check.proofs.loops.component_graph.Goals as goal
 
 pub returns-clause-reads : goal.returns-clause-reads
-returns-clause-reads c comps place keeps =
+returns-clause-reads c comps place =
     let names = c.args.place.now.names.now in
     let comp = c.args.place.now.comp.now in
     let tree = component_tree names comp in
@@ -30,7 +30,7 @@ returns-clause-reads c comps place keeps =
     (adds_before P start mid g (adds_before P start first mid (c.in_ok-add_body.ensures comps place has) c.in_ok-own.ensures.same) c.in_ok-outputs.ensures.same)
 
 pub returns-clause-instances : goal.returns-clause-instances
-returns-clause-instances c comps place keeps =
+returns-clause-instances c comps place =
     let tree = component_tree c.args.place.now.names.now c.args.place.now.comp.now in
     let scope = whole_scope comps tree in
     let has : HasInstances scope c.new-graph.result = ap (λ (p : PortList). p.instances) c.new-graph.ensures.ports ∙ place.shows.instances in
@@ -39,7 +39,7 @@ returns-clause-instances c comps place keeps =
     instances_kept NoPair scope c.own_ports.new.graph c.own_ports-2.new.graph c.in_ok-outputs.ensures.same (instances_kept NoPair scope c.add_body.new.graph c.own_ports.new.graph c.in_ok-own.ensures.same begun)
 
 pub returns-clause-own : goal.returns-clause-own
-returns-clause-own c comps place keeps =
+returns-clause-own c comps place =
     let names = c.args.place.now.names.now in
     let comp = c.args.place.now.comp.now in
     let before = c.own_ports.new.graph.ports.names in

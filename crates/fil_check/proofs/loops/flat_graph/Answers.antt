@@ -31,13 +31,13 @@ returns-clause-leads c comps place shows keeps own_keeps =
     let are : AreCells parts c.args.insides.now g.ports cells = subst (λ (l : List (Option ℕ)). AreCells l c.args.insides.now g.ports cells) c.deref-2.ensures.value c.in_ok-cells.ensures.cells in
     let flat : IsFlat g.entries.items (length g.ports.names) cells c.in_ok-reads.reads = subst₂ (λ (n : ℕ) (l : List Cell). IsFlat g.entries.items n l c.in_ok-reads.reads) c.len-count.ensures.len c.deref-3.ensures.value c.in_ok-reads.ensures.flat in
     leads_as_read comps tree names c.args.place.now.earlier.now comp c.args.place.now.tables.now place c.in_ok-parts.ensures.distinct keeps own_keeps parts (c.in_ok-parts.ensures.parts comps place) c.args.insides.now shows g
-    (instances_kept NoPair (whole_scope comps tree) c.in_ok-graph.field-0.graph g adds (c.in_ok-graph.ensures.instances comps place keeps)) (own_kept comps tree c.in_ok-graph.field-0.graph g adds (c.in_ok-graph.ensures.reads comps place keeps)) c.len-count.ensures.distinct dots cells are
+    (instances_kept NoPair (whole_scope comps tree) c.in_ok-graph.field-0.graph g adds (c.in_ok-graph.ensures.instances comps place)) (own_kept comps tree c.in_ok-graph.field-0.graph g adds (c.in_ok-graph.ensures.reads comps place)) c.len-count.ensures.distinct dots cells are
     c.in_ok-reads.reads flat
 
 pub returns-clause-own : goal.returns-clause-own
-returns-clause-own c comps place keeps =
+returns-clause-own c comps place =
     let names = own_port_names (component_tree c.args.place.now.names.now c.args.place.now.comp.now) in
-    numbered_kept c.in_ok-graph.field-0.graph.ports.names c.number_dotted.new.graph.ports.names c.in_ok-number_dotted.ensures.adds.texts c.in_ok-graph.field-0.own.items names (c.in_ok-graph.ensures.own comps place keeps)
+    numbered_kept c.in_ok-graph.field-0.graph.ports.names c.number_dotted.new.graph.ports.names c.in_ok-number_dotted.ensures.adds.texts c.in_ok-graph.field-0.own.items names (c.in_ok-graph.ensures.own comps place)
 
 pub returns-clause-within : goal.returns-clause-within
 returns-clause-within c = ports_within NoPair c.in_ok-graph.field-0.own.items c.in_ok-graph.field-0.graph c.number_dotted.new.graph c.in_ok-number_dotted.ensures.adds c.in_ok-graph.ensures.within

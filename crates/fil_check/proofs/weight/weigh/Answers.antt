@@ -6,6 +6,6 @@ use Rattle.fil_check.proofs.weight.weigh.Goals as goal
 
 pub returns : goal.returns
 returns c comps shown kept are =
-    let place = c.in_ok-tables.ensures comps shown in
+    let place = c.in_ok-tables.ensures comps shown kept in
     let D : List Text → Type 0 = λ ts. AreDistinct ts in
     c.weight.ensures comps place (subst D (sym place.shows.events) (kept 0 TheSignature refl 0 F1 (omega arith)).events) are

@@ -27,14 +27,6 @@ weigh-requires-clause-small c =
     let K : FilComp → Type 0 = KeepsLimits in
     subst K (get_or_from_slice_get comps n comp comp at) (c.design-design.ensures.small n comp (slice_get_within comps n comp at))
 
-pub weigh-requires-clause-kept : goal.weigh-requires-clause-kept
-weigh-requires-clause-kept c =
-    let d = c.design-design.result.now in
-    let n = c.loop-comp.comp-index in
-    let comp = c.comp-item.result in
-    let at = at_taken (component_tree d.names) d.comps.items c.deref.result.now c.args.count n comp c.deref.ensures.value c.loop-comp-test.true c.comp-item.is in
-    (take n (design_of d), c.loop-comp.invariant.shown, c.design-design.ensures.rules.keeps n (component_tree d.names comp) at)
-
 pub add_component-requires-clause-small : goal.add_component-requires-clause-small
 add_component-requires-clause-small c =
     let comps = c.design-design.result.now.comps.items in

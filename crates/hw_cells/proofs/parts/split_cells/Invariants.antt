@@ -8,6 +8,6 @@ use Rattle.hw_cells.proofs.parts.split_cells.Given as goal
 abbrev pub invariant-loop-part : goal.invariant-loop-part
 invariant-loop-part l =
     record {
-      splits : Splits l.cells (IsAmongFirst l.cells (the_view l.parts-inside) l.part) l.fn.entries.items l.split.entries.items [] (cells_at l.cells l.split.left.items);
+      splits : Splits l.cells (IsAmongFirst l.cells (the_view l.parts-inside) l.part) l.initial.split.entries.items l.split.entries.items [] (cells_at l.cells l.split.left.items);
       within : All (λ (number : ℕ). number < length l.cells) l.split.left.items;
     }

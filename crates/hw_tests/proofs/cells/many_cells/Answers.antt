@@ -1,9 +1,9 @@
-use Rattle.std.proofs.Common.{◌≡◌, ℕ, List, Some, length, arith, ap, subst, sym}
+use Rattle.std.proofs.Common.{ℕ, Some, arith, ap, subst, sym}
 use Rattle.std.specs.Prelude.{All}
 use Rattle.std.proofs.lemmas.List.Elements.{All-push}
-use Rattle.hw_cells.specs.Cells.{IsFit}
-use Rattle.hw_cells.specs.declared.cell.Cell.{Cell}
+use Rattle.hw_cells.specs.Cells.{IsFit, IsTold}
 use Rattle.hw_cells.proofs.GraphLemmas.{HasGraphOf, of_parts}
+use Rattle.hw_tests.proofs.CellLemmas.{lent_too}
 use Rattle.hw_tests.specs.declared.cells.TheConstants.{MANY_PORTS}
 use Rattle.hw_tests.proofs.cells.many_cells.Goals as goal
 
@@ -14,6 +14,9 @@ loop-number-init c =
       fit = subst (All (IsFit MANY_PORTS)) (sym none) (λ k d lt. absurd (omega (arith, lt)));
       graphs = subst (All (HasGraphOf (λ (part : ℕ). Some c.args.inside.now))) (sym none) (λ k d lt. absurd (omega (arith, lt)));
     }
+
+pub cell_of-requires-clause-told : goal.cell_of-requires-clause-told
+cell_of-requires-clause-told c = lent_too (IsTold c.args.inside.now) c.args.told.now c.loop-number.number c.get.result c.requires.told c.get.ensures.lookup
 
 pub loop-number-preserved : goal.loop-number-preserved
 loop-number-preserved c =

@@ -35,6 +35,7 @@ loop-node-preserved c =
           rw (w.cell-is, w.in_ok-push.ensures.items) (record {
             part = so_far.part;
             reads = so_far.reads;
+            untold = so_far.untold;
             both = λ inst at_inst.
                 both_of inside ports own inst _ _ _ (same_Some own inst (sym at_own ∙ at_inst)) (both_on inside ports own nodes k outputs _ less (both_input inside ports own _ outputs inputs before node name at pin input));
           })
@@ -45,6 +46,7 @@ loop-node-preserved c =
           rw (w.cell-is, w.in_ok-push-2.ensures.items) (record {
             part = so_far.part;
             reads = so_far.reads;
+            untold = so_far.untold;
             both = λ inst at_inst.
                 both_of inside ports own inst _ _ _ (same_Some own inst (sym at_own ∙ at_inst)) (both_on inside ports own nodes k _ inputs less (both_output inside ports own _ outputs inputs before node name at pin output));
           })
@@ -53,6 +55,7 @@ loop-node-preserved c =
           rw w.cell-is (record {
             part = so_far.part;
             reads = so_far.reads;
+            untold = so_far.untold;
             both = λ inst at_inst. both_of inside ports own inst _ _ _ (same_Some own inst (sym at_own ∙ at_inst)) (both_on inside ports own nodes k outputs inputs less (both_none inside ports own _ outputs inputs before node name at none));
           })
     ]
@@ -65,4 +68,4 @@ returns-clause-pins c =
     let own = get_or instances c.args.instance [] in
     let at_own = slice_get-get_or instances c.args.instance [] c.requires.instance in
     let both = both_all c.args.inside.now c.args.ports.now own nodes c.loop-node.node-index cell.outputs.items cell.inputs.items c.loop-node-test.false (c.loop-node.invariant.both own at_own) in
-    record { inst = own; instance_at = at_own; reads = c.loop-node.invariant.reads; outputs = both.outputs; inputs = both.inputs }
+    record { inst = own; instance_at = at_own; reads = c.loop-node.invariant.reads; untold = c.loop-node.invariant.untold; outputs = both.outputs; inputs = both.inputs }

@@ -23,8 +23,8 @@ returns-clause-levels c comps place shows keeps own_keeps =
     let E : List (Option ℕ) → Type 0 = λ l. HasAllPorts g.ports l levels cells in
     let every = subst E c.deref.ensures.value c.in_ok-cells.ensures.all in
     let falling = MatchOption-at_some ⊤ (λ (l : Vec ℕ Global). AreLevels g.entries.items cells l.items) c.in-Some-2.found c.in-Some-2.is c.in_ok-found.ensures.levels in
-    let has = made.instances comps place keeps in
-    let reads = made.reads comps place keeps in
+    let has = made.instances comps place in
+    let reads = made.reads comps place in
     let texts = c.in-Some.names in
     let are_names = MatchOption-at_some ⊤ (λ (l : List Text). l ≡ own_port_names tree) texts c.in-Some.is c.in_ok-names.ensures.names in
     let differ = MatchOption-at_some ⊤ (λ (l : List Text). AreDistinct l) texts c.in-Some.is c.in_ok-names.ensures.distinct in
@@ -33,7 +33,7 @@ returns-clause-levels c comps place shows keeps own_keeps =
     let own = c.in_ok-levels.ensures ∙ ap₂ (λ (l ns : List ℕ). map (slice_index l) ns) c.deref-3.ensures.value c.deref-2.ensures.value in
     shows_own comps tree names c.args.place.now.earlier.now comp c.args.place.now.tables.now place c.parts_of.ensures.distinct keeps parts (c.in_ok-parts.ensures.parts comps place) levels shows
     g has reads c.len.ensures.distinct cells every c.in-Some-2.found.items falling
-    texts are_names differ no_dots c.in_ok-graph.field-0.own.items (made.own comps place keeps) _ refl inputs own
+    texts are_names differ no_dots c.in_ok-graph.field-0.own.items (made.own comps place) _ refl inputs own
 
 pub returns-clause-no_loop : goal.returns-clause-no_loop
 returns-clause-no_loop c comps place shows keeps own_keeps =
@@ -48,7 +48,7 @@ returns-clause-no_loop c comps place shows keeps own_keeps =
     let E : List (Option ℕ) → Type 0 = λ l. HasAllPorts g.ports l levels cells in
     let every = subst E c.deref.ensures.value c.in_ok-cells.ensures.all in
     let falling = MatchOption-at_some ⊤ (λ (l : Vec ℕ Global). AreLevels g.entries.items cells l.items) c.in-Some-2.found c.in-Some-2.is c.in_ok-found.ensures.levels in
-    let has = made.instances comps place keeps in
-    let reads = made.reads comps place keeps in
+    let has = made.instances comps place in
+    let reads = made.reads comps place in
     no_loop_by_levels comps tree names c.args.place.now.earlier.now comp c.args.place.now.tables.now place c.parts_of.ensures.distinct keeps parts (c.in_ok-parts.ensures.parts comps place) levels shows
     g has reads c.len.ensures.distinct cells every c.in-Some-2.found.items falling

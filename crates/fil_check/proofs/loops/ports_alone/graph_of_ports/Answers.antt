@@ -5,7 +5,7 @@ use Rattle.fil_check.proofs.loops.ports_alone.graph_of_ports.Goals as goal
 
 pub condense-requires-clause-fit : goal.condense-requires-clause-fit
 condense-requires-clause-fit c =
-    ports_fit c.args.inside.now c.len-ports.result _ c.as_slice-nodes.result.now c.as_slice-nodes.ensures.value (omega (arith, c.len-ports.ensures, c.args.inside.now.nodes.ok.0)) refl c.in_ok-pins_between.ensures c.in_ok-pins_between-2.ensures
+    ports_fit c.args.inside.now c.len-ports.result _ c.as_slice-nodes.result.now c.as_slice-nodes.ensures.value (omega (arith, c.len-ports.ensures, c.args.inside.now.nodes.ok.0)) refl c.in_ok-pins_between.ensures c.in_ok-pins_between-2.ensures refl
 
 pub condense-requires-clause-sides : goal.condense-requires-clause-sides
 condense-requires-clause-sides c = on_one_side c.as_slice-nodes.result.now c.args.inside.now.inputs c.len-ports.result _ _ c.in_ok-pins_between.ensures c.in_ok-pins_between-2.ensures
