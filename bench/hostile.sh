@@ -244,4 +244,4 @@ if [ "$failed" -gt 0 ]; then
     echo "failed; what was tried is in $work"
     exit 1
 fi
-echo 'all held, but for what is known'
+echo 'all held'

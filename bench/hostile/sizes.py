@@ -9,7 +9,7 @@ reads, where these are 500,000 or more. Where a run takes more than half a secon
 it or more, or six of half the size a 2.6th of six; a netlist whose instances stand deep in one another may take the square,
 since its names, and so its text, grow so.
 
-Prints a line for each run, then what the program is known not to keep, and the status is 0 where all else held."""
+Prints a line for each run, and the status is 0 where all held."""
 import os, pathlib, subprocess, sys, typing
 
 import shapes
@@ -136,10 +136,6 @@ TABLE = [
     Row(shapes.cal_idle_ports_loop, 9_000, "check f.futil", ends("refused C12 main item 0 loop l.in l.out")),
     Row(shapes.fil_long_parts_loop, 12_000, "check f.fil", ends("refused F14 main item 0 loop M.in N.out N.in M.out")),
     Row(shapes.cal_wide_parts_loop, 12_000, "check f.futil", ends("refused C12 main item 0 loop l.in l.out")),
-]
-
-# What the program does not keep, as is known.
-KNOWN = [
     Row(shapes.cal_wide_holders_loop, 7_000, "check f.futil", ends("refused C12 main item 0 loop l.in l.out")),
 ]
 
@@ -240,10 +236,6 @@ def main():
     faults = []
     for row in tried(TABLE):
         faults += [*try_row(program, folder, row), *(try_over(program, folder, row) if row.over else ())]
-    print("what is known not to be kept:")
-    for row in tried(KNOWN):
-        wrong = [*try_row(program, folder, row)]
-        print(*[f"known: {it}" for it in wrong] or [f"kept by now: {row.shape.__name__} {row.size}, {row.commands}"], sep="\n", flush=True)
     print(*[f"fault: {it}" for it in faults], f"faults: {len(faults)}", sep="\n")
     return 1 if faults else 0
 
