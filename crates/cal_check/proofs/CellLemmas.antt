@@ -27,7 +27,8 @@ use Rattle.cal_check.specs.inside.Cells.{AreCells}
 use Rattle.cal_check.specs.inside.Levels.{ReadsByPart}
 use Rattle.cal_check.specs.inside.Nodes.{APort, Node, key_of, ports_in}
 use Rattle.cal_check.specs.inside.WireGraphs.{HasNumber}
-use Rattle.cal_check.specs.inside.Wiring.{IsInside, LeadsInside, ShowsParts}
+use Rattle.hw_cells.specs.PartGraph.{Leads}
+use Rattle.cal_check.specs.inside.Wiring.{IsInside, ShowsParts}
 use Rattle.cal_check.specs.declared.inside.Inside.{Inside}
 use Rattle.cal_check.specs.declared.made.Made.{Made}
 use Rattle.cal_check.specs.declared.made.Made.TheVariants as variant
@@ -174,8 +175,8 @@ module _ (design : Design) (c : Component) (g : WireGraph) where
   -- the pins of a cell lie in its holder's graph, and their nodes in its own
   cell_fits : (number : ℕ) (part : Component) (cell : Cell) → IsCellAt design c g number part cell → IsFit (length g.ports.keys) cell
   cell_fits number part cell is = record {
-    in_range = subst AreInRange (sym is.pins.reads) is.shows.in_range;
-    told = told_rightly is.inside.reads cell.reads.now is.inside.told.cells.items is.shows.told is.pins.reads cell.told is.pins.told;
+    in_range = subst AreInRange (sym is.pins.reads) is.inside.graph.in_range;
+    told = told_rightly is.inside.graph.reads cell.reads.now is.inside.told.cells.items is.shows.told is.pins.reads cell.told is.pins.told;
     outputs = within cell.outputs.items (λ pin has. let r = ((is.pins.outputs pin).0 has).1 in (r.0, r.2));
     inputs = within cell.inputs.items (λ pin has. let r = ((is.pins.inputs pin).0 has).1 in (r.0, r.2));
   }
@@ -183,7 +184,7 @@ module _ (design : Design) (c : Component) (g : WireGraph) where
       lies : (pin : Pin) → (k : ℕ) × IsPinAt g part is.inside k pin → IsPinWithin (length g.ports.keys) (length cell.reads.now) pin
       lies pin r = (
         slice_get_within g.ports.keys pin.port (key_of (APort (port_of r.1.cell r.1.name))) r.1.at.at,
-        subst (λ (l : List (List ℕ)). pin.node < length l) (sym is.pins.reads) (is.shows.within r.0 pin.node r.1.node),
+        subst (λ (l : List (List ℕ)). pin.node < length l) (sym is.pins.reads) (is.inside.graph.within r.0 pin.node r.1.node),
       )
 
       within : (pins : List Pin) → ((pin : Pin) → Contains pins pin → (k : ℕ) × IsPinAt g part is.inside k pin) → All (IsPinWithin (length g.ports.keys) (length cell.reads.now)) pins
@@ -225,7 +226,7 @@ module _ (design : Design) (c : Component) (g : WireGraph) where
             is_output = refl;
             is_input = refl;
           };
-          reaches = (is.shows.leads output.0 input.0 output.2.name input.2.name output.2.first.here input.2.first.here output.1 input.1).0 leads;
+          reaches = (is.shows.reached output.0 input.0 output.2.name input.2.name output.2.first.here input.2.first.here output.1 input.1).0 leads;
         }
       where
         outputs : Contains is.ports through.output.port × IsOutputPin g part is.inside through.output
@@ -249,7 +250,7 @@ module _ (design : Design) (c : Component) (g : WireGraph) where
         same_cell : of_input.name ≡ of_output.name
         same_cell = same_Some of_input.name of_output.name (sym of_input.first.here ∙ of_output.first.here)
 
-        leads : LeadsInside is.inside output.0 input.0
+        leads : Leads is.inside.graph output.0 input.0
         leads = record {
           node = through.output.node;
           other = through.input.node;
@@ -277,8 +278,8 @@ module _ (design : Design) (c : Component) (g : WireGraph) where
         k : (m : ℕ) × (m < length (inputs_in part)) × (slice_get (ports_in part) m ≡ Some r.input_name)
         k = input_place (inputs_in part) (outputs_in part) r.input_name (subst (λ (d : Component). Contains (pin_names (inputs_in d)) r.input_name) same r.crosses.has_input)
 
-        leads : LeadsInside is.inside o.0 k.0
-        leads = (is.shows.leads o.0 k.0 r.output_name r.input_name o.2 k.2 o.1 k.1).1 (subst (λ (d : Component). Reaches design d (own r.output_name) (own r.input_name)) same r.reaches)
+        leads : Leads is.inside.graph o.0 k.0
+        leads = (is.shows.reached o.0 k.0 r.output_name r.input_name o.2 k.2 o.1 k.1).1 (subst (λ (d : Component). Reaches design d (own r.output_name) (own r.input_name)) same r.reaches)
 
         own_output : Pin
         own_output = record { port = i; node = leads.node }
@@ -295,7 +296,7 @@ module _ (design : Design) (c : Component) (g : WireGraph) where
         port : (name : Text) (x : ℕ) → HasNumber g (APort (port_of r.crosses.cell name)) x → IsPortOfCell design c g number x
         port name x has = record { name = r.crosses.cell; pin = name; first = first; part = r.part; made = r.crosses.made; at = has }
 
-        pin : (name : Text) (x m inner : ℕ) → HasNumber g (APort (port_of r.crosses.cell name)) x → slice_get (ports_in part) m ≡ Some name → slice_get is.inside.nodes.items m ≡ Some (Some inner)
+        pin : (name : Text) (x m inner : ℕ) → HasNumber g (APort (port_of r.crosses.cell name)) x → slice_get (ports_in part) m ≡ Some name → slice_get is.inside.graph.nodes.items m ≡ Some (Some inner)
             → IsPinAt g part is.inside m (record { port = x; node = inner })
         pin name x m inner has at_m there = record { cell = r.crosses.cell; name = name; at = has; first = distinct_first (ports_in part) m name distinct at_m; node = there }
 

@@ -1,6 +1,5 @@
 -- The ports of cells that are made of components, as a graph has them: whose they are, and their nodes inside.
 use Rattle.std.proofs.Common.{◌≡◌, ◌↔◌, inl, inr, ℕ, ◌+◌, ◌<◌, ◌≤◌, Bool, true, false, nat_lt, List, [], ◌∷◌, ◌++◌, Option, Some, None, option_and_then, length, get_or, slice_get, All, Contains, refl, sym, ap, ap₂, subst, ◌∙◌, arith}
-use Rattle.std.specs.Option.{option_flatten}
 use Rattle.std.specs.Prelude.{IfSome, take}
 use Rattle.std.proofs.lemmas.Bool.{cases_lt}
 use Rattle.std.proofs.lemmas.Bool.Decides.{Decides-ltb}
@@ -22,7 +21,7 @@ use Rattle.cal_check.specs.Mades.{made_component}
 use Rattle.cal_check.specs.Signatures.{ShowsSignature}
 use Rattle.cal_check.specs.inside.CellPins.{AreCellPorts, ArePins, IsInputPin, IsOutputPin, IsPinAt, IsPortOfCell, TellsPin}
 use Rattle.cal_check.specs.inside.Nodes.{APort, key_of, ports_in}
-use Rattle.cal_check.specs.declared.cells.CellPin.{CellPin}
+use Rattle.hw_cells.specs.declared.cell.CellPin.{CellPin}
 use Rattle.cal_check.specs.declared.inside.Inside.{Inside}
 use Rattle.cal_check.specs.declared.made.Made.{Made}
 use Rattle.cal_check.specs.declared.signature.Signature.{Signature}
@@ -184,17 +183,6 @@ pub place_told : (s : Signature) (part : Component) → ShowsSignature s part �
 place_told s part shows name r tells =
     tells (ports_in part) (subst (λ (l : List Text). ShowsFirsts s.names l) (names_both (inputs_in part) (outputs_in part)) shows.ports.names)
 
--- what is told of a node that may not be there
-pub flat_none : (o : Option (Option ℕ)) (f : Option ℕ) → f ≡ option_flatten o → f ≡ None → (node : ℕ) → o ≡ Some (Some node) → ⊥
-flat_none None f is none node e = none-some (Some node) e
-flat_none (Some None) f is none node e = none-some node (same_Some None (Some node) e)
-flat_none (Some (Some k)) f is none node e = none-some k (sym none ∙ is)
-
-pub flat_some : (o : Option (Option ℕ)) (f : Option ℕ) → f ≡ option_flatten o → (node : ℕ) → f ≡ Some node → o ≡ Some (Some node)
-flat_some None f is node some = absurd (none-some node (sym is ∙ some))
-flat_some (Some None) f is node some = absurd (none-some node (sym is ∙ some))
-flat_some (Some (Some k)) f is node some = ap Some (sym is ∙ some)
-
 module _ (g : WireGraph) (part : Component) (inside : Inside) (port : ℕ) where
   -- it has none
   pub no_pin : ((number : ℕ) (pin : Pin) → pin.port ≡ port → IsPinAt g part inside number pin → ⊥) → TellsPin g part inside port None
@@ -221,13 +209,13 @@ module _ (g : WireGraph) (part : Component) (inside : Inside) (port : ℕ) where
 
     module _ (j : ℕ) (found : r ≡ Some j) where
       -- the port has no node inside
-      pub no_node : ((node : ℕ) → slice_get inside.nodes.items j ≡ Some (Some node) → ⊥) → TellsPin g part inside port None
+      pub no_node : ((node : ℕ) → slice_get inside.graph.nodes.items j ≡ Some (Some node) → ⊥) → TellsPin g part inside port None
       no_node none =
           no_pin (λ number pin e is.
           let same : number ≡ j = same_Some number j (sym (number_told number pin e is) ∙ found) in
-          none pin.node (ap (slice_get inside.nodes.items) (sym same) ∙ is.node))
+          none pin.node (ap (slice_get inside.graph.nodes.items) (sym same) ∙ is.node))
 
-      module _ (node inputs : ℕ) (there : slice_get inside.nodes.items j ≡ Some (Some node)) (sized : inputs ≡ length (inputs_in part)) where
+      module _ (node inputs : ℕ) (there : slice_get inside.graph.nodes.items j ≡ Some (Some node)) (sized : inputs ≡ length (inputs_in part)) where
         abbrev make : Pin → Bool → CellPin
         make pin is_input = record { pin = pin; is_input = is_input }
 
@@ -252,7 +240,7 @@ module _ (g : WireGraph) (part : Component) (inside : Inside) (port : ℕ) where
           is_pin : (number : ℕ) → IsPinAt g part inside number pin → (number ≡ j) × (own ≡ pin)
           is_pin number is =
               let here : number ≡ j = same_Some number j (sym (number_told number pin same is) ∙ found) in
-              let nodes : node ≡ pin.node = same_Some node pin.node (same_Some (Some node) (Some pin.node) (sym there ∙ ap (slice_get inside.nodes.items) (sym here) ∙ is.node)) in
+              let nodes : node ≡ pin.node = same_Some node pin.node (same_Some (Some node) (Some pin.node) (sym there ∙ ap (slice_get inside.graph.nodes.items) (sym here) ∙ is.node)) in
               let pair : ℕ → ℕ → Pin = λ a b. record { port = a; node = b } in
               (here, ap₂ pair (sym same) nodes)
 

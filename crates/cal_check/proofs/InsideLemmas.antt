@@ -1,23 +1,24 @@
 -- What the components that have cells of a component need to know of it: its graph, and the nodes of its ports.
-use Rattle.std.proofs.Common.{◌≡◌, ◌↔◌, inl, inr, ℕ, ◌+◌, ◌<◌, List, [], ◌∷◌, ◌++◌, Option, Some, None, Vec, Global, length, slice_get, Contains, refl, sym, ap, subst, ◌∙◌, arith}
+use Rattle.std.proofs.Common.{◌≡◌, ◌↔◌, inl, inr, ℕ, ◌+◌, ◌<◌, List, [], ◌∷◌, ◌++◌, Option, Some, None, length, slice_get, Contains, refl, sym, ap, subst, ◌∙◌, arith}
 use Rattle.std.specs.Prelude.{IfSome, IsSome}
 use Rattle.std.proofs.lemmas.Bool.{cases_lt}
 use Rattle.std.proofs.lemmas.List.{length-append}
 use Rattle.std.proofs.lemmas.Option.{none-some, same_Some, slice_get_within}
 use Rattle.hw_names.proofs.NameLemmas.{Contains-slice_get, same_number}
 use Rattle.hw_names.specs.Name.{AreDistinct, Text}
+use Rattle.cal_ast.specs.Ports.{inputs_in}
 use Rattle.cal_ast.specs.Tree.{Component, Design, PortName, own}
 use Rattle.cal_ast.specs.Wires.{Reaches}
 use Rattle.cal_check.specs.inside.Cells.{LeadsAsRead}
 use Rattle.cal_check.specs.inside.Nodes.{APort, key_of, ports_in}
-use Rattle.cal_check.specs.inside.Wiring.{AreNodes, IsInside, LeadsInside}
-use Rattle.cal_check.specs.declared.inside.Inside.{Inside}
-use Rattle.cal_check.specs.declared.told.ToldCells.{ToldCells}
+use Rattle.hw_cells.specs.Cells.{HasOwnNodes}
+use Rattle.hw_cells.specs.PartGraph.{Leads, LeadsAlike}
+use Rattle.hw_cells.specs.declared.part_graph.PartGraph.{PartGraph}
+use Rattle.cal_check.specs.inside.Wiring.{AreNodes, ShowsReached}
 use Rattle.cal_check.proofs.FirstLemmas.{slice_get-front, slice_get-last}
 use Rattle.cal_check.proofs.GraphLemmas.{exists_at}
 use Rattle.cal_check.proofs.KeyLemmas.{same_port}
 use Rattle.cal_check.proofs.NumberLemmas.{first_of, last_of, leads, reach_nodes}
-use Rattle.cal_check.proofs.ToldLemmas.{none_told}
 
 -- ---- the nodes of own ports
 
@@ -75,17 +76,14 @@ module _ (c : Component) (keys : List Text) where
 
 -- ---- the graph leads from outputs to inputs as they reach them
 
-module _ (design : Design) (c : Component) (keys : List Text) (reads : List (List ℕ)) (is : LeadsAsRead design c keys reads) (distinct : AreDistinct (ports_in c)) (nodes : Vec (Option ℕ) Global) (are : AreNodes c keys nodes.items)
-    (told : ToldCells) (nothing : told.cells.items ≡ []) where
-  abbrev pub inside : Inside
-  inside = record { reads = reads; nodes = nodes; told = told }
+-- own ports have nodes of the graph
+pub nodes_within : (design : Design) (c : Component) (keys : List Text) (reads : List (List ℕ)) (nodes : List (Option ℕ)) → LeadsAsRead design c keys reads → AreNodes c keys nodes → HasOwnNodes reads nodes
+nodes_within design c keys reads nodes is are n node at =
+    let port = exists_at (ports_in c) n (omega (arith, slice_get_within nodes n (Some node) at, are.all)) in
+    let there = (are.each n node port.0 port.1).0 at in
+    omega (arith, slice_get_within keys node (key_of (APort (own port.0))) there, is.all)
 
-  node_within : (n node : ℕ) → slice_get nodes.items n ≡ Some (Some node) → node < length reads
-  node_within n node at =
-      let port = exists_at (ports_in c) n (omega (arith, slice_get_within nodes.items n (Some node) at, are.all)) in
-      let there = (are.each n node port.0 port.1).0 at in
-      omega (arith, slice_get_within keys node (key_of (APort (own port.0))) there, is.all)
-
+module _ (design : Design) (c : Component) (keys : List Text) (old : PartGraph) (is : LeadsAsRead design c keys old.reads) (distinct : AreDistinct (ports_in c)) (are : AreNodes c keys old.nodes.items) where
   module _ (n m : ℕ) (output input : Text) (at_n : slice_get (ports_in c) n ≡ Some output) (at_m : slice_get (ports_in c) m ≡ Some input) where
     -- one node is that of one port
     one_port : (node other : ℕ) → slice_get keys node ≡ Some (key_of (APort (own output))) → slice_get keys other ≡ Some (key_of (APort (own input))) → node ≡ other → n ≡ m
@@ -94,7 +92,7 @@ module _ (design : Design) (c : Component) (keys : List Text) (reads : List (Lis
         let name : output ≡ input = ap (λ (p : PortName). p.pin) (same_port (own output) (own input) key) in
         same_number (ports_in c) n m output distinct at_n (at_m ∙ ap Some (sym name))
 
-    to_reaches : (n ≡ m → ⊥) → LeadsInside inside n m → Reaches design c (own output) (own input)
+    to_reaches : (n ≡ m → ⊥) → Leads old n m → Reaches design c (own output) (own input)
     to_reaches apart l =
         let at_node = (are.each n l.node output at_n).0 l.is_node in
         let at_other = (are.each m l.other input at_m).0 l.is_other in
@@ -105,7 +103,7 @@ module _ (design : Design) (c : Component) (keys : List Text) (reads : List (Lis
               ((is.reaches (APort (own output)) (APort (own input)) l.node l.other (record { has_key = tt; at = at_node }) (record { has_key = tt; at = at_other })).0 reaches) refl
         ]
 
-    from_reaches : Reaches design c (own output) (own input) → LeadsInside inside n m
+    from_reaches : Reaches design c (own output) (own input) → Leads old n m
     from_reaches reaches =
         let way = reach_nodes design c (own output) (own input) reaches in
         let first = first_of design c (APort (own output)) (APort (own input)) way in
@@ -120,10 +118,12 @@ module _ (design : Design) (c : Component) (keys : List Text) (reads : List (Lis
           leads = inr ((is.reaches (APort (own output)) (APort (own input)) i.0 j.0 i.1 j.1).1 way);
         }
 
-  pub is_inside : IsInside design c inside
-  is_inside = record {
-    in_range = is.in_range;
-    within = node_within;
-    leads = λ n m output input at_n at_m from to. (to_reaches n m output input at_n at_m (λ same. omega (arith, same, from, to)), from_reaches n m output input at_n at_m);
-    told = none_told reads told.cells.items nothing;
-  }
+  shows_reached : ShowsReached design c old
+  shows_reached n m output input at_n at_m from to = (to_reaches n m output input at_n at_m (λ same. omega (arith, same, from, to)), from_reaches n m output input at_n at_m)
+
+  -- and so does one that leads alike
+  pub reached_alike : (new : PartGraph) → old.inputs ≡ length (inputs_in c) → LeadsAlike old new → ShowsReached design c new
+  reached_alike new inputs alike n m output input at_n at_m from to =
+      let same = alike.leads n m (omega (arith, from, inputs)) (omega (arith, to, inputs)) in
+      let shown = shows_reached n m output input at_n at_m from to in
+      (λ l. shown.0 (same.0 l), λ r. same.1 (shown.1 r))

@@ -18,7 +18,6 @@ pub mod GuardLemmas
 pub mod HolderLemmas
 pub mod InputLemmas
 pub mod InsideLemmas
-pub mod CondensedLemmas
 pub mod InvokeLemmas
 pub mod InvokedLemmas
 pub mod JudgeLemmas

@@ -1,18 +1,10 @@
 -- What is told of cells that are made of a component.
-use Rattle.std.proofs.Common.{◌≡◌, ◌↔◌, ◌<◌, ℕ, List, [], ◌++◌, Option, Some, None, All, Contains, length, drop, take, get_or, sym, ap, subst, arith}
+use Rattle.std.proofs.Common.{◌≡◌, ℕ, List, [], ◌++◌, Option, Some, None, All, Contains, length, drop, take, sym, ap, subst, arith}
 use Rattle.std.specs.Borrow.{Bor}
 use Rattle.std.specs.Prelude.{IfSome}
 use Rattle.std.proofs.lemmas.List.Elements.{All-append, All-contains, All-drop, All-take}
 use Rattle.hw_cells.specs.Cells.{IsAskable, IsTold}
 use Rattle.hw_cells.specs.declared.told.Told.{Told}
-use Rattle.cal_ast.specs.Tree.{Component, Design}
-use Rattle.cal_check.specs.inside.Wiring.{IsInside}
-use Rattle.cal_check.specs.declared.inside.Inside.{Inside}
-
--- what is known of a component is known of some component
-pub some_inside : (design : Design) (c : Component) (known : Option Inside) → IfSome known (IsInside design c) → IfSome known (λ (inside : Inside). (d : Design) × (x : Component) × IsInside d x inside)
-some_inside design c None is = is
-some_inside design c (Some inside) is = (design, c, is)
 
 -- nothing is told
 pub none_told : (reads : List (List ℕ)) (told : List Told) → told ≡ [] → All (IsTold reads) told

@@ -17,7 +17,7 @@ use crate::place::Place;
 use crate::told::CellKey;
 use crate::wire_graph::WireGraph;
 use hw_bits::Memory;
-use hw_cells::{Cell, Pin};
+use hw_cells::{Cell, CellPin, Pin};
 use hw_graph::{Entry, Groups, gather};
 
 /// The number of the cell whose port the node is, if that is made of a component.
@@ -65,13 +65,6 @@ struct Part<'w> {
     inside: &'w Inside,
 }
 
-/// A port of a cell, and whether it is an input.
-#[derive(Clone, Copy)]
-pub struct CellPin {
-    pub pin: Pin,
-    pub is_input: bool,
-}
-
 /// The port of a cell that is made of the component of this number: a node of the graph, and its node inside.
 fn cell_pin(
     place: &Place,
@@ -87,7 +80,7 @@ fn cell_pin(
     let (_cell, pin) = graph.ports.cell_port(port)?;
     let signature = place.signature_of(part);
     let number = signature.names.find(pin)?;
-    let node = inside.nodes.get(number).copied().flatten()?;
+    let node = inside.graph.nodes.get(number).copied().flatten()?;
     Some(CellPin {
         pin: Pin { port, node },
         is_input: number < signature.inputs,
@@ -106,7 +99,7 @@ fn cell_of<'w>(
     requires ports { All (λ port. port < length graph.now.ports.keys) ports.now }
     ensures pins { (c : Component) → slice_get (design_at place.now) part.entry.number ≡ Some c
         → IfOk result (HasPins graph.now c part.entry.inside.now ports.now) }
-    ensures graph { IfOk result (λ cell. (cell.part ≡ part.entry.number) × (cell.reads.now ≡ part.entry.inside.now.reads)) }
+    ensures graph { IfOk result (λ cell. (cell.part ≡ part.entry.number) × (cell.reads.now ≡ part.entry.inside.now.graph.reads)) }
 {
     let key = CellKey {
         holder: place.number(),
@@ -114,7 +107,7 @@ fn cell_of<'w>(
     };
     let mut cell = Cell {
         part: part.number,
-        reads: &part.inside.reads,
+        reads: &part.inside.graph.reads,
         told: part.inside.told.get(key),
         outputs: Vec::new(graph.alloc),
         inputs: Vec::new(graph.alloc),

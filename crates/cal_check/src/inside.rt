@@ -1,13 +1,11 @@
 //! What the components that have cells of a component need to know of it: which of its outputs reach which of its inputs.
-ghost use Rattle.std.specs.Prelude.{◌≡◌, ◌↔◌, ◌<◌, ℕ, Contains, Some, length, slice_get, IfOk, IfSome};
-ghost use Rattle.hw_graph.specs.Graph.{AreInRange};
+ghost use Rattle.std.specs.Prelude.{◌≡◌, ◌↔◌, ℕ, Some, slice_get, IfOk};
 ghost use Rattle.hw_names.specs.Name.{AreDistinct};
 ghost use Rattle.cal_ast.specs.Rules.{KeepsRules};
-ghost use Rattle.cal_ast.specs.Ports.{inputs_in};
-ghost use Rattle.cal_ast.specs.Tree.{Component, Design, own};
+ghost use Rattle.cal_ast.specs.Tree.{own};
 ghost use Rattle.cal_check.specs.Around.{comp_at, design_at};
 ghost use Rattle.cal_check.specs.inside.Nodes.{APort, key_of};
-ghost use Rattle.cal_check.specs.inside.Wiring.{AreNodes, HasOwnNodes, IsInside, IsOfPorts, IsPinBetween};
+ghost use Rattle.cal_check.specs.inside.Wiring.{AreNodes};
 
 use crate::pin_name::PinName;
 use crate::place::Place;
@@ -15,19 +13,16 @@ use crate::ports::Ports;
 use crate::told::ToldCells;
 use crate::wires::{own_port, port_names};
 use hw_bits::Memory;
-use hw_cells::{Cell, Pin, condense};
-use hw_graph::Groups;
+use hw_cells::PartGraph;
 use hw_texts::text_at;
 use std::alloc::Global;
 
-/// The graph of a component, its cells' graphs among it, and in it the nodes of the component's ports.
+/// What is known of a component.
 #[derive(Drop)]
 pub struct Inside {
-    /// For each node those that it reads.
-    pub reads: Groups,
-    /// The node of each port by its number, inputs first; none of a port of which the component's text says nothing.
-    pub nodes: Vec<Option<usize>>,
-    /// What is told of cells that are made of the component.
+    /// Its graph, its cells' graphs among it.
+    pub graph: PartGraph,
+    /// What is told of cells that are made of it.
     pub told: ToldCells,
 }
 
@@ -51,69 +46,4 @@ pub fn own_nodes(alloc: Global, place: &Place, ports: &Ports) -> Result<Vec<Opti
         nodes.push(own_node(ports, text_at(names, number)))?;
     }
     Ok(nodes)
-}
-
-/// The ports from one number to another that have nodes, with these.
-fn pins_between(
-    alloc: Global,
-    nodes: &[Option<usize>],
-    start: usize,
-    end: usize,
-) -> Result<Vec<Pin>, Memory>
-    ensures { IfOk result (λ pins. (pin : Pin) → Contains pins.items pin ↔ IsPinBetween nodes.now start end pin) }
-{
-    let mut pins = Vec::new(alloc);
-    for port in start..end {
-        if let Some(node) = nodes.get(port).copied().flatten() {
-            pins.push(Pin { port, node })?;
-        }
-    }
-    Ok(pins)
-}
-
-/// A graph of the component's ports alone, by their numbers, where that is smaller than its own.
-fn graph_of_ports(alloc: Global, inside: &Inside, inputs: usize) -> Result<Option<Groups>, Memory>
-    requires in_range { AreInRange inside.now.reads }
-    requires within { HasOwnNodes inside.now }
-    ensures { IfOk result (λ kept. IfSome kept (IsOfPorts inside.now inputs)) }
-{
-    let ports = inside.nodes.len();
-    let nodes = inside.nodes.as_slice();
-    let cell = Cell {
-        part: 0,
-        reads: &inside.reads,
-        told: None,
-        outputs: pins_between(alloc, nodes, inputs, ports)?,
-        inputs: pins_between(alloc, nodes, 0, inputs)?,
-    };
-    condense(alloc, ports, &cell)
-}
-
-/// The numbers below the count, as nodes.
-fn numbers(alloc: Global, count: usize) -> Result<Vec<Option<usize>>, Memory>
-    ensures all { IfOk result (λ nodes. length nodes.items ≡ count) }
-    ensures each { IfOk result (λ nodes. (n : ℕ) → n < count → slice_get nodes.items n ≡ Some (Some n)) }
-{
-    let mut nodes = Vec::new(alloc);
-    for number in 0..count {
-        nodes.push(Some(number))?;
-    }
-    Ok(nodes)
-}
-
-/// What is known of a component that has so many inputs, with a graph of its ports alone where that is smaller: each cell of it
-/// is a search of the graph, or a copy.
-pub fn condensed(alloc: Global, inside: Inside, inputs: usize) -> Result<Inside, Memory>
-    requires in_range { AreInRange inside.reads }
-    requires within { HasOwnNodes inside }
-    ensures { (design : Design) (c : Component) → inputs ≡ length (inputs_in c) → IsInside design c inside → IfOk result (IsInside design c) }
-{
-    match graph_of_ports(alloc, &inside, inputs)? {
-        Some(reads) => {
-            let nodes = numbers(alloc, inside.nodes.len())?;
-            let told = ToldCells::none(alloc);
-            Ok(Inside { reads, nodes, told })
-        }
-        None => Ok(inside),
-    }
 }

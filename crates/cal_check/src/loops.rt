@@ -13,7 +13,7 @@ ghost use Rattle.cal_check.specs.inside.WireGraphs.{HasOrder};
 ghost use Rattle.cal_check.specs.inside.Wiring.{IsInside, ShowsParts, TellsLoop};
 
 use crate::cells::cells_of;
-use crate::inside::{Inside, condensed, own_nodes};
+use crate::inside::{Inside, own_nodes};
 use crate::keys::name_in;
 use crate::place::Place;
 use crate::ports::Ports;
@@ -21,7 +21,7 @@ use crate::told::ToldCells;
 use crate::wire_graph::WireGraph;
 use crate::wires::text_graph;
 use hw_bits::Memory;
-use hw_cells::flatten;
+use hw_cells::{PartGraph, condense_graph, flatten};
 use hw_graph::{Groups, OrderEnd, least_loop_among, read_order};
 use hw_names::Word;
 use std::alloc::Global;
@@ -119,10 +119,14 @@ fn part_inside(
     // The component stands in the design, so its ports have distinct names.
     let _comp = place.comp();
     let nodes = own_nodes(alloc, place, ports)?;
+    let own = PartGraph {
+        reads,
+        nodes,
+        inputs: place.signature().inputs,
+    };
+    let graph = condense_graph(alloc, own)?;
     let told = ToldCells::none(alloc);
-    let inside = Inside { reads, nodes, told };
-    let inputs = place.signature().inputs;
-    Ok(Some(condensed(alloc, inside, inputs)?))
+    Ok(Some(Inside { graph, told }))
 }
 
 /// Judges a component of a design that keeps C1 to C11 by C12, where `insides` are those of its parts, by the numbers of the

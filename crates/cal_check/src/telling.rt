@@ -4,25 +4,23 @@
 //! the graph for it. So it is told here for all of them, 64 outputs by one walk.
 ghost use Rattle.std.specs.Prelude.{◌<◌, All, length, IfOk, IfSome, IsSome};
 ghost use Rattle.hw_cells.specs.Cells.{IsAskable, IsTold};
-ghost use Rattle.hw_graph.specs.Graph.{AreInRange};
 ghost use Rattle.cal_ast.specs.Tree.{Component, Design};
-ghost use Rattle.cal_check.specs.inside.Wiring.{HasOwnNodes, IsInside};
+ghost use Rattle.cal_check.specs.inside.Wiring.{IsInside};
 
 use crate::asked::AskedCell;
 use crate::inside::Inside;
 use crate::told::ToldCells;
 use hw_bits::Memory;
-use hw_cells::{TOGETHER, Told, tell};
+use hw_cells::{PartGraph, TOGETHER, Told, tell};
 use std::alloc::Global;
 
 /// The nodes of those of these ports that have one.
-fn nodes_of(alloc: Global, inside: &Inside, ports: &[usize]) -> Result<Vec<usize>, Memory>
-    requires { HasOwnNodes inside.now }
-    ensures { IfOk result (λ nodes. All (λ node. node < length inside.now.reads) nodes.items) }
+fn nodes_of(alloc: Global, graph: &PartGraph, ports: &[usize]) -> Result<Vec<usize>, Memory>
+    ensures { IfOk result (λ nodes. All (λ node. node < length graph.now.reads) nodes.items) }
 {
     let mut nodes = Vec::new(alloc);
     for port in ports {
-        if let Some(node) = inside.nodes.get(*port).copied().flatten() {
+        if let Some(node) = graph.nodes.get(*port).copied().flatten() {
             nodes.push(node)?;
         }
     }
@@ -30,12 +28,11 @@ fn nodes_of(alloc: Global, inside: &Inside, ports: &[usize]) -> Result<Vec<usize
 }
 
 /// The cell by its ports' nodes, if it has few enough outputs, with nothing told yet.
-fn untold(alloc: Global, inside: &Inside, asked: &AskedCell) -> Result<Option<Told>, Memory>
-    requires { HasOwnNodes inside.now }
-    ensures { IfOk result (λ untold. IfSome untold (IsAskable (length inside.now.reads))) }
+fn untold(alloc: Global, graph: &PartGraph, asked: &AskedCell) -> Result<Option<Told>, Memory>
+    ensures { IfOk result (λ untold. IfSome untold (IsAskable (length graph.now.reads))) }
 {
-    let outputs = nodes_of(alloc, inside, asked.outputs.as_slice())?;
-    let inputs = nodes_of(alloc, inside, asked.inputs.as_slice())?;
+    let outputs = nodes_of(alloc, graph, asked.outputs.as_slice())?;
+    let inputs = nodes_of(alloc, graph, asked.inputs.as_slice())?;
     if outputs.len() > TOGETHER {
         return Ok(None);
     }
@@ -43,13 +40,12 @@ fn untold(alloc: Global, inside: &Inside, asked: &AskedCell) -> Result<Option<To
 }
 
 /// These cells by their ports' nodes, with nothing told yet.
-fn untold_cells(alloc: Global, inside: &Inside, asked: &[AskedCell]) -> Result<ToldCells, Memory>
-    requires { HasOwnNodes inside.now }
-    ensures { IfOk result (λ untold. All (IsAskable (length inside.now.reads)) untold.cells.items) }
+fn untold_cells(alloc: Global, graph: &PartGraph, asked: &[AskedCell]) -> Result<ToldCells, Memory>
+    ensures { IfOk result (λ untold. All (IsAskable (length graph.now.reads)) untold.cells.items) }
 {
     let mut untold_cells = ToldCells::none(alloc);
     for cell in asked {
-        if let Some(untold) = untold(alloc, inside, cell)? {
+        if let Some(untold) = untold(alloc, graph, cell)? {
             untold_cells.add(cell.key, untold)?;
         }
     }
@@ -58,14 +54,12 @@ fn untold_cells(alloc: Global, inside: &Inside, asked: &[AskedCell]) -> Result<T
 
 /// What is known of a component, with what is told of these cells that are made of it.
 fn with_told(alloc: Global, inside: Inside, asked: &[AskedCell]) -> Result<Inside, Memory>
-    requires in_range { AreInRange inside.reads }
-    requires within { HasOwnNodes inside }
     ensures { (design : Design) (c : Component) → IsInside design c inside → IfOk result (IsInside design c) }
 {
-    let mut told = untold_cells(alloc, &inside, asked)?;
-    let Inside { reads, nodes, .. } = inside;
-    tell(alloc, &reads, told.cells.as_mut_slice())?;
-    Ok(Inside { reads, nodes, told })
+    let Inside { graph, .. } = inside;
+    let mut told = untold_cells(alloc, &graph, asked)?;
+    tell(alloc, &graph.reads, told.cells.as_mut_slice())?;
+    Ok(Inside { graph, told })
 }
 
 /// The same of a component that may be a part of none, of which nothing is known then.
@@ -74,7 +68,6 @@ pub fn tell_cells(
     inside: Option<Inside>,
     asked: &[AskedCell],
 ) -> Result<Option<Inside>, Memory>
-    requires { IfSome inside (λ inside. (design : Design) × (c : Component) × IsInside design c inside) }
     ensures some { IsSome inside → IfOk result IsSome }
     ensures shows { (design : Design) (c : Component) → IfSome inside (IsInside design c) → IfOk result (λ told. IfSome told (IsInside design c)) }
 {

@@ -14,7 +14,7 @@ use Rattle.hw_cells.specs.declared.told.Told.{Told}
 use Rattle.hw_graph.specs.Graph.{AreInRange}
 use Rattle.hw_names.proofs.NameLemmas.{Contains-slice_get}
 use Rattle.hw_names.specs.Name.{HasNoDot, KeepsTexts, Text, dotted}
-use Rattle.fil_share.proofs.ListLemmas.{Contains-at, take_next}
+use Rattle.fil_share.proofs.ListLemmas.{take_next}
 use Rattle.fil_check.specs.inside.CellPins.{HasPins, IsNamedPin, IsPortOfInstance}
 use Rattle.fil_check.specs.inside.Cells.{AreCells, IsInsideAt, IsPortInside, NumbersDotted, ReadsInside}
 use Rattle.fil_check.specs.inside.PortGraph.{Adds, NoPair}
@@ -49,10 +49,10 @@ none_told cell untold = subst (λ (found : Option (Bor Told)). IfSome found (λ 
 
 -- the graph of the component of this number, if it is known
 abbrev pub graph_in : List Inside → ℕ → Option (List (List ℕ))
-graph_in insides part = option_map (λ (inside : Inside). inside.reads) (slice_get insides part)
+graph_in insides part = option_map (λ (inside : Inside). inside.graph.reads) (slice_get insides part)
 
-pub has_graph : (insides : List Inside) (part : ℕ) (inside : Inside) (cell : Cell) → slice_get insides part ≡ Some inside → cell.part ≡ part → cell.reads.now ≡ inside.reads → HasGraphOf (graph_in insides) cell
-has_graph insides part inside cell at same reads = ap (graph_in insides) same ∙ ap (option_map (λ (i : Inside). i.reads)) at ∙ ap Some (sym reads)
+pub has_graph : (insides : List Inside) (part : ℕ) (inside : Inside) (cell : Cell) → slice_get insides part ≡ Some inside → cell.part ≡ part → cell.reads.now ≡ inside.graph.reads → HasGraphOf (graph_in insides) cell
+has_graph insides part inside cell at same reads = ap (graph_in insides) same ∙ ap (option_map (λ (i : Inside). i.graph.reads)) at ∙ ap Some (sym reads)
 
 -- the cell of this instance, of whose component this is known
 pub record IsCellAt (parts : List (Option ℕ)) (insides : List Inside) (ports : PortList) (instance : ℕ) (inside : Inside) (cell : Cell) : Type 0 where
@@ -98,7 +98,7 @@ module _ (parts : List (Option ℕ)) (insides : List Inside) (ports : PortList) 
   -- the pins of a cell lie in its holder's graph, and their nodes in its own
   cell_fits : (instance : ℕ) (inside : Inside) (cell : Cell) → IsCellAt parts insides ports instance inside cell → IsFit (length ports.names) cell
   cell_fits instance inside cell is = record {
-    in_range = subst AreInRange (sym is.pins.reads) inside.in_range;
+    in_range = subst AreInRange (sym is.pins.reads) inside.graph.in_range;
     told = none_told cell is.pins.untold;
     outputs = within cell.outputs.items (λ pin has. let r = (is.pins.outputs pin).0 has in lies pin r.0 r.2 r.4.0 r.3 r.4.2);
     inputs = within cell.inputs.items (λ pin has. let r = (is.pins.inputs pin).0 has in lies pin r.0 r.2 r.4.0 r.3 r.4.2);
@@ -107,8 +107,7 @@ module _ (parts : List (Option ℕ)) (insides : List Inside) (ports : PortList) 
       lies : (pin : Pin) (node : ℕ) (name : Text) (number : ℕ) → slice_get ports.names node ≡ Some (dotted is.pins.inst name) → IsNamedPin inside name node number pin → IsPinWithin (length ports.names) (length cell.reads.now) pin
       lies pin node name number at named = (
         omega (arith, named.is_port, slice_get_within ports.names node (dotted is.pins.inst name) at),
-        subst (λ (l : List (List ℕ)). pin.node < length l) (sym is.pins.reads)
-            (All-contains (λ (n : ℕ). n < length inside.reads) inside.nodes.items pin.node inside.within (Contains-at inside.nodes.items number pin.node named.node)),
+        subst (λ (l : List (List ℕ)). pin.node < length l) (sym is.pins.reads) (inside.graph.within number pin.node named.node),
       )
 
       within : (pins : List Pin) → ((pin : Pin) → Contains pins pin → IsPinWithin (length ports.names) (length cell.reads.now) pin) → All (IsPinWithin (length ports.names) (length cell.reads.now)) pins
@@ -147,8 +146,8 @@ module _ (parts : List (Option ℕ)) (insides : List Inside) (ports : PortList) 
         }
 
     -- and what is known of it is read through the cell
-    module _ (inst : Text) (instance_at : slice_get ports.instances instance ≡ Some inst) (output input : ℕ) (is_output : inside.inputs ≤ output) (is_input : input < inside.inputs) (from to : ℕ)
-        (from_output : IsPortInside inst inside output from port) (to_input : IsPortInside inst inside input to other) (leads : IsOrReaches inside.reads from to) where
+    module _ (inst : Text) (instance_at : slice_get ports.instances instance ≡ Some inst) (output input : ℕ) (is_output : inside.graph.inputs ≤ output) (is_input : input < inside.graph.inputs) (from to : ℕ)
+        (from_output : IsPortInside inst inside output from port) (to_input : IsPortInside inst inside input to other) (leads : IsOrReaches inside.graph.reads from to) where
       same_inst : inst ≡ is.pins.inst
       same_inst = same_Some inst is.pins.inst (sym instance_at ∙ is.pins.instance_at)
 

@@ -1,21 +1,22 @@
 -- The ports of instances of components, as a graph has them: whose they are by their full names, and their nodes inside.
 use Rattle.std.proofs.Common.{◌≡◌, ◌↔◌, ◌⊎◌, inl, inr, ℕ, ◌+◌, ◌-◌, ◌<◌, ◌≤◌, Bool, true, false, List, [], ◌∷◌, ◌++◌, Some, None, length, filter, take, drop, get_or, slice_get, All, Contains, refl, sym, ap, ap₂, subst, ◌∙◌, arith}
 use Rattle.std.proofs.Math.Seq.{drop-append_seam, take-append_seam}
+use Rattle.std.specs.Bool.{Decides}
 use Rattle.std.proofs.lemmas.Bool.{cases_lt}
 use Rattle.std.proofs.lemmas.Bool.Decides.{Decides-eqb}
 use Rattle.std.proofs.lemmas.List.{drop_more, length-append, length-take-le, take-append-drop, take_all, take_more}
 use Rattle.std.proofs.lemmas.List.Elements.{All-contains, Contains-append_left, Contains-get_or, Contains-push, Contains-push_cases}
 use Rattle.std.proofs.lemmas.Option.{none-some, same_Some, slice_get_within}
+use Rattle.hw_cells.specs.declared.cell.CellPin.{CellPin}
 use Rattle.hw_cells.specs.declared.cell.Pin.{Pin}
 use Rattle.hw_graph.proofs.MemberLemmas.{contains_of, from_filter, from_map, in_filter, in_map, in_of}
 use Rattle.hw_graph.specs.Groups.{IsGathered, has_key, with_key}
 use Rattle.hw_graph.specs.declared.groups.Entry.{Entry}
 use Rattle.hw_names.proofs.NameLemmas.{Contains-slice_get, same_number}
 use Rattle.hw_names.specs.Name.{AreDistinct, HasNoDot, Text, dot, dotted}
-use Rattle.fil_check.specs.inside.CellPins.{AddsInstances, AreInstancePorts, ArePins, IsInputPin, IsNamedAfter, IsOutputPin, IsPortOfInstance, TellsPin}
+use Rattle.fil_check.specs.inside.CellPins.{AddsInstances, AreInstancePorts, ArePins, IsInputPin, IsNamedAfter, IsNamedPin, IsOutputPin, IsPortOfInstance, TellsPin}
 use Rattle.fil_check.proofs.PortNumberLemmas.{cut_at_first, no_dot_in, rest_of}
 use Rattle.fil_check.specs.inside.Ports.{PortList}
-use Rattle.fil_check.specs.declared.loops.cells.CellPin.{CellPin}
 use Rattle.fil_check.specs.declared.loops.inside.Inside.{Inside}
 
 -- ---- a full name and the instance that it is named after
@@ -295,6 +296,57 @@ module _ (ports : PortList) (inst : Text) (nodes : List ℕ) (node : ℕ) (name 
         | inr e ↦ absurd (none other (here_it_is r.0 r.2 other e r.3 r.4))
       ],
     )
+
+-- ---- the pin of a port, by its name
+
+module _ (inside : Inside) (name : Text) (port : ℕ) (distinct : AreDistinct inside.names) (j node : ℕ) (at : slice_get inside.names j ≡ Some name) (there : slice_get inside.graph.nodes.items j ≡ Some (Some node)) where
+  abbrev pin_of : ℕ → ℕ → Pin
+  pin_of k n = record { port = k; node = n }
+
+  abbrev found_pin : Bool → Pin → CellPin
+  found_pin side pin = record { pin = pin; is_input = side }
+
+  -- one port has the name
+  one_number : (number : ℕ) → slice_get inside.names number ≡ Some name → number ≡ j
+  one_number number is = same_number inside.names number j name distinct is at
+
+  one_pin : (number : ℕ) (pin : Pin) → IsNamedPin inside name port number pin → pin_of port node ≡ pin
+  one_pin number pin is =
+      let its : slice_get inside.graph.nodes.items j ≡ Some (Some pin.node) = ap (slice_get inside.graph.nodes.items) (sym (one_number number is.named)) ∙ is.node in
+      ap₂ pin_of (sym is.is_port) (same_Some node pin.node (same_Some (Some node) (Some pin.node) (sym there ∙ its)))
+
+  named_pin : IsNamedPin inside name port j (pin_of port node)
+  named_pin = record { named = at; node = there; is_port = refl }
+
+  both_same : (side other_side : Bool) (pin : Pin) → Some (found_pin side (pin_of port node)) ≡ Some (found_pin other_side pin) → IsNamedPin inside name port j pin × (side ≡ other_side)
+  both_same side other_side pin e =
+      let one = same_Some (found_pin side (pin_of port node)) (found_pin other_side pin) e in
+      (subst (IsNamedPin inside name port j) (ap (λ (x : CellPin). x.pin) one) named_pin, ap (λ (x : CellPin). x.is_input) one)
+
+  pub pin_told : (side : Bool) → Decides side (j < inside.graph.inputs) → TellsPin inside name port (Some (found_pin side (pin_of port node)))
+  pin_told true decides = record {
+    input = λ pin. (λ some. (j, less, (both_same true true pin some).0), λ is. ap (λ (p : Pin). Some (found_pin true p)) (one_pin is.0 pin is.2));
+    output = λ pin. (
+      λ some. let bad = (both_same true false pin some).1 in absurd (cc),
+      λ is. let here = one_number is.0 is.2.named in absurd (omega (arith, less, is.1, here)),
+    );
+  }
+    where
+      less : j < inside.graph.inputs
+      less = decides.0 refl
+  pin_told false decides = record {
+    input = λ pin. (
+      λ some. let bad = (both_same false true pin some).1 in absurd (cc),
+      λ is. let here = one_number is.0 is.2.named in absurd (omega (arith, past, is.1, here)),
+    );
+    output = λ pin. (λ some. (j, past, (both_same false false pin some).0), λ is. ap (λ (p : Pin). Some (found_pin false p)) (one_pin is.0 pin is.2));
+  }
+    where
+      past : inside.graph.inputs ≤ j
+      past = elim (cases_lt j inside.graph.inputs) [
+        | inl less ↦ (let bad : false ≡ true = decides.1 less in absurd (cc))
+        | inr not_less ↦ not_less
+      ]
 
 -- both sides of a cell
 pub record HasBoth (inside : Inside) (ports : PortList) (inst : Text) (nodes : List ℕ) (output_pins input_pins : List Pin) : Type 0 where

@@ -112,7 +112,7 @@ module _ (comps : Design) (c : Component) (names : List Text) (earlier : Earlier
       let same_part : (a.known).0 ≡ (b.known).0 = same_Some (a.known).0 (b.known).0 same_made in
       let same : a.inside ≡ b.inside = same_Some a.inside b.inside (sym (a.known).2 ∙ ap (slice_get insides) same_part ∙ (b.known).2) in
       let at_input : slice_get b.inside.names a.input ≡ Some b.from_output.name = ap (λ (l : Inside). slice_get l.names a.input) (sym same) ∙ a.to_input.name_at ∙ ap Some parted.1 in
-      let is_input : a.input < b.inside.inputs = subst (λ (l : Inside). a.input < l.inputs) same a.is_input in
+      let is_input : a.input < b.inside.graph.inputs = subst (λ (l : Inside). a.input < l.graph.inputs) same a.is_input in
       let at_b : slice_get (instance_names scope.instances) b.instance ≡ Some b.inst = ap (λ (l : List Text). slice_get l b.instance) (sym has) ∙ b.instance_at in
       let known = known_of comps c names earlier comp tables place distinct keeps parts are insides shows b.instance b.inst b.inside at_b b.known in
       omega (arith, same_number b.inside.names a.input b.output b.from_output.name known.shown.distinct at_input b.from_output.name_at, is_input, b.is_output)

@@ -1,5 +1,5 @@
 -- That the statements of a component that keeps the rules fill tables that show what names mean.
-use Rattle.std.proofs.Common.{◌≡◌, ℕ, suc, ◌+◌, ◌≤◌, Bool, true, false, List, ◌∷◌, ◌++◌, length, take, slice_get, Some, Result, Ok, inl, refl, sym, subst, arith}
+use Rattle.std.proofs.Common.{◌≡◌, ℕ, suc, ◌+◌, ◌≤◌, Bool, true, false, List, length, take, slice_get, Some, Result, Ok, inl, refl, sym, subst, arith}
 use Rattle.std.proofs.lemmas.List.{take_all}
 use Rattle.hw_bits.specs.declared.memory.Memory.{Memory}
 use Rattle.hw_names.specs.Name.{Text}

@@ -52,4 +52,3 @@ pub mod OrderLemmas
 pub mod InstanceNumberLemmas
 pub mod CellPinLemmas
 pub mod CellLemmas
-pub mod CondensedLemmas

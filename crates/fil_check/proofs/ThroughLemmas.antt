@@ -4,6 +4,7 @@ use Rattle.std.specs.Option.{option_and_then}
 use Rattle.std.specs.Prelude.{IsSome}
 use Rattle.std.proofs.lemmas.List.{length-map}
 use Rattle.std.proofs.lemmas.Option.{same_Some, slice_get_within}
+use Rattle.hw_cells.specs.PartGraph.{Leads}
 use Rattle.hw_graph.proofs.MemberLemmas.{In, in_at, at_of, in_of, contains_of, from_flat_map}
 use Rattle.hw_names.proofs.NameLemmas.{KeepsTexts-append}
 use Rattle.hw_names.specs.Name.{Text, AreDistinct, dotted}
@@ -130,15 +131,15 @@ module _ (comps : Design) (c : Component) (names : List Text) (earlier : Earlier
     instance_at = mapped_at (λ (x : Instance). x.name) scope.instances k.0 i k.1;
     inside = inside;
     known = (q.n, (are k.0 q.n).1 (record { instance = i; part = q.d; instance_at = k.1; part_at = q.at; named = sym q.is_named }), own.1);
-    output = inside.inputs + o.o;
+    output = inside.graph.inputs + o.o;
     input = o.i;
     is_output = omega arith;
     is_input = omega (arith, slice_get_within o.d.ins o.i o.own_input o.input_at, shown.inputs);
-    from = from.0;
-    to = to.0;
-    from_output = record { name = r.output.name; name_at = output_there; is_port = r.is_port; is_node = from.1 };
-    to_input = record { name = r.input.name; name_at = input_there; is_port = r.is_other; is_node = to.1 };
-    leads = (shown.leads o.i o.o from.0 to.0 o.own_input o.own_output (record { input_at = o.input_at; output_at = o.output_at; is_other = to.1; is_node = from.1 })).1 o.reaches;
+    from = leads.node;
+    to = leads.other;
+    from_output = record { name = r.output.name; name_at = output_there; is_port = r.is_port; is_node = leads.is_node };
+    to_input = record { name = r.input.name; name_at = input_there; is_port = r.is_other; is_node = leads.is_other };
+    leads = leads.leads;
   }
     where
       i : Instance
@@ -168,17 +169,14 @@ module _ (comps : Design) (c : Component) (names : List Text) (earlier : Earlier
       input_there : slice_get inside.names o.i ≡ Some r.input.name
       input_there = ap (λ (ts : List Text). slice_get ts o.i) shown.names ∙ input_name_at o.d o.i o.own_input o.input_at ∙ ap Some o.input_named
 
-      output_there : slice_get inside.names (inside.inputs + o.o) ≡ Some r.output.name
+      output_there : slice_get inside.names (inside.graph.inputs + o.o) ≡ Some r.output.name
       output_there =
-          ap (λ (ts : List Text). slice_get ts (inside.inputs + o.o)) shown.names
-          ∙ output_name_at o.d inside.inputs o.o o.own_output shown.inputs o.output_at
+          ap (λ (ts : List Text). slice_get ts (inside.graph.inputs + o.o)) shown.names
+          ∙ output_name_at o.d inside.graph.inputs o.o o.own_output shown.inputs o.output_at
           ∙ ap Some o.output_named
 
-      to : (n : ℕ) × (slice_get inside.nodes.items o.i ≡ Some n)
-      to = there_at inside.nodes.items o.i (omega (arith, slice_get_within inside.names o.i r.input.name input_there, shown.all))
-
-      from : (n : ℕ) × (slice_get inside.nodes.items (inside.inputs + o.o) ≡ Some n)
-      from = there_at inside.nodes.items (inside.inputs + o.o) (omega (arith, slice_get_within inside.names (inside.inputs + o.o) r.output.name output_there, shown.all))
+      leads : Leads inside.graph (inside.graph.inputs + o.o) o.i
+      leads = (shown.leads o.i o.o o.own_input o.own_output o.input_at o.output_at).1 o.reaches
 
   -- a reading goes through an instance of a component, or does without
   pub own_or_inner : (port other : Text) → ReadsPort (through_before comps) scope port other → ReadsOwn comps c port other ⊎ Inner port other
@@ -278,21 +276,22 @@ module _ (comps : Design) (c : Component) (names : List Text) (earlier : Earlier
         has : Contains scope.instances i
         has = contains_of scope.instances i (in_at scope.instances r.instance i known.instance_at)
 
-        output : IsOutput d r.output r.inside.inputs r.from_output.name
-        output = own_output_at d r.output r.inside.inputs r.from_output.name known.shown.inputs r.is_output (ap (λ (ts : List Text). slice_get ts r.output) (sym known.shown.names) ∙ r.from_output.name_at)
+        output : IsOutput d r.output r.inside.graph.inputs r.from_output.name
+        output = own_output_at d r.output r.inside.graph.inputs r.from_output.name known.shown.inputs r.is_output (ap (λ (ts : List Text). slice_get ts r.output) (sym known.shown.names) ∙ r.from_output.name_at)
 
         input : (p : DataPort) × (slice_get d.ins r.input ≡ Some p) × (p.name ≡ r.to_input.name)
         input = own_input_at d r.input r.to_input.name (omega (arith, r.is_input, known.shown.inputs)) (ap (λ (ts : List Text). slice_get ts r.input) (sym known.shown.names) ∙ r.to_input.name_at)
 
         reaches : Reaches (through_before (take known.n comps)) (whole_scope (take known.n comps) d) (input.0).name output.output.name
         reaches =
-            (known.shown.leads r.input output.o r.from r.to input.0 output.output (record {
-              input_at = input.1;
-              output_at = output.at;
+            (known.shown.leads r.input output.o input.0 output.output input.1 output.at).0
+            (record {
+              node = r.from;
+              other = r.to;
+              is_node = ap (slice_get r.inside.graph.nodes.items) (sym output.is) ∙ r.from_output.is_node;
               is_other = r.to_input.is_node;
-              is_node = ap (slice_get r.inside.nodes.items) (sym output.is) ∙ r.from_output.is_node;
-            })).0
-            r.leads
+              leads = r.leads;
+            })
 
         at : IsThroughAt comps i.made output.output.name (input.0).name
         at = record { n = known.n; d = d; at = known.part_at; is_named = sym known.made; reaches = reaches }

@@ -26,7 +26,7 @@ use Rattle.fil_share.specs.declared.hold.Hold as shown
 use Rattle.fil_share.proofs.OwnLemmas.{AllPairs-flat, AllPairs-mapped, KeepsNames, all_earlier, called_in, holds_of_call, of_earlier, uses_of_call, uses_so_far}
 use Rattle.fil_check.specs.Needed.{first_ten, sharing_rules, start_at}
 use Rattle.fil_check.specs.Units.{IsUseOn, IsUseSoFarOn, NameOneEvent, NamesOneEvent, Shares, SharesAt, SharesBefore, SharingGoesByEvents, SharingHasOneMeaning, UnitEvent, UseTwice, holds_on, is_hold_on}
-use Rattle.fil_check.proofs.ExactLemmas.{after, before, call_there, cut, distinct, earlier_whole, full, is_after, names, own_whole, with}
+use Rattle.fil_check.proofs.ExactLemmas.{after, before, call_there, cut, distinct, earlier_whole, full, is_after, names, own_whole}
 use Rattle.fil_check.proofs.NeededLemmas.{StandApart, across, one_event}
 
 -- ---- lists

@@ -1,15 +1,17 @@
 -- From the flat graph to a component's ports: its loops, and what its outputs reach.
-use Rattle.std.proofs.Common.{◌≡◌, ◌≢◌, inl, inr, ℕ, suc, ◌+◌, ◌-◌, ◌<◌, List, [], ◌∷◌, ◌++◌, Some, Contains, length, map, get_or, slice_get, take, sym, ap, ap₂, subst, subst₂, ◌∙◌, add-one, arith}
+use Rattle.std.proofs.Common.{◌≡◌, ◌≢◌, ◌↔◌, inl, inr, ℕ, suc, ◌+◌, ◌-◌, ◌<◌, ◌≤◌, List, [], ◌∷◌, ◌++◌, Option, Some, All, Contains, length, map, get_or, slice_get, take, sym, ap, ap₂, subst, subst₂, ◌∙◌, add-one, arith}
 use Rattle.std.specs.Prelude.{filter}
 use Rattle.std.specs.Cmp.Lexicographic.{slice_cmp}
 use Rattle.std.specs.Ordering.{nat_cmp}
 use Rattle.std.specs.declared.cmp.Ordering.TheVariants.{Greater}
 use Rattle.std.proofs.lemmas.Bool.{cases_lt}
 use Rattle.std.proofs.Math.Seq.{take-append-add}
+use Rattle.std.proofs.lemmas.List.Elements.{All-contains}
 use Rattle.std.proofs.lemmas.List.{get_or-map, get_or-take, length-map, length-take}
 use Rattle.std.proofs.lemmas.Option.{same_Some, slice_get_within, get_or_from_slice_get, slice_get-get_or}
 use Rattle.hw_cells.proofs.WayLemmas.{kept}
-use Rattle.hw_cells.specs.Cells.{IsOrReaches, is_below}
+use Rattle.hw_cells.specs.Cells.{HasOwnNodes, is_below}
+use Rattle.hw_cells.specs.PartGraph.{Leads, LeadsAlike}
 use Rattle.hw_graph.proofs.SearchLemmas.{contained_at}
 use Rattle.hw_graph.specs.Graph as graph
 use Rattle.hw_graph.specs.Graph.{HasRead, IsLeastCycleAmong, IsOffCycles, IsReadOrder}
@@ -18,15 +20,16 @@ use Rattle.hw_names.specs.Name.{Text, AreDistinct}
 use Rattle.fil_ast.specs.Rules.{KeepsComponent, all_rules}
 use Rattle.fil_ast.specs.Tree.{Component, DataPort, Design}
 use Rattle.fil_ast.specs.Wires.{AtOnce, HasNoLoop, IsLeastLoop, Over, Reaches, ReadsAlong, ReadsPort, through_before, whole_scope}
+use Rattle.fil_share.proofs.ListLemmas.{Contains-at}
 use Rattle.fil_check.proofs.DependLemmas.{number_of, numbered_length}
 use Rattle.fil_check.proofs.DesignLemmas.{inputs_differ, ports_differ}
-use Rattle.fil_check.proofs.GivenLemmas.{mapped_at}
+use Rattle.fil_check.proofs.GivenLemmas.{mapped_at, unmapped}
 use Rattle.fil_check.proofs.NeededLemmas.{at_left, at_right}
 use Rattle.fil_check.proofs.PortNumberLemmas.{next_absent}
 use Rattle.fil_check.specs.inside.Cells.{IsLoopAt, LeadsAsRead, ReadsAt}
 use Rattle.fil_check.specs.inside.Ports.{TellNames}
 use Rattle.fil_check.specs.inside.Reached.{AreNumbered, input_names, output_names, own_port_names}
-use Rattle.fil_check.specs.inside.Wiring.{HaveNodes, IsInside}
+use Rattle.fil_check.specs.inside.Wiring.{IsInside}
 use Rattle.fil_check.specs.declared.loops.inside.Inside.{Inside}
 
 -- the component's own ports, inputs first
@@ -177,49 +180,89 @@ module _ (earlier : Design) (c : Component) (names : List Text) (reads : List (L
 
   -- ---- what the outputs reach
 
-  module _ (inside : Inside) (texts : inside.names ≡ own_port_names c) (distinct : AreDistinct inside.names) (inputs : inside.inputs ≡ length c.ins) (same_reads : inside.reads ≡ reads) (numbered : AreNumbered names inside.nodes.items (own_port_names c)) where
-    -- the port of this number among the component's own, with its node
-    node_at : (k node : ℕ) (text : Text) → slice_get (own_port_names c) k ≡ Some text → slice_get inside.nodes.items k ≡ Some node → slice_get names node ≡ Some text
+  module _ (inside : Inside) (texts : inside.names ≡ own_port_names c) (distinct : AreDistinct inside.names) (inputs : inside.graph.inputs ≡ length c.ins) (same_reads : inside.graph.reads ≡ reads)
+      (nodes : List ℕ) (same_nodes : inside.graph.nodes.items ≡ map Some nodes) (numbered : AreNumbered names nodes (own_port_names c)) where
+    -- the node of the port of this number among the component's own
+    node_of : (k : ℕ) (text : Text) → slice_get (own_port_names c) k ≡ Some text → (node : ℕ) × (slice_get inside.graph.nodes.items k ≡ Some (Some node)) × (slice_get names node ≡ Some text)
+    node_of k text at =
+        let n = number_of names nodes (own_port_names c) numbered k text at in
+        (n.0, ap (λ (l : List (Option ℕ)). slice_get l k) same_nodes ∙ mapped_at (λ (m : ℕ). Some m) nodes k n.0 n.1, n.2)
+
+    node_at : (k node : ℕ) (text : Text) → slice_get (own_port_names c) k ≡ Some text → slice_get inside.graph.nodes.items k ≡ Some (Some node) → slice_get names node ≡ Some text
     node_at k node text at has =
-        let n = number_of names inside.nodes.items (own_port_names c) numbered k text at in
-        subst (λ (m : ℕ). slice_get names m ≡ Some text) (same_Some n.0 node (sym n.1 ∙ has)) n.2
+        let n = node_of k text at in
+        subst (λ (m : ℕ). slice_get names m ≡ Some text) (same_Some n.0 node (same_Some (Some n.0) (Some node) (sym n.1 ∙ has))) n.2
 
-    module _ (i o node other : ℕ) (input output : DataPort) (have : HaveNodes c inside i o node other input output) where
+    module _ (i o : ℕ) (input output : DataPort) (at_input : slice_get c.ins i ≡ Some input) (at_output : slice_get c.outs o ≡ Some output) where
       input_at : slice_get (own_port_names c) i ≡ Some input.name
-      input_at = input_own c i input have.input_at
+      input_at = input_own c i input at_input
 
-      output_at : slice_get (own_port_names c) (inside.inputs + o) ≡ Some output.name
-      output_at = subst (λ (k : ℕ). slice_get (own_port_names c) (k + o) ≡ Some output.name) (sym inputs) (output_own c o output have.output_at)
-
-      is_node : slice_get names node ≡ Some output.name
-      is_node = node_at (inside.inputs + o) node output.name output_at have.is_node
-
-      is_other : slice_get names other ≡ Some input.name
-      is_other = node_at i other input.name input_at have.is_other
+      output_at : slice_get (own_port_names c) (inside.graph.inputs + o) ≡ Some output.name
+      output_at = subst (λ (k : ℕ). slice_get (own_port_names c) (k + o) ≡ Some output.name) (sym inputs) (output_own c o output at_output)
 
       -- an output is no input
-      apart : node ≡ other → ⊥
-      apart same =
+      apart : (node other : ℕ) → slice_get names node ≡ Some output.name → slice_get names other ≡ Some input.name → node ≡ other → ⊥
+      apart node other is_node is_other same =
           let alike : input.name ≡ output.name = same_Some input.name output.name (sym is_other ∙ ap (slice_get names) (sym same) ∙ is_node) in
           let D : List Text → Type 0 = AreDistinct in
-          let number = same_number (own_port_names c) i (inside.inputs + o) output.name (subst D texts distinct) (input_at ∙ ap Some alike) output_at in
-          omega (arith, number, inputs, slice_get_within c.ins i input have.input_at)
+          let number = same_number (own_port_names c) i (inside.graph.inputs + o) output.name (subst D texts distinct) (input_at ∙ ap Some alike) output_at in
+          omega (arith, number, inputs, slice_get_within c.ins i input at_input)
 
-      to : IsOrReaches inside.reads node other → ReachesText earlier c output.name input.name
-      to (inl same) = absurd (apart same)
-      to (inr leads) = (is.reaches output.name input.name node other is_node is_other).0 (subst (λ (l : List (List ℕ)). graph.Reaches l node other) same_reads leads)
+      to : Leads inside.graph (inside.graph.inputs + o) i → ReachesText earlier c output.name input.name
+      to l =
+          let is_node = node_at (inside.graph.inputs + o) l.node output.name output_at l.is_node in
+          let is_other = node_at i l.other input.name input_at l.is_other in
+          elim l.leads [
+            | inl same ↦ absurd (apart l.node l.other is_node is_other same)
+            | inr way ↦ (is.reaches output.name input.name l.node l.other is_node is_other).0 (subst (λ (r : List (List ℕ)). graph.Reaches r l.node l.other) same_reads way)
+          ]
 
-      from : ReachesText earlier c output.name input.name → IsOrReaches inside.reads node other
-      from reaches = inr (subst (λ (l : List (List ℕ)). graph.Reaches l node other) (sym same_reads) ((is.reaches output.name input.name node other is_node is_other).1 reaches))
+      from : ReachesText earlier c output.name input.name → Leads inside.graph (inside.graph.inputs + o) i
+      from reaches =
+          let node = node_of (inside.graph.inputs + o) output.name output_at in
+          let other = node_of i input.name input_at in
+          record {
+            node = node.0;
+            other = other.0;
+            is_node = node.1;
+            is_other = other.1;
+            leads = inr (subst (λ (r : List (List ℕ)). graph.Reaches r node.0 other.0) (sym same_reads) ((is.reaches output.name input.name node.0 other.0 node.2 other.2).1 reaches));
+          }
 
     pub is_inside : IsInside earlier c inside
     is_inside = record {
       names = texts;
       distinct = distinct;
       inputs = inputs;
-      all = numbered_length names inside.nodes.items (own_port_names c) numbered ∙ ap length (sym texts);
-      leads = λ i o node other input output have. (to i o node other input output have, from i o node other input output have);
+      all = ap length same_nodes ∙ length-map nodes (λ (m : ℕ). Some m) ∙ numbered_length names nodes (own_port_names c) numbered ∙ ap length (sym texts);
+      leads = λ i o input output at_input at_output. (to i o input output at_input at_output, from i o input output at_input at_output);
     }
+
+-- nodes of ports that all have one
+pub own_nodes : (reads : List (List ℕ)) (nodes : List ℕ) (all : List (Option ℕ)) → all ≡ map Some nodes → All (λ (node : ℕ). node < length reads) nodes → HasOwnNodes reads all
+own_nodes reads nodes all are within n node at =
+    let own = unmapped (λ (m : ℕ). Some m) nodes n (Some node) (ap (λ (l : List (Option ℕ)). slice_get l n) (sym are) ∙ at) in
+    let less = All-contains (λ (m : ℕ). m < length reads) nodes own.0 within (Contains-at nodes n own.0 own.1) in
+    subst (λ (m : ℕ). m < length reads) (same_Some own.0 node own.2) less
+
+-- with another graph that leads alike
+module _ (earlier : Design) (c : Component) (old new : Inside) (known : IsInside earlier c old) (same : new.names ≡ old.names) (alike : LeadsAlike old.graph new.graph) where
+  still_leads : (i o : ℕ) (input output : DataPort) → slice_get c.ins i ≡ Some input → slice_get c.outs o ≡ Some output → Leads new.graph (new.graph.inputs + o) i ↔ ReachesText earlier c output.name input.name
+  still_leads i o input output at_input at_output =
+      let below : i < old.graph.inputs = omega (arith, slice_get_within c.ins i input at_input, known.inputs) in
+      let past : old.graph.inputs ≤ new.graph.inputs + o = omega (arith, alike.inputs) in
+      let leads = alike.leads (new.graph.inputs + o) i past below in
+      let was = subst (λ (k : ℕ). Leads old.graph (k + o) i ↔ ReachesText earlier c output.name input.name) (sym alike.inputs) (known.leads i o input output at_input at_output) in
+      (λ l. was.0 (leads.0 l), λ reaches. leads.1 (was.1 reaches))
+
+  pub still_inside : IsInside earlier c new
+  still_inside = record {
+    names = same ∙ known.names;
+    distinct = subst AreDistinct (sym same) known.distinct;
+    inputs = alike.inputs ∙ known.inputs;
+    all = alike.all ∙ known.all ∙ ap length (sym same);
+    leads = still_leads;
+  }
 
 -- the names of the component's own ports, put one after another
 pub own_named : (comps : Design) (c : Component) → KeepsComponent all_rules comps c → (start mid new ins outs : List Text) → start ≡ [] → ins ≡ input_names c → outs ≡ output_names c

@@ -29,8 +29,8 @@
 //! F14 is judged by levels first (`loops::levels`): a number for each port of a component, above those of all that it reads, which
 //! is all that is kept of it for its holders. Only where a component has none, since ports go in a loop or since a holder needs
 //! two ports in another order, is the design judged once more, and then a graph of each component is kept, in which those of its
-//! instances are copied (`loops::cells`, `loops::inside`); it tells the least loop. Where a graph of a component's ports
-//! alone is smaller, that is kept (`loops::ports_alone`).
+//! instances are copied (`loops::cells`); it tells the least loop. Where a graph of a component's ports alone is smaller, that
+//! is kept (`loops::inside`).
 #![tactic(auto)]
 
 mod callee;

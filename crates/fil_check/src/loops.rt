@@ -20,15 +20,13 @@ pub mod graph;
 pub mod inside;
 pub mod levels;
 pub mod ports;
-pub mod ports_alone;
 
 use crate::loops::cells::{cells_of, number_dotted};
 use crate::loops::edges::add_body;
 use crate::loops::graph::PortGraph;
-use crate::loops::inside::{Inside, inside_of};
+use crate::loops::inside::{Inside, condensed, inside_of};
 use crate::loops::levels::parts_of;
 use crate::loops::ports::Ports;
-use crate::loops::ports_alone::condensed;
 use crate::place::Place;
 use fil_ast::FilPort;
 use hw_bits::Memory;
@@ -106,7 +104,7 @@ pub fn judge_wires(alloc: Global, place: &Place, insides: &[Inside]) -> Result<I
 {
     let FlatGraph { ports, own, reads } = flat_graph(alloc, place, insides)?;
     match least_loop(alloc, &ports, &reads)? {
-        None => Ok(condensed(alloc, inside_of(place, own, reads)?)?),
+        None => Ok(condensed(alloc, inside_of(alloc, place, &own, reads)?)?),
         Some(ports) => Err(WireEnd::Loop(ports)),
     }
 }

@@ -9,3 +9,4 @@ pub mod TogetherLemmas
 pub mod GraphLemmas
 pub mod SearchLemmas
 pub mod ToldLemmas
+pub mod PortLemmas

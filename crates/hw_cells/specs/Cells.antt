@@ -1,5 +1,5 @@
 -- Ports that read one another, at once or through cells that have graphs of their own. This project's.
-use Rattle.std.specs.Prelude.{◌≡◌, ◌⊎◌, ◌↔◌, ℕ, ◌+◌, ◌-◌, ◌<◌, ◌≤◌, nat_lt, Bool, List, [], length, filter, slice_index, All, Contains, IfSome}
+use Rattle.std.specs.Prelude.{◌≡◌, ◌⊎◌, ◌↔◌, ℕ, ◌+◌, ◌-◌, ◌<◌, ◌≤◌, nat_lt, Bool, List, [], length, filter, slice_get, slice_index, Option, Some, All, Contains, IfSome}
 use Rattle.std.specs.Borrow.{Bor}
 use Rattle.std.specs.Int.{bit_at}
 use Rattle.hw_graph.specs.Graph as graph
@@ -33,12 +33,16 @@ pub data Reaches (entries : List Entry) (cells : List Cell) : ℕ → ℕ → Ty
   Directly : (port other : ℕ) → Reads entries cells port other → Reaches entries cells port other
   Through : (port next other : ℕ) → Reads entries cells port next → Reaches entries cells next other → Reaches entries cells port other
 
--- distinct ports, of which each reads the next, and the last the first
-pub record IsLoop (entries : List Entry) (cells : List Cell) (ports : List ℕ) : Type 0 where
-  pub some : 0 < length ports
-  pub along : (i : ℕ) → i + 1 < length ports → Reads entries cells (slice_index ports i) (slice_index ports (i + 1))
-  pub back : Reads entries cells (slice_index ports (length ports - 1)) (slice_index ports 0)
-  pub once : (i j : ℕ) → i < length ports → j < length ports → slice_index ports i ≡ slice_index ports j → i ≡ j
+-- distinct places, of which each leads to the next, and the last to the first
+pub record IsLoopOf (leads : ℕ → ℕ → Type 0) (places : List ℕ) : Type 0 where
+  pub some : 0 < length places
+  pub along : (i : ℕ) → i + 1 < length places → leads (slice_index places i) (slice_index places (i + 1))
+  pub back : leads (slice_index places (length places - 1)) (slice_index places 0)
+  pub once : (i j : ℕ) → i < length places → j < length places → slice_index places i ≡ slice_index places j → i ≡ j
+
+-- a loop of ports, of which each reads the next
+abbrev pub IsLoop : List Entry → List Cell → List ℕ → Type 0
+IsLoop entries cells = IsLoopOf (Reads entries cells)
 
 -- the word has the bit
 abbrev pub HasBit : ℕ → ℕ → Type 0
@@ -80,6 +84,10 @@ pub record IsCondensed (ports : ℕ) (cell : Cell) (reads : List (List ℕ)) : T
   pub all : length reads ≡ ports
   pub in_range : AreInRange reads
   pub reaches : (port other : ℕ) → graph.Reaches reads port other ↔ ReadsThrough cell port other
+
+-- the nodes that ports have, by the ports' numbers, are nodes of the graph
+abbrev pub HasOwnNodes : List (List ℕ) → List (Option ℕ) → Type 0
+HasOwnNodes reads nodes = (n node : ℕ) → slice_get nodes n ≡ Some (Some node) → node < length reads
 
 -- whether the number is below the count
 abbrev pub is_below : ℕ → ℕ → Bool

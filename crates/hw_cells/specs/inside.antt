@@ -4,3 +4,4 @@ pub mod Words
 pub mod Pairs
 pub mod Parts
 pub mod Told
+pub mod Ports

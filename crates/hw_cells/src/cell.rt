@@ -10,6 +10,13 @@ pub struct Pin {
     pub node: usize,
 }
 
+/// A port of a cell, and whether it is an input.
+#[derive(Clone, Copy, Debug)]
+pub struct CellPin {
+    pub pin: Pin,
+    pub is_input: bool,
+}
+
 /// A cell: the graph of what it is made of, and its outputs and inputs. An output reads what its node reaches.
 #[derive(Drop)]
 pub struct Cell<'a> {

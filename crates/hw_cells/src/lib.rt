@@ -17,11 +17,12 @@
 //! Where many holders have cells of one component, each would walk over its graph. So for all of these cells together it can be told which of
 //! their outputs reach which of their inputs, as soon as that graph is known and before the holders are gone through (`told`); a cell that
 //! comes with what is told of it takes no walk (`told_pairs`). And where that makes a component's graph smaller, it is given a graph of its
-//! ports alone, once: each output reads the inputs that it reaches (`condense`).
+//! ports alone, once: each output reads the inputs that it reaches (`condense`, `condense_graph` for what holders keep of a component, `PartGraph`).
 //!
 //! What the layer above uses: `flatten` gives a graph (`IsFlat`) whose first nodes are the ports; between them it reaches exactly what is
 //! reached at once and through cells, and a loop in it that starts with a port is one of ports, but for the nodes between. In the graph
-//! that `condense` gives, a port reaches another exactly where it reads it through the cell (`IsCondensed`). What `tell` says of outputs and
+//! that `condense` gives, a port reaches another exactly where it reads it through the cell (`IsCondensed`), and after `condense_graph` each output
+//! leads to the same inputs (`LeadsAlike`). What `tell` says of outputs and
 //! inputs, by their nodes, is so in the graph (`IsTold`).
 #![tactic(auto)]
 
@@ -29,14 +30,18 @@ mod cell;
 mod condensed;
 mod flat;
 mod pairs;
+mod part_graph;
 mod parts;
+mod ports_alone;
 mod search;
 mod together;
 mod told;
 mod told_pairs;
 
-pub use cell::{Cell, Pin};
+pub use cell::{Cell, CellPin, Pin};
 pub use condensed::condense;
 pub use flat::flatten;
+pub use part_graph::PartGraph;
+pub use ports_alone::condense_graph;
 pub use together::TOGETHER;
 pub use told::{Told, tell};

@@ -2,6 +2,7 @@
 use Rattle.std.specs.Prelude.{◌≡◌, ◌↔◌, ℕ, ◌<◌, ◌≤◌, true, false, List, length, slice_get, Option, Some, Contains, IfSome}
 use Rattle.std.specs.Borrow.{Bor}
 use Rattle.hw_cells.specs.declared.cell.Cell.{Cell}
+use Rattle.hw_cells.specs.declared.cell.CellPin.{CellPin}
 use Rattle.hw_cells.specs.declared.cell.Pin.{Pin}
 use Rattle.hw_cells.specs.declared.told.Told.{Told}
 use Rattle.hw_graph.specs.declared.groups.Entry.{Entry}
@@ -12,7 +13,6 @@ use Rattle.cal_ast.specs.Tree.{Component, Design, port_of}
 use Rattle.cal_check.specs.Firsts.{IsFirst}
 use Rattle.cal_check.specs.inside.Nodes.{APort, ports_in}
 use Rattle.cal_check.specs.inside.WireGraphs.{HasNumber}
-use Rattle.cal_check.specs.declared.cells.CellPin.{CellPin}
 use Rattle.cal_check.specs.declared.inside.Inside.{Inside}
 use Rattle.cal_check.specs.declared.wire_graph.WireGraph.{WireGraph}
 
@@ -39,7 +39,7 @@ pub record IsPinAt (g : WireGraph) (part : Component) (inside : Inside) (number 
   pub name : Text
   pub at : HasNumber g (APort (port_of cell name)) pin.port
   pub first : IsFirst (ports_in part) name number
-  pub node : slice_get inside.nodes.items number ≡ Some (Some pin.node)
+  pub node : slice_get inside.graph.nodes.items number ≡ Some (Some pin.node)
 
 -- the ports' numbers are those of inputs first
 abbrev pub IsInputPin : WireGraph → Component → Inside → Pin → Type 0
@@ -60,7 +60,7 @@ ArePins is_pin ports pins = (pin : Pin) → Contains pins pin ↔ (Contains port
 
 -- the cell has the graph inside and what is told of it there, if anything, and of these nodes those that are outputs and inputs there
 pub record HasPins (g : WireGraph) (part : Component) (inside : Inside) (ports : List ℕ) (cell : Cell) : Type 0 where
-  pub reads : cell.reads.now ≡ inside.reads
+  pub reads : cell.reads.now ≡ inside.graph.reads
   pub told : IfSome cell.told (λ (told : Bor Told). Contains inside.told.cells.items told.now)
   pub outputs : ArePins (IsOutputPin g part inside) ports cell.outputs.items
   pub inputs : ArePins (IsInputPin g part inside) ports cell.inputs.items

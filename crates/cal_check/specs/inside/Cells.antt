@@ -1,6 +1,6 @@
 -- The cells of a component that are made of components, and the one graph of its ports and of its cells' graphs. This project's.
-use Rattle.std.specs.Prelude.{◌≡◌, ◌⊎◌, ◌↔◌, ℕ, ◌+◌, ◌-◌, ◌<◌, ◌≤◌, List, length, filter, slice_get, slice_index, Some, All, Contains}
-use Rattle.hw_cells.specs.Cells.{IsFit, ReadsThrough, is_below}
+use Rattle.std.specs.Prelude.{◌≡◌, ◌⊎◌, ◌↔◌, ℕ, ◌<◌, ◌≤◌, List, length, filter, slice_get, slice_index, Some, All, Contains}
+use Rattle.hw_cells.specs.Cells.{IsFit, IsLoopOf, ReadsThrough, is_below}
 use Rattle.hw_cells.specs.declared.cell.Cell.{Cell}
 use Rattle.hw_graph.specs.Graph as graph
 use Rattle.hw_graph.specs.Graph.{AreInRange}
@@ -35,12 +35,9 @@ pub record ReadsAt (design : Design) (c : Component) (keys : List Text) (number 
   pub is_read : IsNodeAt keys read other
   pub reads : NodeReads design c node read
 
--- distinct places, of which each reads the next, and the last the first
-pub record IsLoopAt (design : Design) (c : Component) (keys : List Text) (numbers : List ℕ) : Type 0 where
-  pub some : 0 < length numbers
-  pub along : (i : ℕ) → i + 1 < length numbers → ReadsAt design c keys (slice_index numbers i) (slice_index numbers (i + 1))
-  pub back : ReadsAt design c keys (slice_index numbers (length numbers - 1)) (slice_index numbers 0)
-  pub once : (i j : ℕ) → i < length numbers → j < length numbers → slice_index numbers i ≡ slice_index numbers j → i ≡ j
+-- a loop of places, at each of which stands what reads the next
+abbrev pub IsLoopAt : Design → Component → List Text → List ℕ → Type 0
+IsLoopAt design c keys = IsLoopOf (ReadsAt design c keys)
 
 -- a graph whose first nodes are ports and holes of the component, by their keys, and the others those of its cells' graphs. Between the first it leads as they
 -- read one another. All that lies on a way between own ports, or on a loop, is among them; a loop that starts with one is a loop of them, but for the nodes

@@ -1,10 +1,9 @@
 -- Which outputs of a component reach which of its inputs within a row, and least loops, as code has them. This project's.
 use Rattle.std.specs.Prelude.{◌≡◌, ◌↔◌, ℕ, ◌<◌, ◌≤◌, ◌∷◌, List, length, map, slice_get, Option, Some, None, Vec, All}
 use Rattle.std.specs.declared.alloc.Global.{Global}
-use Rattle.hw_cells.specs.Cells.{IsOrReaches, IsTold}
-use Rattle.hw_cells.specs.declared.cell.Pin.{Pin}
-use Rattle.hw_graph.specs.Graph as graph
-use Rattle.hw_graph.specs.Graph.{AreInRange}
+use Rattle.hw_cells.specs.Cells.{IsTold}
+use Rattle.hw_cells.specs.PartGraph.{Leads}
+use Rattle.hw_cells.specs.declared.part_graph.PartGraph.{PartGraph}
 use Rattle.hw_names.specs.Name.{Text}
 use Rattle.cal_ast.specs.Ports.{inputs_in}
 use Rattle.cal_ast.specs.Tree.{PortName, own, Component, Design}
@@ -19,37 +18,16 @@ pub record AreNodes (c : Component) (keys : List Text) (nodes : List (Option ℕ
   pub each : (n node : ℕ) (port : Text) → slice_get (ports_in c) n ≡ Some port →
       slice_get nodes n ≡ Some (Some node) ↔ slice_get keys node ≡ Some (key_of (APort (own port)))
 
--- port n has a node, and port m, and the one is the other or reaches it
-pub record LeadsInside (inside : Inside) (n m : ℕ) : Type 0 where
-  pub node : ℕ
-  pub other : ℕ
-  pub is_node : slice_get inside.nodes.items n ≡ Some (Some node)
-  pub is_other : slice_get inside.nodes.items m ≡ Some (Some other)
-  pub leads : IsOrReaches inside.reads node other
+-- in the graph each output leads to exactly the inputs that it reaches; ports by their numbers, inputs first
+abbrev pub ShowsReached : Design → Component → PartGraph → Type 0
+ShowsReached design c graph =
+    (n m : ℕ) (output input : Text) → slice_get (ports_in c) n ≡ Some output → slice_get (ports_in c) m ≡ Some input →
+    length (inputs_in c) ≤ n → m < length (inputs_in c) → Leads graph n m ↔ Reaches design c (own output) (own input)
 
--- the nodes that ports have are nodes of the graph
-abbrev pub HasOwnNodes : Inside → Type 0
-HasOwnNodes inside = (n node : ℕ) → slice_get inside.nodes.items n ≡ Some (Some node) → node < length inside.reads
-
--- the pin is a port from the start on and before the end, with its node
-pub record IsPinBetween (nodes : List (Option ℕ)) (start end : ℕ) (pin : Pin) : Type 0 where
-  pub from : start ≤ pin.port
-  pub to : pin.port < end
-  pub has_node : slice_get nodes pin.port ≡ Some (Some pin.node)
-
--- a graph of the component's ports alone, by their numbers: in it each output reaches exactly the inputs that it leads to inside
-pub record IsOfPorts (inside : Inside) (inputs : ℕ) (reads : List (List ℕ)) : Type 0 where
-  pub all : length reads ≡ length inside.nodes.items
-  pub in_range : AreInRange reads
-  pub reaches : (n m : ℕ) → inputs ≤ n → m < inputs → graph.Reaches reads n m ↔ LeadsInside inside n m
-
--- in the graph each output leads to exactly the inputs that it reaches; ports by their numbers, inputs first. What is told of cells is right of it.
+-- the component's graph shows what its outputs reach, and what is told of cells is right of it
 pub record IsInside (design : Design) (c : Component) (inside : Inside) : Type 0 where
-  pub in_range : AreInRange inside.reads
-  pub within : HasOwnNodes inside
-  pub leads : (n m : ℕ) (output input : Text) → slice_get (ports_in c) n ≡ Some output → slice_get (ports_in c) m ≡ Some input →
-      length (inputs_in c) ≤ n → m < length (inputs_in c) → LeadsInside inside n m ↔ Reaches design c (own output) (own input)
-  pub told : All (IsTold inside.reads) inside.told.cells.items
+  pub reached : ShowsReached design c inside.graph
+  pub told : All (IsTold inside.graph.reads) inside.told.cells.items
 
 -- this of each component that component n has a cell of
 pub record ShowsParts (design : Design) (n : ℕ) (insides : List (Option Inside)) : Type 0 where

@@ -1,11 +1,11 @@
 -- The ports of instances of components, as the graph of the component that has the instances knows them. This project's.
 use Rattle.std.specs.Prelude.{◌≡◌, ◌⊎◌, ◌↔◌, ℕ, ◌<◌, ◌≤◌, true, false, List, slice_get, Option, None, Some, Contains}
 use Rattle.hw_cells.specs.declared.cell.Cell.{Cell}
+use Rattle.hw_cells.specs.declared.cell.CellPin.{CellPin}
 use Rattle.hw_cells.specs.declared.cell.Pin.{Pin}
 use Rattle.hw_graph.specs.declared.groups.Entry.{Entry}
 use Rattle.hw_names.specs.Name.{Text, dotted}
 use Rattle.fil_check.specs.inside.Ports.{PortList}
-use Rattle.fil_check.specs.declared.loops.cells.CellPin.{CellPin}
 use Rattle.fil_check.specs.declared.loops.inside.Inside.{Inside}
 
 -- the full name can be that of a port of the instance of this number
@@ -34,15 +34,15 @@ AreInstancePorts ports entries = (instance node : ℕ) → Contains entries (rec
 -- the pin is port `number` of the component, by its name, with the port's node inside
 pub record IsNamedPin (inside : Inside) (name : Text) (port number : ℕ) (pin : Pin) : Type 0 where
   pub named : slice_get inside.names number ≡ Some name
-  pub node : slice_get inside.nodes.items number ≡ Some pin.node
+  pub node : slice_get inside.graph.nodes.items number ≡ Some (Some pin.node)
   pub is_port : pin.port ≡ port
 
 -- the ports' numbers are those of inputs first
 abbrev pub IsInputPin : Inside → Text → ℕ → Pin → Type 0
-IsInputPin inside name port pin = (number : ℕ) × (number < inside.inputs) × IsNamedPin inside name port number pin
+IsInputPin inside name port pin = (number : ℕ) × (number < inside.graph.inputs) × IsNamedPin inside name port number pin
 
 abbrev pub IsOutputPin : Inside → Text → ℕ → Pin → Type 0
-IsOutputPin inside name port pin = (number : ℕ) × (inside.inputs ≤ number) × IsNamedPin inside name port number pin
+IsOutputPin inside name port pin = (number : ℕ) × (inside.graph.inputs ≤ number) × IsNamedPin inside name port number pin
 
 -- the pin, and whether it is an input; none where the component has no port of the name
 pub record TellsPin (inside : Inside) (name : Text) (port : ℕ) (found : Option CellPin) : Type 0 where
@@ -59,7 +59,7 @@ ArePins is_pin ports inst nodes pins =
 pub record HasPins (ports : PortList) (instance : ℕ) (inside : Inside) (nodes : List ℕ) (cell : Cell) : Type 0 where
   pub inst : Text
   pub instance_at : slice_get ports.instances instance ≡ Some inst
-  pub reads : cell.reads.now ≡ inside.reads
+  pub reads : cell.reads.now ≡ inside.graph.reads
   pub untold : cell.told ≡ None
   pub outputs : ArePins (IsOutputPin inside) ports inst nodes cell.outputs.items
   pub inputs : ArePins (IsInputPin inside) ports inst nodes cell.inputs.items

@@ -1,6 +1,6 @@
 -- The instances of components in a component, as cells of its graph, and the one graph of its ports and of its instances' graphs. This project's.
-use Rattle.std.specs.Prelude.{◌≡◌, ◌↔◌, ℕ, ◌+◌, ◌-◌, ◌<◌, ◌≤◌, List, length, filter, slice_get, slice_index, Option, Some, All, Contains}
-use Rattle.hw_cells.specs.Cells.{IsFit, IsOrReaches, ReadsThrough, is_below}
+use Rattle.std.specs.Prelude.{◌≡◌, ◌↔◌, ℕ, ◌<◌, ◌≤◌, List, length, filter, slice_get, slice_index, Option, Some, All, Contains}
+use Rattle.hw_cells.specs.Cells.{IsFit, IsLoopOf, IsOrReaches, ReadsThrough, is_below}
 use Rattle.hw_cells.specs.declared.cell.Cell.{Cell}
 use Rattle.hw_graph.specs.Graph as graph
 use Rattle.hw_graph.specs.Graph.{AreInRange}
@@ -19,7 +19,7 @@ pub record IsPortInside (inst : Text) (inside : Inside) (number node : ℕ) (por
   pub name : Text
   pub name_at : slice_get inside.names number ≡ Some name
   pub is_port : dotted inst name ≡ port
-  pub is_node : slice_get inside.nodes.items number ≡ Some node
+  pub is_node : slice_get inside.graph.nodes.items number ≡ Some (Some node)
 
 -- the ports are an output and an input of an instance of a component, and the one's node in that component's graph is or reaches the other's
 pub record ReadsInside (parts : List (Option ℕ)) (insides : List Inside) (instances : List Text) (port other : Text) : Type 0 where
@@ -30,13 +30,13 @@ pub record ReadsInside (parts : List (Option ℕ)) (insides : List Inside) (inst
   pub known : IsInsideAt parts insides instance inside
   pub output : ℕ
   pub input : ℕ
-  pub is_output : inside.inputs ≤ output
-  pub is_input : input < inside.inputs
+  pub is_output : inside.graph.inputs ≤ output
+  pub is_input : input < inside.graph.inputs
   pub from : ℕ
   pub to : ℕ
   pub from_output : IsPortInside inst inside output from port
   pub to_input : IsPortInside inst inside input to other
-  pub leads : IsOrReaches inside.reads from to
+  pub leads : IsOrReaches inside.graph.reads from to
 
 -- between numbered ports, through the cells exactly what is read through instances of components
 pub record AreCells (parts : List (Option ℕ)) (insides : List Inside) (ports : PortList) (cells : List Cell) : Type 0 where
@@ -58,12 +58,9 @@ pub record ReadsAt (earlier : Design) (c : Component) (names : List Text) (numbe
   pub is_read : slice_get names other ≡ Some read
   pub reads : ReadsPort (through_before earlier) (whole_scope earlier c) port read
 
--- distinct places, of which each reads the next, and the last the first
-pub record IsLoopAt (earlier : Design) (c : Component) (names : List Text) (numbers : List ℕ) : Type 0 where
-  pub some : 0 < length numbers
-  pub along : (i : ℕ) → i + 1 < length numbers → ReadsAt earlier c names (slice_index numbers i) (slice_index numbers (i + 1))
-  pub back : ReadsAt earlier c names (slice_index numbers (length numbers - 1)) (slice_index numbers 0)
-  pub once : (i j : ℕ) → i < length numbers → j < length numbers → slice_index numbers i ≡ slice_index numbers j → i ≡ j
+-- a loop of places, at each of which stands a port that reads the next
+abbrev pub IsLoopAt : Design → Component → List Text → List ℕ → Type 0
+IsLoopAt earlier c names = IsLoopOf (ReadsAt earlier c names)
 
 -- a graph whose first nodes are ports of the component, and the others those of its instances' graphs. Between the first it leads as they reach one another.
 -- All that is read and reads is among them; a loop that starts with one is a loop of them, but for the nodes between.

@@ -15,7 +15,7 @@ use crate::loops::graph::PortGraph;
 use crate::loops::inside::Inside;
 use crate::loops::ports::Ports;
 use hw_bits::Memory;
-use hw_cells::{Cell, Pin};
+use hw_cells::{Cell, CellPin, Pin};
 use hw_graph::{Entry, gather};
 use hw_names::Names;
 use hw_texts::text_at;
@@ -166,22 +166,15 @@ pub fn number_dotted(
     Ok(())
 }
 
-/// A port of an instance, and whether it is an input.
-#[derive(Clone, Copy)]
-pub struct CellPin {
-    pub pin: Pin,
-    pub is_input: bool,
-}
-
 /// The port of this name, with its node in the graph of what the instance is made of.
 fn cell_pin(inside: &Inside, name: &[u8], port: usize) -> Option<CellPin>
     ensures { TellsPin inside.now name.now port result }
 {
     let number = inside.names.find(name)?.0 as usize;
-    let node = *inside.nodes.get(number)?;
+    let node = inside.graph.nodes.get(number).copied().flatten()?;
     Some(CellPin {
         pin: Pin { port, node },
-        is_input: number < inside.inputs,
+        is_input: number < inside.graph.inputs,
     })
 }
 
@@ -221,12 +214,12 @@ fn cell_of<'w>(
     requires instance { instance < length ports.now.instances }
     requires nodes { All (IsPortOfInstance ports.now instance) nodes.now }
     ensures pins { IfOk result (HasPins ports.now instance inside.now nodes.now) }
-    ensures graph { IfOk result (λ cell. (cell.part ≡ part) × (cell.reads.now ≡ inside.now.reads)) }
+    ensures graph { IfOk result (λ cell. (cell.part ≡ part) × (cell.reads.now ≡ inside.now.graph.reads)) }
 {
     let alloc = ports.alloc();
     let mut cell = Cell {
         part,
-        reads: &inside.reads,
+        reads: &inside.graph.reads,
         told: None,
         outputs: Vec::new(alloc),
         inputs: Vec::new(alloc),

@@ -1,32 +1,29 @@
 //! What the components that have instances of a component need to know of it: which of its outputs reach which of its inputs.
-ghost use Rattle.std.specs.Prelude.{◌≡◌, ◌++◌, ◌<◌, length, All, IfOk, OnOk};
+ghost use Rattle.std.specs.Prelude.{◌≡◌, ◌++◌, ◌<◌, Some, length, map, All, IfOk, OnOk};
 ghost use Rattle.hw_graph.specs.Graph.{AreInRange};
 ghost use Rattle.hw_names.specs.Name.{AreDistinct};
 ghost use Rattle.fil_ast.specs.Numbers.{ComponentHasNumbers, PortHasNumbers};
 ghost use Rattle.fil_ast.specs.Rules.{KeepsComponent, all_rules};
-ghost use Rattle.fil_ast.specs.Tree.{Design, component_tree};
+ghost use Rattle.fil_ast.specs.Tree.{Component, Design, component_tree};
 ghost use Rattle.fil_check.specs.inside.Reached.{own_port_names, port_names};
+ghost use Rattle.fil_check.specs.inside.Wiring.{IsInside};
 
 use crate::place::Place;
 use fil_ast::FilPort;
 use fil_sig::add_name;
 use hw_bits::Memory;
+use hw_cells::{PartGraph, condense_graph};
 use hw_graph::Groups;
 use hw_names::Names;
+use std::alloc::Global;
 
-/// The graph of a component, its instances' graphs among it, and in it the nodes of the component's ports.
+/// What is known of a component.
 #[derive(Drop)]
 pub struct Inside {
-    /// The names of the ports, inputs first.
+    /// The names of its ports, inputs first.
     pub names: Names,
-    /// How many of them are inputs.
-    pub inputs: usize,
-    /// The node of each port.
-    pub nodes: Vec<usize>,
-    /// For each node those that it reads.
-    pub reads: Groups,
-    pub ghost in_range: { AreInRange reads },
-    pub ghost within: { All (λ node. node < length reads) nodes.items },
+    /// The graph of it, its instances' graphs among it, in which each port has a node.
+    pub graph: PartGraph,
 }
 
 /// Puts the names of the ports last.
@@ -40,27 +37,56 @@ fn add_names(own: &mut Names, names: &Names, ports: &[FilPort]) -> Result<(), Me
     Ok(())
 }
 
+/// The nodes of ports that have one each.
+fn all_of(alloc: Global, nodes: &[usize]) -> Result<Vec<Option<usize>>, Memory>
+    ensures { IfOk result (λ all. all.items ≡ map Some nodes.now) }
+{
+    let mut all = Vec::new(alloc);
+    for node in nodes {
+        all.push(Some(*node))?;
+    }
+    Ok(all)
+}
+
 /// What is known of a component, whose ports have these nodes in the graph, inputs first.
-pub fn inside_of(place: &Place, nodes: Vec<usize>, reads: Groups) -> Result<Inside, Memory>
+pub fn inside_of(
+    alloc: Global,
+    place: &Place,
+    nodes: &[usize],
+    reads: Groups,
+) -> Result<Inside, Memory>
     requires in_range { AreInRange reads }
-    requires within { All (λ node. node < length reads) nodes.items }
+    requires within { All (λ node. node < length reads) nodes.now }
     requires numbers { ComponentHasNumbers place.now.names.now place.now.comp.now }
     ensures names { (comps : Design) → KeepsComponent all_rules comps (component_tree place.now.names.now place.now.comp.now)
         → IfOk result (λ inside. inside.names ≡ own_port_names (component_tree place.now.names.now place.now.comp.now)) }
     ensures distinct { IfOk result (λ inside. AreDistinct inside.names) }
-    ensures inputs { IfOk result (λ inside. inside.inputs ≡ length place.now.comp.now.ins.items) }
-    ensures nodes { IfOk result (λ inside. inside.nodes ≡ nodes) }
-    ensures reads { IfOk result (λ inside. inside.reads ≡ reads) }
+    ensures inputs { IfOk result (λ inside. inside.graph.inputs ≡ length place.now.comp.now.ins.items) }
+    ensures nodes { IfOk result (λ inside. inside.graph.nodes.items ≡ map Some nodes.now) }
+    ensures reads { IfOk result (λ inside. inside.graph.reads ≡ reads) }
 {
     let mut names = place.names.beside();
     add_names(&mut names, place.names, &place.comp.ins)?;
     add_names(&mut names, place.names, &place.comp.outs)?;
     // They are distinct.
     let _count = names.len();
+    let nodes = all_of(alloc, nodes)?;
+    let inputs = place.comp.ins.len();
     Ok(Inside {
         names,
-        inputs: place.comp.ins.len(),
-        nodes,
-        reads,
+        graph: PartGraph {
+            reads,
+            nodes,
+            inputs,
+        },
     })
+}
+
+/// The same with a graph of the ports alone, where that is smaller: each instance of the component is a search of the graph, or a copy.
+pub fn condensed(alloc: Global, inside: Inside) -> Result<Inside, Memory>
+    ensures { (earlier : Design) (c : Component) → IsInside earlier c inside → IfOk result (IsInside earlier c) }
+{
+    let Inside { names, graph } = inside;
+    let graph = condense_graph(alloc, graph)?;
+    Ok(Inside { names, graph })
 }

@@ -1,4 +1,4 @@
-use Rattle.std.proofs.Common.{rules, ◌≡◌, ◌<◌, length, arith, sym, ◌∙◌}
+use Rattle.std.proofs.Common.{rules, ◌<◌, length, arith, sym, ◌∙◌}
 use Rattle.cal_check.specs.Around.{comp_at, design_at}
 use Rattle.cal_check.proofs.CellLemmas.{made_within}
 use Rattle.cal_check.proofs.CellPinLemmas.{nodes_within}

@@ -11,7 +11,7 @@ use Rattle.cal_check.proofs.cells.cell_of.Given as goal
 abbrev pub invariant-loop-port : goal.invariant-loop-port
 invariant-loop-port l = record {
   part : l.cell.part ≡ l.part.number;
-  reads : l.cell.reads.now ≡ l.part.inside.now.reads;
+  reads : l.cell.reads.now ≡ l.part.inside.now.graph.reads;
   told : IfSome l.cell.told (λ (told : Bor Told). Contains l.part.inside.now.told.cells.items told.now);
   both : (c : Component) → slice_get (design_at l.place) l.part.number ≡ Some c →
       HasBoth l.graph c l.part.inside.now (take l.port-index l.ports) l.cell.outputs.items l.cell.inputs.items;

@@ -1,7 +1,8 @@
 use Rattle.std.proofs.Common.{◌≡◌, false, true, Option, List, ℕ, slice_get, sym, subst, ◌∙◌}
 use Rattle.std.specs.Slice.{IsItemAt}
+use Rattle.hw_cells.proofs.PortLemmas.{flat_none, flat_some}
 use Rattle.cal_check.specs.inside.CellPins.{TellsPin}
-use Rattle.cal_check.proofs.CellPinLemmas.{flat_none, flat_some, no_node, no_number, no_pin_port, pin_told, place_told}
+use Rattle.cal_check.proofs.CellPinLemmas.{no_node, no_number, no_pin_port, pin_told, place_told}
 use Rattle.cal_check.proofs.ListLemmas.{got}
 use Rattle.cal_check.proofs.cells.cell_pin.Goals as goal
 
@@ -33,7 +34,7 @@ returns-in_err-node c = λ part there.
     let told = place_told s part (c.signature_of-signature.ensures part there) name c.find.result c.find.ensures in
     let j = c.in_ok-number.number in
     let I : List (Option ℕ) → Type 0 = λ ls. IsItemAt ls j c.get.result in
-    let look : c.copied.result ≡ slice_get inside.nodes.items j = c.copied.ensures ∙ got inside.nodes.items j c.get.result (subst I c.deref.ensures.value c.get.ensures.lookup) in
+    let look : c.copied.result ≡ slice_get inside.graph.nodes.items j = c.copied.ensures ∙ got inside.graph.nodes.items j c.get.result (subst I c.deref.ensures.value c.get.ensures.lookup) in
     subst (TellsPin g part inside c.args.port) (sym c.from_residual-in_err-node.ensures)
     (no_node g part inside c.args.port cell name c.in_ok-_cell.ensures.some c.find.result told j c.in_ok-number.was
     (λ node at. flat_none c.copied.result c.flatten.result c.flatten.ensures c.in_err-node.was node (look ∙ at)))
@@ -49,6 +50,6 @@ returns c = λ part there.
     let told = place_told s part shows name c.find.result c.find.ensures in
     let j = c.in_ok-number.number in
     let I : List (Option ℕ) → Type 0 = λ ls. IsItemAt ls j c.get.result in
-    let look : c.copied.result ≡ slice_get inside.nodes.items j = c.copied.ensures ∙ got inside.nodes.items j c.get.result (subst I c.deref.ensures.value c.get.ensures.lookup) in
+    let look : c.copied.result ≡ slice_get inside.graph.nodes.items j = c.copied.ensures ∙ got inside.graph.nodes.items j c.get.result (subst I c.deref.ensures.value c.get.ensures.lookup) in
     pin_told g part inside c.args.port cell name c.in_ok-_cell.ensures.some c.find.result told j c.in_ok-number.was c.in_ok-node.node s.inputs
     (sym look ∙ flat_some c.copied.result c.flatten.result c.flatten.ensures c.in_ok-node.node c.in_ok-node.was) shows.inputs

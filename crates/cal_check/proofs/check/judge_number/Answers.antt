@@ -7,7 +7,6 @@ use Rattle.cal_ast.specs.Tree.{Component, Design, component_tree, design_of}
 use Rattle.cal_check.specs.Around.{comp_at, design_at}
 use Rattle.cal_check.specs.inside.Wiring.{IsInside, ShowsParts, TellsLoop}
 use Rattle.cal_check.proofs.LoopedLemmas.{told_part}
-use Rattle.cal_check.proofs.ToldLemmas.{some_inside}
 use Rattle.cal_check.proofs.check.judge_number.Goals as goal
 
 pub get-requires : goal.get-requires
@@ -23,11 +22,6 @@ judge_loops-requires-clause-kept c =
 pub judge_loops-requires-clause-parts : goal.judge_loops-requires-clause-parts
 judge_loops-requires-clause-parts c =
     subst₂ (λ d n. ShowsParts d n c.args.insides.now) (sym c.in_ok-place.ensures.design) (sym c.in_ok-place.ensures.number) c.requires.parts
-
-pub tell_cells-requires : goal.tell_cells-requires
-tell_cells-requires c =
-    let p = c.in_ok-place.place in
-    some_inside (design_at p) (comp_at p) c.in_ok-judged.judged.inside c.in_ok-judged.ensures.shows
 
 pub returns-clause-inside : goal.returns-clause-inside
 returns-clause-inside c = λ holder held.

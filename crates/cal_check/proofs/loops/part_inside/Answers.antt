@@ -1,18 +1,23 @@
 use Rattle.cal_ast.proofs.ItemLemmas.{new_ports}
 use Rattle.cal_ast.specs.Naming.{Unreserved}
 use Rattle.cal_check.specs.Around.{comp_at, design_at}
-use Rattle.cal_check.proofs.InsideLemmas.{is_inside}
+use Rattle.cal_check.proofs.InsideLemmas.{nodes_within, reached_alike}
+use Rattle.cal_check.proofs.ToldLemmas.{none_told}
 use Rattle.cal_check.proofs.loops.part_inside.Goals as goal
 
-pub condensed-requires-clause-within : goal.condensed-requires-clause-within
-condensed-requires-clause-within c =
+pub invariant_of-own-clause-in_range : goal.invariant_of-own-clause-in_range
+invariant_of-own-clause-in_range c = c.requires.graph.in_range
+
+pub invariant_of-own-clause-within : goal.invariant_of-own-clause-within
+invariant_of-own-clause-within c =
     let p = c.args.place.now in
-    let distinct = new_ports Unreserved (design_at p) c.requires.kept p.number (comp_at p) c.comp-comp.ensures.at in
-    (is_inside (design_at p) (comp_at p) c.args.ports.now.keys c.args.reads c.requires.graph distinct c.in_ok-nodes.nodes c.in_ok-nodes.ensures c.none-told.result c.none-told.ensures).within
+    nodes_within (design_at p) (comp_at p) c.args.ports.now.keys c.args.reads c.in_ok-nodes.nodes.items c.requires.graph c.in_ok-nodes.ensures
 
 pub returns-clause-inside : goal.returns-clause-inside
 returns-clause-inside c =
     let p = c.args.place.now in
     let distinct = new_ports Unreserved (design_at p) c.requires.kept p.number (comp_at p) c.comp-comp.ensures.at in
-    let known = is_inside (design_at p) (comp_at p) c.args.ports.now.keys c.args.reads c.requires.graph distinct c.in_ok-nodes.nodes c.in_ok-nodes.ensures c.none-told.result c.none-told.ensures in
-    c.in_ok-condensed.ensures (design_at p) (comp_at p) c.signature.ensures.inputs known
+    record {
+      reached = reached_alike (design_at p) (comp_at p) c.args.ports.now.keys _ c.requires.graph distinct c.in_ok-nodes.ensures c.in_ok-graph.graph c.signature.ensures.inputs c.in_ok-graph.ensures;
+      told = none_told c.in_ok-graph.graph.reads c.none-told.result.cells.items c.none-told.ensures;
+    }

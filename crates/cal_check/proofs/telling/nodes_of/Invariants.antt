@@ -3,4 +3,4 @@ use Rattle.cal_check.proofs.telling.nodes_of.Given as goal
 
 -- so far all are nodes of the graph
 abbrev pub invariant-loop-port : goal.invariant-loop-port
-invariant-loop-port l = All (λ (node : ℕ). node < length l.inside.reads) l.nodes.items
+invariant-loop-port l = All (λ (node : ℕ). node < length l.graph.reads) l.nodes.items

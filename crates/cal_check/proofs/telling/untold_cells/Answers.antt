@@ -8,7 +8,7 @@ use Rattle.cal_check.proofs.telling.untold_cells.Goals as goal
 
 pub loop-cell-preserved : goal.loop-cell-preserved
 loop-cell-preserved c =
-    let nodes = length c.args.inside.now.reads in
+    let nodes = length c.args.graph.now.reads in
     let cells = c.loop-cell.untold_cells.cells.items in
     let so_far = c.loop-cell.invariant in
     elim c.match-branch-2.branch [

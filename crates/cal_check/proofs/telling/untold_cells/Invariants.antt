@@ -4,4 +4,4 @@ use Rattle.cal_check.proofs.telling.untold_cells.Given as goal
 
 -- so far each can be asked of
 abbrev pub invariant-loop-cell : goal.invariant-loop-cell
-invariant-loop-cell l = All (IsAskable (length l.inside.reads)) l.untold_cells.cells.items
+invariant-loop-cell l = All (IsAskable (length l.graph.reads)) l.untold_cells.cells.items

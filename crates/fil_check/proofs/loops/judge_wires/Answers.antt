@@ -1,4 +1,4 @@
-use Rattle.std.proofs.Common.{ℕ, Vec, Global, sym, subst, ◌∙◌}
+use Rattle.std.proofs.Common.{ℕ, List, sym, subst, ◌∙◌}
 use Rattle.std.proofs.lemmas.List.{length-map}
 use Rattle.fil_ast.specs.Tree.{component_tree, port_tree}
 use Rattle.fil_check.specs.inside.Reached.{AreNumbered, own_port_names}
@@ -19,9 +19,10 @@ returns-in-None-clause-inside c comps place shows keeps own_keeps =
     let flat = c.in_ok-ports in
     let texts = flat.field-0.ports.names in
     let told = c.in_ok-inside_of-in-None.ensures in
-    let numbered = subst (λ (nodes : Vec ℕ Global). AreNumbered texts nodes.items (own_port_names tree)) (sym told.nodes) (flat.ensures.own comps place) in
+    let own = c.deref.result.now in
+    let numbered = subst (λ (nodes : List ℕ). AreNumbered texts nodes (own_port_names tree)) (sym c.deref.ensures.value) (flat.ensures.own comps place) in
     let inside = c.in_ok-inside_of-in-None.field-0 in
-    let known = is_inside comps tree texts flat.field-0.reads (flat.ensures.leads comps place shows keeps own_keeps) inside (told.names comps own_keeps) told.distinct (told.inputs ∙ sym (length-map comp.ins.items (port_tree names))) told.reads numbered in
+    let known = is_inside comps tree texts flat.field-0.reads (flat.ensures.leads comps place shows keeps own_keeps) inside (told.names comps own_keeps) told.distinct (told.inputs ∙ sym (length-map comp.ins.items (port_tree names))) told.reads own told.nodes numbered in
     c.in_ok-condensed-in-None.ensures comps tree known
 
 pub returns-clause-cycle : goal.returns-clause-cycle

@@ -7,7 +7,7 @@ use Rattle.fil_check.proofs.loops.cells.cell_of.Given as goal
 abbrev pub invariant-loop-node : goal.invariant-loop-node
 invariant-loop-node l = record {
   part : l.cell.part ≡ l.part;
-  reads : l.cell.reads.now ≡ l.inside.reads;
+  reads : l.cell.reads.now ≡ l.inside.graph.reads;
   untold : l.cell.told ≡ None;
   both : (inst : Text) → slice_get l.ports.instances l.instance ≡ Some inst → HasBoth l.inside l.ports inst (take l.node-index l.nodes) l.cell.outputs.items l.cell.inputs.items;
 }

@@ -2,8 +2,11 @@ use Rattle.std.proofs.Common.{ap, ◌∙◌}
 use Rattle.fil_ast.specs.Tree.{component_tree}
 use Rattle.fil_check.specs.inside.Reached.{port_names}
 use Rattle.fil_check.proofs.DependLemmas.{tree_names}
-use Rattle.fil_check.proofs.WiringLemmas.{own_named}
+use Rattle.fil_check.proofs.WiringLemmas.{own_named, own_nodes}
 use Rattle.fil_check.proofs.loops.inside.inside_of.Goals as goal
+
+pub invariant_of-result-clause-within : goal.invariant_of-result-clause-within
+invariant_of-result-clause-within c = own_nodes c.args.reads c.args.nodes.now c.in_ok-nodes.nodes.items c.in_ok-nodes.ensures c.requires.within
 
 pub returns-clause-names : goal.returns-clause-names
 returns-clause-names c comps keeps =

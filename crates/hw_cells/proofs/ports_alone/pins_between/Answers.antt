@@ -1,9 +1,7 @@
 use Rattle.std.proofs.Common.{◌≡◌, ℕ, Some, slice_get, sym, ◌∙◌, arith}
-use Rattle.cal_check.proofs.CellPinLemmas.{flat_none, flat_some}
-use Rattle.cal_check.proofs.CondensedLemmas.{far_all, far_more, far_same}
-use Rattle.cal_check.proofs.ListLemmas.{got}
-use Rattle.cal_check.proofs.inside.pins_between.Goals.{in-Some+in_ok-push, in_default}
-use Rattle.cal_check.proofs.inside.pins_between.Goals as goal
+use Rattle.hw_cells.proofs.PortLemmas.{far_all, far_more, far_same, flat_none, flat_some, got}
+use Rattle.hw_cells.proofs.ports_alone.pins_between.Goals.{in-Some+in_ok-push, in_default}
+use Rattle.hw_cells.proofs.ports_alone.pins_between.Goals as goal
 
 pub loop-port-preserved : goal.loop-port-preserved
 loop-port-preserved c =

@@ -1,5 +1,5 @@
 use Rattle.std.proofs.Common.{◌≡◌, ◌<◌, ℕ, Some, length, slice_get}
-use Rattle.cal_check.proofs.inside.numbers.Given as goal
+use Rattle.hw_cells.proofs.ports_alone.numbers.Given as goal
 
 -- so many numbers
 abbrev pub invariant-loop-number : goal.invariant-loop-number

@@ -1,21 +1,21 @@
 -- A graph of a component's ports alone leads as the graph of all that it is made of.
-use Rattle.std.proofs.Common.{◌≡◌, ◌↔◌, ◌⊎◌, inl, inr, ℕ, ◌+◌, ◌<◌, ◌≤◌, List, [], ◌∷◌, ◌++◌, Option, Some, None, length, get_or, slice_get, Contains, refl, sym, ap₂, subst, ◌∙◌, arith}
+use Rattle.std.proofs.Common.{◌≡◌, ◌↔◌, ◌⊎◌, inl, inr, ℕ, ◌+◌, ◌<◌, ◌≤◌, List, [], ◌∷◌, ◌++◌, Option, Some, None, length, get_or, slice_get, Contains, refl, sym, ap, ap₂, subst, ◌∙◌, arith}
 use Rattle.std.specs.Borrow.{Bor}
 use Rattle.std.specs.Prelude.{IfSome}
+use Rattle.std.specs.Option.{option_copied, option_flatten}
+use Rattle.std.specs.Slice.{IsItemAt}
 use Rattle.std.proofs.lemmas.Bool.{cases_lt}
 use Rattle.std.proofs.lemmas.List.Elements.{Contains-append_left, Contains-get_or, Contains-push, Contains-push_cases}
-use Rattle.std.proofs.lemmas.Option.{same_Some, slice_get_within}
-use Rattle.hw_cells.specs.Cells.{IsCondensed, IsFit, IsOrReaches, IsPinWithin, IsTold, ReadsThrough}
+use Rattle.std.proofs.lemmas.Option.{none-some, same_Some, slice_get_past, slice_get_within, slice_get-get_or}
+use Rattle.hw_cells.specs.Cells.{HasOwnNodes, IsCondensed, IsFit, IsOrReaches, IsPinWithin, IsTold, ReadsThrough}
 use Rattle.hw_cells.specs.declared.cell.Cell.{Cell}
 use Rattle.hw_cells.specs.declared.cell.Pin.{Pin}
 use Rattle.hw_cells.specs.declared.told.Told.{Told}
 use Rattle.hw_graph.specs.Graph as graph
 use Rattle.hw_graph.specs.Graph.{AreInRange}
-use Rattle.cal_ast.specs.Ports.{inputs_in}
-use Rattle.cal_ast.specs.Tree.{Component, Design}
-use Rattle.cal_check.specs.inside.Wiring.{HasOwnNodes, IsInside, IsOfPorts, IsPinBetween, LeadsInside}
-use Rattle.cal_check.specs.declared.inside.Inside.{Inside}
-use Rattle.cal_check.proofs.ToldLemmas.{none_told}
+use Rattle.hw_cells.specs.PartGraph.{Leads, LeadsAlike}
+use Rattle.hw_cells.specs.declared.part_graph.PartGraph.{PartGraph}
+use Rattle.hw_cells.specs.inside.Ports.{IsOfPorts, IsPinBetween}
 
 -- ---- the pins of ports from a start to an end
 
@@ -93,22 +93,22 @@ on_one_side nodes inputs ports outputs ins are_outputs are_inputs output input h
     let i = (are_inputs input).0 has_input in
     omega (arith, o.from, i.to, same)
 
-module _ (inside : Inside) (inputs ports : ℕ) (cell : Cell) (nodes : List (Option ℕ)) (nodes_are : nodes ≡ inside.nodes.items) (ports_are : ports ≡ length inside.nodes.items)
-    (reads_are : cell.reads.now ≡ inside.reads) (outputs : AreBetween nodes inputs ports cell.outputs.items) (ins : AreBetween nodes 0 inputs cell.inputs.items) where
-  has_node : (n node : ℕ) → slice_get nodes n ≡ Some (Some node) → slice_get inside.nodes.items n ≡ Some (Some node)
+module _ (part : PartGraph) (ports : ℕ) (cell : Cell) (nodes : List (Option ℕ)) (nodes_are : nodes ≡ part.nodes.items) (ports_are : ports ≡ length part.nodes.items)
+    (reads_are : cell.reads.now ≡ part.reads) (outputs : AreBetween nodes part.inputs ports cell.outputs.items) (ins : AreBetween nodes 0 part.inputs cell.inputs.items) where
+  has_node : (n node : ℕ) → slice_get nodes n ≡ Some (Some node) → slice_get part.nodes.items n ≡ Some (Some node)
   has_node n node at = subst (λ (list : List (Option ℕ)). slice_get list n ≡ Some (Some node)) nodes_are at
 
-  node_at : (n node : ℕ) → slice_get inside.nodes.items n ≡ Some (Some node) → slice_get nodes n ≡ Some (Some node)
+  node_at : (n node : ℕ) → slice_get part.nodes.items n ≡ Some (Some node) → slice_get nodes n ≡ Some (Some node)
   node_at n node at = subst (λ (list : List (Option ℕ)). slice_get list n ≡ Some (Some node)) (sym nodes_are) at
 
-  pin_within : HasOwnNodes inside → (pin : Pin) → slice_get nodes pin.port ≡ Some (Some pin.node) → IsPinWithin ports (length cell.reads.now) pin
+  pin_within : HasOwnNodes part.reads part.nodes.items → (pin : Pin) → slice_get nodes pin.port ≡ Some (Some pin.node) → IsPinWithin ports (length cell.reads.now) pin
   pin_within within pin at =
       let there = has_node pin.port pin.node at in (
-        omega (arith, slice_get_within inside.nodes.items pin.port (Some pin.node) there, ports_are),
+        omega (arith, slice_get_within part.nodes.items pin.port (Some pin.node) there, ports_are),
         subst (λ (r : List (List ℕ)). pin.node < length r) (sym reads_are) (within pin.port pin.node there),
       )
 
-  pub ports_fit : IfSome cell.told (λ (told : Bor Told). IsTold cell.reads.now told.now) → AreInRange inside.reads → HasOwnNodes inside → IsFit ports cell
+  pub ports_fit : IfSome cell.told (λ (told : Bor Told). IsTold cell.reads.now told.now) → AreInRange part.reads → HasOwnNodes part.reads part.nodes.items → IsFit ports cell
   ports_fit told in_range within = record {
     in_range = subst AreInRange (sym reads_are) in_range;
     told = told;
@@ -117,23 +117,23 @@ module _ (inside : Inside) (inputs ports : ℕ) (cell : Cell) (nodes : List (Opt
     inputs = λ k d lt. (let pin = get_or cell.inputs.items k d in pin_within within pin ((ins pin).0 (Contains-get_or cell.inputs.items k d lt)).has_node);
   }
 
-  through_leads : (n m : ℕ) → ReadsThrough cell n m → LeadsInside inside n m
+  through_leads : (n m : ℕ) → ReadsThrough cell n m → Leads part n m
   through_leads n m t =
       let o = (outputs t.output).0 t.has_output in
       let i = (ins t.input).0 t.has_input in
       record {
         node = (t.output).node;
         other = (t.input).node;
-        is_node = subst (λ (k : ℕ). slice_get inside.nodes.items k ≡ Some (Some (t.output).node)) t.is_output (has_node (t.output).port (t.output).node o.has_node);
-        is_other = subst (λ (k : ℕ). slice_get inside.nodes.items k ≡ Some (Some (t.input).node)) t.is_input (has_node (t.input).port (t.input).node i.has_node);
+        is_node = subst (λ (k : ℕ). slice_get part.nodes.items k ≡ Some (Some (t.output).node)) t.is_output (has_node (t.output).port (t.output).node o.has_node);
+        is_other = subst (λ (k : ℕ). slice_get part.nodes.items k ≡ Some (Some (t.input).node)) t.is_input (has_node (t.input).port (t.input).node i.has_node);
         leads = subst (λ (r : List (List ℕ)). IsOrReaches r (t.output).node (t.input).node) reads_are t.reaches;
       }
 
-  leads_through : (n m : ℕ) → inputs ≤ n → m < inputs → LeadsInside inside n m → ReadsThrough cell n m
+  leads_through : (n m : ℕ) → part.inputs ≤ n → m < part.inputs → Leads part n m → ReadsThrough cell n m
   leads_through n m from to l =
       let output : Pin = record { port = n; node = l.node } in
       let input : Pin = record { port = m; node = l.other } in
-      let end : n < ports = omega (arith, slice_get_within inside.nodes.items n (Some l.node) l.is_node, ports_are) in
+      let end : n < ports = omega (arith, slice_get_within part.nodes.items n (Some l.node) l.is_node, ports_are) in
       record {
         output = output;
         input = input;
@@ -144,28 +144,28 @@ module _ (inside : Inside) (inputs ports : ℕ) (cell : Cell) (nodes : List (Opt
         reaches = subst (λ (r : List (List ℕ)). IsOrReaches r l.node l.other) (sym reads_are) l.leads;
       }
 
-  of_ports : (reads : List (List ℕ)) → IsCondensed ports cell reads → IsOfPorts inside inputs reads
+  of_ports : (reads : List (List ℕ)) → IsCondensed ports cell reads → IsOfPorts part reads
   of_ports reads is = record {
     all = is.all ∙ ports_are;
     in_range = is.in_range;
     reaches = λ n m from to. (λ way. through_leads n m ((is.reaches n m).0 way), λ leads. (is.reaches n m).1 (leads_through n m from to leads));
   }
 
-  pub kept_of_ports : (kept : Option (List (List ℕ))) → IfSome kept (IsCondensed ports cell) → IfSome kept (IsOfPorts inside inputs)
+  pub kept_of_ports : (kept : Option (List (List ℕ))) → IfSome kept (IsCondensed ports cell) → IfSome kept (IsOfPorts part)
   kept_of_ports None none = none
   kept_of_ports (Some reads) is = of_ports reads is
 
 -- ---- what is known of the component
 
-module _ (design : Design) (c : Component) (old new : Inside) (inputs : ℕ) (inputs_are : inputs ≡ length (inputs_in c)) (known : IsInside design c old) (is : IsOfPorts old inputs new.reads)
-    (all : length new.nodes.items ≡ length old.nodes.items) (each : (n : ℕ) → n < length old.nodes.items → slice_get new.nodes.items n ≡ Some (Some n)) (nothing : new.told.cells.items ≡ []) where
+module _ (old new : PartGraph) (inputs_are : new.inputs ≡ old.inputs) (is : IsOfPorts old new.reads) (all : length new.nodes.items ≡ length old.nodes.items)
+    (each : (n : ℕ) → n < length old.nodes.items → slice_get new.nodes.items n ≡ Some (Some n)) where
   -- the node of a port is its number
   own_number : (n node : ℕ) → slice_get new.nodes.items n ≡ Some (Some node) → (n ≡ node) × (n < length old.nodes.items)
   own_number n node at =
       let lt : n < length old.nodes.items = omega (arith, slice_get_within new.nodes.items n (Some node) at, all) in
       (same_Some n node (same_Some (Some n) (Some node) (sym (each n lt) ∙ at)), lt)
 
-  to_old : (n m : ℕ) → inputs ≤ n → m < inputs → LeadsInside new n m → LeadsInside old n m
+  to_old : (n m : ℕ) → old.inputs ≤ n → m < old.inputs → Leads new n m → Leads old n m
   to_old n m from to l =
       let node = own_number n l.node l.is_node in
       let other = own_number m l.other l.is_other in
@@ -174,7 +174,7 @@ module _ (design : Design) (c : Component) (old new : Inside) (inputs : ℕ) (in
         | inr way ↦ (is.reaches n m from to).0 (subst (λ (k : ℕ). graph.Reaches new.reads k m) (sym node.0) (subst (graph.Reaches new.reads l.node) (sym other.0) way))
       ]
 
-  to_new : (n m : ℕ) → inputs ≤ n → m < inputs → LeadsInside old n m → LeadsInside new n m
+  to_new : (n m : ℕ) → old.inputs ≤ n → m < old.inputs → Leads old n m → Leads new n m
   to_new n m from to l = record {
     node = n;
     other = m;
@@ -183,14 +183,22 @@ module _ (design : Design) (c : Component) (old new : Inside) (inputs : ℕ) (in
     leads = inr ((is.reaches n m from to).1 l);
   }
 
-  pub still_inside : IsInside design c new
-  still_inside = record {
-    in_range = is.in_range;
-    within = λ n node at. (let own = own_number n node at in omega (arith, own.0, own.1, is.all));
-    leads = λ n m output input at_n at_m from to.
-        (let past : inputs ≤ n = omega (arith, from, inputs_are) in
-        let below : m < inputs = omega (arith, to, inputs_are) in
-        let was = known.leads n m output input at_n at_m from to in
-        (λ l. was.0 (to_old n m past below l), λ reaches. to_new n m past below (was.1 reaches)));
-    told = none_told new.reads new.told.cells.items nothing;
-  }
+  pub leads_alike : LeadsAlike old new
+  leads_alike = record { inputs = inputs_are; all = all; leads = λ n m from to. (to_old n m from to, to_new n m from to) }
+
+-- ---- what is looked up
+
+-- what is told of a node that may not be there
+pub flat_none : (o : Option (Option ℕ)) (f : Option ℕ) → f ≡ option_flatten o → f ≡ None → (node : ℕ) → o ≡ Some (Some node) → ⊥
+flat_none None f is none node e = none-some (Some node) e
+flat_none (Some None) f is none node e = none-some node (same_Some None (Some node) e)
+flat_none (Some (Some k)) f is none node e = none-some k (sym none ∙ is)
+
+pub flat_some : (o : Option (Option ℕ)) (f : Option ℕ) → f ≡ option_flatten o → (node : ℕ) → f ≡ Some node → o ≡ Some (Some node)
+flat_some None f is node some = absurd (none-some node (sym is ∙ some))
+flat_some (Some None) f is node some = absurd (none-some node (sym is ∙ some))
+flat_some (Some (Some k)) f is node some = ap Some (sym is ∙ some)
+
+pub got : {X : Type 0} (xs : List X) (i : ℕ) (r : Option (Bor X)) → IsItemAt xs i r → option_copied r ≡ slice_get xs i
+got xs i None h = sym (slice_get_past xs i h.3)
+got xs i (Some x) h = sym (slice_get-get_or xs i x.now h.3.0 ∙ ap Some (sym h.1))
