@@ -391,6 +391,16 @@ def cal_wide_holders_loop(count):
     return cal(wide_cal(count) + holders + component(f"l = std_wire(1);\n{cells}", "l.in = l.out;\n"))
 
 
+def fil_wide_holders_loop(count):
+    """So many components with an instance each of a component with as many outputs, before one with a loop."""
+    outs = ", ".join(f"@[G, G+1] o{i}: 1" for i in range(count))
+    wide = f"comp Wide<G: 1>(@interface[G] go: 1, @[G, G+1] a: 1) -> ({outs}) {{\nn := new Not[1]<G>(a);\n" + "".join(f"o{i} = n.out;\n" for i in range(count)) + "}\n"
+    face = "(@interface[G] go: 1, @[G, G+1] a: 1) -> (@[G, G+1] o: 1)"
+    holders = "".join(f"comp h{i}<G: 1>{face} {{ x := new Wide<G>(a); o = x.o{i}; }}\n" for i in range(count))
+    use = "M := new Not[1]; N := new Not[1]; m := M<G>(a); n := N<G>(m.out); later := N<G+1>(a); back := M<G+1>(later.out);"
+    return fil(f"{wide}{holders}comp main<G: 2>(@interface[G] go: 1, @[G, G+2] a: 1) -> () {{ {use} }}\n")
+
+
 def lead(count):
     """A component that leads so many inputs to as many outputs."""
     ins, outs = (", ".join(f"{side}{i}: 1" for i in range(count)) for side in "ao")

@@ -137,6 +137,7 @@ TABLE = [
     Row(shapes.fil_long_parts_loop, 12_000, "check f.fil", ends("refused F14 main item 0 loop M.in N.out N.in M.out")),
     Row(shapes.cal_wide_parts_loop, 12_000, "check f.futil", ends("refused C12 main item 0 loop l.in l.out")),
     Row(shapes.cal_wide_holders_loop, 7_000, "check f.futil", ends("refused C12 main item 0 loop l.in l.out")),
+    Row(shapes.fil_wide_holders_loop, 6_500, "check f.fil", ends("refused F14 main item 0 loop M.in N.out N.in M.out")),
 ]
 
 
