@@ -1,8 +1,9 @@
 //! Calyx designs: each cause of a refusal, and designs that keep the rules.
-use filc_cases::{CHECK_CALYX, DOUBLE, LOOPED, REPEATS, ask, push_times};
+use filc_cases::{
+    CHECK_CALYX, DOUBLE, LOOPED, REPEATS, ask, push_times, stopped, try_accepted, try_answered,
+};
 use filc_core::Ended;
 use std::alloc::{AllocError, Global};
-use std::process::Abort;
 use std::test::Fail;
 
 /// Designs that keep the rules.
@@ -112,30 +113,6 @@ const UNASKED: &[&[&str]] = &[
     &["net", "f.futil", "s.json"],
 ];
 
-/// The text is answered so, and nothing is reported.
-fn try_answered(
-    rt: &impl Abort,
-    alloc: Global,
-    text: &str,
-    ended: Ended,
-    line: &str,
-) -> Result<(), Fail> {
-    let said = ask(alloc, CHECK_CALYX, text)?;
-    assert_eq!(rt; said.line.as_str(), line);
-    assert_eq!(rt; said.report.as_str(), "", "with {line}");
-    assert_eq!(rt; said.ended, ended, "with {line}");
-    Ok(())
-}
-
-/// The text is accepted.
-pub(crate) fn try_kept(rt: &impl Abort, alloc: Global, text: &str) -> Result<(), Fail> {
-    let said = ask(alloc, CHECK_CALYX, text)?;
-    assert_eq!(rt; said.line.as_str(), "", "{text}");
-    assert_eq!(rt; said.report.as_str(), "accepted\n", "{text}");
-    assert_eq!(rt; said.ended, Ended::Done, "{text}");
-    Ok(())
-}
-
 /// A component without a cell, and so many more, each with two cells of the one before it.
 fn chain(alloc: Global, links: u64) -> Result<String, AllocError> {
     let mut text = String::from_str(alloc, "component k0() -> () { cells { } wires { } }\n")?;
@@ -163,7 +140,7 @@ fn large(alloc: Global, memories: u64) -> Result<String, AllocError> {
 #[test]
 fn a_design_is_accepted(rt: HostRuntime) -> Result<(), Fail> {
     for text in KEPT {
-        try_kept(&rt, rt.alloc(), text)?;
+        try_accepted(rt.alloc(), CHECK_CALYX, text)?;
     }
     Ok(())
 }
@@ -171,7 +148,7 @@ fn a_design_is_accepted(rt: HostRuntime) -> Result<(), Fail> {
 #[test]
 fn the_first_cause_is_told(rt: HostRuntime) -> Result<(), Fail> {
     for (text, line) in REFUSED {
-        try_answered(&rt, rt.alloc(), text, Ended::Refused, line)?;
+        try_answered(rt.alloc(), CHECK_CALYX, text, stopped(Ended::Refused, line))?;
     }
     Ok(())
 }
@@ -185,10 +162,15 @@ fn the_source_has_a_limit(rt: HostRuntime) -> Result<(), Fail> {
         " ",
         1_048_576u64.saturating_sub(DOUBLE.len() as u64),
     )?;
-    try_kept(&rt, alloc, text.as_str())?;
+    try_accepted(alloc, CHECK_CALYX, text.as_str())?;
     text.push_str("#")?;
     let line = "limit source 1048577 over 1048576\n";
-    try_answered(&rt, alloc, text.as_str(), Ended::Limit, line)
+    try_answered(
+        alloc,
+        CHECK_CALYX,
+        text.as_str(),
+        stopped(Ended::Limit, line),
+    )
 }
 
 #[test]
@@ -198,32 +180,62 @@ fn the_nesting_has_a_limit(rt: HostRuntime) -> Result<(), Fail> {
     push_times(&mut text, "([{", 21)?;
     text.push_str("(")?;
     let line = "refused grammar at byte 0\n";
-    try_answered(&rt, alloc, text.as_str(), Ended::Refused, line)?;
+    try_answered(
+        alloc,
+        CHECK_CALYX,
+        text.as_str(),
+        stopped(Ended::Refused, line),
+    )?;
     text.push_str("!")?;
     let line = "limit nesting 65 over 64\n";
-    try_answered(&rt, alloc, text.as_str(), Ended::Limit, line)?;
+    try_answered(
+        alloc,
+        CHECK_CALYX,
+        text.as_str(),
+        stopped(Ended::Limit, line),
+    )?;
     text.push_str("#")?;
     let line = "refused token at byte 65\n";
-    try_answered(&rt, alloc, text.as_str(), Ended::Refused, line)
+    try_answered(
+        alloc,
+        CHECK_CALYX,
+        text.as_str(),
+        stopped(Ended::Refused, line),
+    )
 }
 
 // Each component weighs itself and its cells, and twice what the one before it comes to.
 #[test]
 fn the_weight_has_a_limit(rt: HostRuntime) -> Result<(), Fail> {
     let alloc = rt.alloc();
-    try_kept(&rt, alloc, chain(alloc, 17)?.as_str())?;
+    try_accepted(alloc, CHECK_CALYX, chain(alloc, 17)?.as_str())?;
     let line = "limit weight 1048573 over 1000000\n";
-    try_answered(&rt, alloc, chain(alloc, 18)?.as_str(), Ended::Limit, line)?;
+    try_answered(
+        alloc,
+        CHECK_CALYX,
+        chain(alloc, 18)?.as_str(),
+        stopped(Ended::Limit, line),
+    )?;
     let line = "limit weight 18446744073709551615 over 1000000\n";
-    try_answered(&rt, alloc, chain(alloc, 64)?.as_str(), Ended::Limit, line)
+    try_answered(
+        alloc,
+        CHECK_CALYX,
+        chain(alloc, 64)?.as_str(),
+        stopped(Ended::Limit, line),
+    )
 }
 
 #[test]
 fn words_have_a_limit(rt: HostRuntime) -> Result<(), Fail> {
     let alloc = rt.alloc();
-    try_kept(&rt, alloc, large(alloc, 16)?.as_str())?;
+    try_accepted(alloc, CHECK_CALYX, large(alloc, 16)?.as_str())?;
     let line = "limit words 1114112 over 1048576\n";
-    try_answered(&rt, alloc, large(alloc, 17)?.as_str(), Ended::Limit, line)
+    try_answered(
+        alloc,
+        CHECK_CALYX,
+        large(alloc, 17)?.as_str(),
+        stopped(Ended::Limit, line),
+    )
 }
 
 #[test]

@@ -1,11 +1,11 @@
 //! Whole Calyx designs that run: worked ones, memories, components without control, written go and done; the ports of a trace, and
 //! what is told before a row.
-use crate::calyx_runs::{ONCE, SIM_CALYX, TRACE_CALYX, WHOLE, try_designs};
-use crate::case::{report_of, try_rows, try_stopped};
-use filc_cases::{DOUBLE, LOOPED, StimulusCase};
+use crate::calyx_runs::{ONCE, WHOLE, try_designs};
+use filc_cases::{
+    Case, DOUBLE, LOOPED, SIM_CALYX, TRACE_CALYX, report_of, rows_of, try_rows, try_stopped,
+};
 use filc_core::Ended;
 use std::alloc::Global;
-use std::process::Abort;
 use std::test::Fail;
 
 /// Memories of the top component and of another, with the mark and without.
@@ -81,8 +81,8 @@ component main<"toplevel"=1>(@go go: 1, @clk clk: 1, @reset reset: 1) -> (@done 
 pub(crate) const LISTS: &str =
     r#"{"version":1,"cycles":60,"inputs":[{"from":0,"set":{"go":1}}],"memories":{"a":[1,2,3,4,5,6,7,8],"b":[8,7,6,5,4,3,2,1]}}"#;
 
-const DESIGNS: &[StimulusCase] = &[
-    StimulusCase {
+const DESIGNS: &[Case] = &[
+    Case {
         name: "a register, set and raised",
         text: "component main() -> (v: 8) {
   cells {
@@ -122,7 +122,7 @@ const DESIGNS: &[StimulusCase] = &[
 ",
         ..ONCE
     },
-    StimulusCase {
+    Case {
         name: "both at once",
         text: "component main() -> (v: 8) {
   cells {
@@ -158,7 +158,7 @@ const DESIGNS: &[StimulusCase] = &[
         line: "conflict cycle 0 port x.in\n",
         ..ONCE
     },
-    StimulusCase {
+    Case {
         name: "an empty control section",
         text: "component main() -> () { cells { } wires { } control { } }
 ",
@@ -168,7 +168,7 @@ const DESIGNS: &[StimulusCase] = &[
 ",
         ..ONCE
     },
-    StimulusCase {
+    Case {
         name: "a group that is done at once",
         text: "component main() -> () { cells { } wires { group nop { nop[done] = 1'd1; } } control { nop; } }
 ",
@@ -178,7 +178,7 @@ const DESIGNS: &[StimulusCase] = &[
 ",
         ..ONCE
     },
-    StimulusCase {
+    Case {
         name: "a loop that does not turn",
         text: "component main() -> () { cells { z = std_reg(1); } wires { group nop { nop[done] = 1'd1; } } control { while z.out { nop; } } }
 ",
@@ -188,7 +188,7 @@ const DESIGNS: &[StimulusCase] = &[
 ",
         ..ONCE
     },
-    StimulusCase {
+    Case {
         name: "a branch that is not taken",
         text: "component main() -> () { cells { z = std_reg(1); } wires { group nop { nop[done] = 1'd1; } } control { if z.out { nop; } } }
 ",
@@ -198,7 +198,7 @@ const DESIGNS: &[StimulusCase] = &[
 ",
         ..ONCE
     },
-    StimulusCase {
+    Case {
         name: "a component that is invoked twice",
         text: "component inc(a: 8) -> (b: 8) {
   cells { r = std_reg(8); s = std_add(8); }
@@ -233,7 +233,7 @@ mem m 5 6 0 0
 ",
         ..ONCE
     },
-    StimulusCase {
+    Case {
         name: "the product of two lists",
         text: DOT,
         stimulus: LISTS,
@@ -304,7 +304,7 @@ mem o 120
         ..ONCE
     },
     // Those of the top component alone are loaded and shown.
-    StimulusCase {
+    Case {
         name: "external memories",
         text: MEMORIES,
         stimulus: r#"{"version":1,"cycles":6,"inputs":[{"from":0,"set":{"go":1}},{"from":1,"set":{"go":0}}],"memories":{"m":[5,7],"z":[1,2,3]}}"#,
@@ -319,7 +319,7 @@ mem z 1 2 3 0
 ",
         ..ONCE
     },
-    StimulusCase {
+    Case {
         name: "a bare component",
         text: "component main(a: 8) -> (v: 8) {
   cells { r = std_reg(8); }
@@ -334,7 +334,7 @@ mem z 1 2 3 0
 ",
         ..ONCE
     },
-    StimulusCase {
+    Case {
         name: "a done that is driven",
         text: "component main(a: 1) -> (done: 1) { cells { } wires { done = a; } control { } }",
         stimulus: r#"{"version":1,"cycles":3,"inputs":[{"from":1,"set":{"a":1}}]}"#,
@@ -344,7 +344,7 @@ mem z 1 2 3 0
 ",
         ..ONCE
     },
-    StimulusCase {
+    Case {
         name: "a bare component that is invoked",
         text: "component late(go: 1, n: 8) -> (o: 8, done: 1) {
   cells { r = std_reg(8); }
@@ -363,7 +363,7 @@ component main() -> (v: 8) { cells { l = late(); } wires { v = l.o; } control { 
 ",
         ..ONCE
     },
-    StimulusCase {
+    Case {
         name: "a component whose go is 1 in each row",
         text: "component count() -> (o: 8) {
   cells { r = std_reg(8); a = std_add(8); }
@@ -384,7 +384,7 @@ component main() -> (u: 8, e: 1) { cells { c = count(); } wires { c.go = 1'd1; u
 ",
         ..ONCE
     },
-    StimulusCase {
+    Case {
         name: "a Conflict in an instance",
         text: "component clash() -> () {
   cells { r = std_reg(8); }
@@ -406,7 +406,7 @@ component main() -> () {
         line: "conflict cycle 1 port c.r.in\n",
         ..ONCE
     },
-    StimulusCase {
+    Case {
         name: "go and done that are written",
         text: WRITTEN,
         stimulus: r#"{"version":1,"cycles":5,"inputs":[{"from":0,"set":{"a":9}},{"from":1,"set":{"go":1}},{"from":2,"set":{"go":0,"a":4}}]}"#,
@@ -418,7 +418,7 @@ component main() -> () {
 ",
         ..ONCE
     },
-    StimulusCase {
+    Case {
         name: "components in components",
         text: NESTED,
         report: "0 v=0 done=0
@@ -435,8 +435,8 @@ component main() -> () {
 ];
 
 /// Designs, and words of the rows of their traces.
-const TRACED: &[StimulusCase] = &[
-    StimulusCase {
+const TRACED: &[Case] = &[
+    Case {
         name: "a register, set and doubled",
         text: DOUBLE,
         stimulus: r#"{"version":1,"cycles":6,"inputs":[{"from":0,"set":{"go":1}},{"from":1,"set":{"go":0}}]}"#,
@@ -449,7 +449,7 @@ const TRACED: &[StimulusCase] = &[
 ",
         ..ONCE
     },
-    StimulusCase {
+    Case {
         name: "components in components",
         text: NESTED,
         report: "0 m.go=1 m.done=0 m.c.go=1 m.c.n=1 m.c.done=0 m.c.r.out=0 done=0
@@ -501,14 +501,9 @@ const STOPPED: &[(&str, &str, Ended, &str)] = &[
 ];
 
 /// The trace of the design has these words in its rows.
-fn try_words(rt: &impl Abort, alloc: Global, case: &StimulusCase) -> Result<(), Fail> {
-    let trace = report_of(rt, alloc, TRACE_CALYX, case.text, case.stimulus)?;
-    let rows = trace.as_str().split_once("\nend\n\n");
-    assert!(rt; rows.is_some(), "{trace}");
-    if let Some((_, rows)) = rows {
-        try_rows(rt, case.report, rows);
-    }
-    Ok(())
+fn try_words(alloc: Global, case: &Case) -> Result<(), Fail> {
+    let trace = report_of(alloc, TRACE_CALYX, case.text, case.stimulus)?;
+    try_rows(case.report, rows_of(trace.as_str())?)
 }
 
 #[test]
@@ -519,7 +514,7 @@ fn designs_are_run(rt: HostRuntime) -> Result<(), Fail> {
 #[test]
 fn a_trace_shows_the_ports_of_a_design(rt: HostRuntime) -> Result<(), Fail> {
     for case in TRACED {
-        try_words(&rt, rt.alloc(), case)?;
+        try_words(rt.alloc(), case)?;
     }
     Ok(())
 }
@@ -529,7 +524,7 @@ fn a_cause_is_told_before_a_row(rt: HostRuntime) -> Result<(), Fail> {
     let alloc = rt.alloc();
     for words in [SIM_CALYX, TRACE_CALYX] {
         for (text, stimulus, ended, line) in STOPPED {
-            try_stopped(&rt, alloc, words, text, stimulus, (*ended, line))?;
+            try_stopped(alloc, words, text, stimulus, (*ended, line))?;
         }
     }
     Ok(())

@@ -1,17 +1,13 @@
 //! `sim` and `trace` of Calyx designs, and of what `net`, `lower` and `verilog` make of them: control statements and invokes, and
 //! the rows that they mean.
-use crate::calyx::try_kept;
-use crate::case::{report_of, try_accepted, try_trace};
-use filc_cases::{SIM, StimulusCase, ask_with};
+use filc_cases::{
+    CHECK, CHECK_CALYX, Case, SIM, SIM_CALYX, TRACE_CALYX, ask_with, report_of, try_accepted,
+    try_ended, try_said, try_trace,
+};
 use filc_core::Ended;
 use std::alloc::Global;
 use std::process::Abort;
 use std::test::Fail;
-
-/// The words of the commands that run a design.
-pub(crate) const SIM_CALYX: &[&str] = &["sim", "f.futil", "s.json"];
-
-pub(crate) const TRACE_CALYX: &[&str] = &["trace", "f.futil", "s.json"];
 
 /// Eight rows, of which the first has go.
 pub(crate) const START: &str =
@@ -136,7 +132,7 @@ component main() -> (u: 8, v: 8) {
 };
 
 /// A group, enabled once.
-pub(crate) const ONCE: StimulusCase = StimulusCase {
+pub(crate) const ONCE: Case = Case {
     name: "one group",
     words: SIM_CALYX,
     text: "up;",
@@ -154,10 +150,10 @@ pub(crate) const ONCE: StimulusCase = StimulusCase {
     line: "",
 };
 
-const CONTROLS: &[StimulusCase] = &[
+const CONTROLS: &[Case] = &[
     ONCE,
     // It starts again in the row after done.
-    StimulusCase {
+    Case {
         name: "go in each row",
         stimulus: r#"{"version":1,"cycles":8,"inputs":[{"from":0,"set":{"go":1}}]}"#,
         report: "0 x=0 y=0 done=0
@@ -171,7 +167,7 @@ const CONTROLS: &[StimulusCase] = &[
 ",
         ..ONCE
     },
-    StimulusCase {
+    Case {
         name: "go in the row of done",
         stimulus: r#"{"version":1,"cycles":8,"inputs":[{"from":0,"set":{"go":1}},{"from":1,"set":{"go":0}},{"from":2,"set":{"go":1}},{"from":3,"set":{"go":0}}]}"#,
         report: "0 x=0 y=0 done=0
@@ -185,7 +181,7 @@ const CONTROLS: &[StimulusCase] = &[
 ",
         ..ONCE
     },
-    StimulusCase {
+    Case {
         name: "a guard at the done line",
         text: "up_to;",
         report: "0 x=0 y=0 done=0
@@ -199,7 +195,7 @@ const CONTROLS: &[StimulusCase] = &[
 ",
         ..ONCE
     },
-    StimulusCase {
+    Case {
         name: "a multiplier, then what it gives",
         text: "times; take;",
         report: "0 x=0 y=0 done=0
@@ -213,7 +209,7 @@ const CONTROLS: &[StimulusCase] = &[
 ",
         ..ONCE
     },
-    StimulusCase {
+    Case {
         name: "statements that take no row",
         text: "seq { } none; par { } seq { seq { } } none;",
         report: "0 x=0 y=0 done=0
@@ -227,7 +223,7 @@ const CONTROLS: &[StimulusCase] = &[
 ",
         ..ONCE
     },
-    StimulusCase {
+    Case {
         name: "an empty branch",
         text: "if less.out with small { } else { up; } up;",
         report: "0 x=0 y=0 done=0
@@ -241,7 +237,7 @@ const CONTROLS: &[StimulusCase] = &[
 ",
         ..ONCE
     },
-    StimulusCase {
+    Case {
         name: "no else",
         text: "if p { up; } plus;",
         report: "0 x=0 y=0 done=0
@@ -255,7 +251,7 @@ const CONTROLS: &[StimulusCase] = &[
 ",
         ..ONCE
     },
-    StimulusCase {
+    Case {
         name: "else",
         text: "if p { up; } else { plus; plus; }",
         report: "0 x=0 y=0 done=0
@@ -270,7 +266,7 @@ const CONTROLS: &[StimulusCase] = &[
         ..ONCE
     },
     // The condition is read in four rows.
-    StimulusCase {
+    Case {
         name: "an empty body",
         text: "while p { }",
         stimulus: r#"{"version":1,"cycles":6,"inputs":[{"from":0,"set":{"go":1,"p":1}},{"from":1,"set":{"go":0}},{"from":3,"set":{"p":0}}]}"#,
@@ -283,7 +279,7 @@ const CONTROLS: &[StimulusCase] = &[
 ",
         ..ONCE
     },
-    StimulusCase {
+    Case {
         name: "a par in a while",
         text: "while less.out with small { par { up; plus; } }",
         report: "0 x=0 y=0 done=0
@@ -297,7 +293,7 @@ const CONTROLS: &[StimulusCase] = &[
 ",
         ..ONCE
     },
-    StimulusCase {
+    Case {
         name: "a while in an if",
         text: "if less.out with small { while less.out with small { up; } } plus;",
         stimulus: r#"{"version":1,"cycles":11,"inputs":[{"from":0,"set":{"go":1}},{"from":1,"set":{"go":0}}]}"#,
@@ -315,7 +311,7 @@ const CONTROLS: &[StimulusCase] = &[
 ",
         ..ONCE
     },
-    StimulusCase {
+    Case {
         name: "seq and par, nested",
         text: "par { seq { up; up; } seq { par { plus; none; } } seq { } par { } }",
         report: "0 x=0 y=0 done=0
@@ -329,7 +325,7 @@ const CONTROLS: &[StimulusCase] = &[
 ",
         ..ONCE
     },
-    StimulusCase {
+    Case {
         name: "a group that acts for two at once",
         text: "par { up; up; }",
         report: "0 x=0 y=0 done=0
@@ -343,7 +339,7 @@ const CONTROLS: &[StimulusCase] = &[
 ",
         ..ONCE
     },
-    StimulusCase {
+    Case {
         name: "a group that two enable in turn",
         text: "par { up; seq { plus; up; } }",
         report: "0 x=0 y=0 done=0
@@ -357,7 +353,7 @@ const CONTROLS: &[StimulusCase] = &[
 ",
         ..ONCE
     },
-    StimulusCase {
+    Case {
         name: "a group that is done where it is enabled",
         text: "par { up; seq { none; up; } }",
         report: "0 x=0 y=0 done=0
@@ -371,7 +367,7 @@ const CONTROLS: &[StimulusCase] = &[
 ",
         ..ONCE
     },
-    StimulusCase {
+    Case {
         name: "a condition that two read at once",
         text: "par { if less.out with small { up; } if less.out with small { plus; } }",
         report: "0 x=0 y=0 done=0
@@ -385,7 +381,7 @@ const CONTROLS: &[StimulusCase] = &[
 ",
         ..ONCE
     },
-    StimulusCase {
+    Case {
         name: "two groups that write one register",
         text: "up; par { up; take; }",
         ended: Ended::Conflict,
@@ -397,8 +393,8 @@ const CONTROLS: &[StimulusCase] = &[
     },
 ];
 
-const INVOKES: &[StimulusCase] = &[
-    StimulusCase {
+const INVOKES: &[Case] = &[
+    Case {
         name: "two instances at once",
         text: "par { invoke c(n = 8'd3)(); invoke d(n = 8'd7)(); }",
         report: "0 u=0 v=0 done=0
@@ -412,7 +408,7 @@ const INVOKES: &[StimulusCase] = &[
 ",
         ..ONCE
     },
-    StimulusCase {
+    Case {
         name: "an instance twice",
         text: "invoke c(n = 8'd3)(); invoke c(n = c.o)();",
         report: "0 u=0 v=0 done=0
@@ -426,7 +422,7 @@ const INVOKES: &[StimulusCase] = &[
 ",
         ..ONCE
     },
-    StimulusCase {
+    Case {
         name: "what an invoke gives to another",
         text: "invoke c(n = 8'd3)(); par { invoke c(n = 8'd5)(o = d.n); invoke d()(); }",
         report: "0 u=0 v=0 done=0
@@ -441,7 +437,7 @@ const INVOKES: &[StimulusCase] = &[
         ..ONCE
     },
     // Its go changes nothing.
-    StimulusCase {
+    Case {
         name: "an invoke of what still runs",
         text: "par { kick; seq { none; invoke c(n = 8'd9)(); } }",
         report: "0 u=0 v=0 done=0
@@ -455,7 +451,7 @@ const INVOKES: &[StimulusCase] = &[
 ",
         ..ONCE
     },
-    StimulusCase {
+    Case {
         name: "an invoke in the row of done",
         text: "kick; invoke c(n = 8'd9)();",
         report: "0 u=0 v=0 done=0
@@ -469,7 +465,7 @@ const INVOKES: &[StimulusCase] = &[
 ",
         ..ONCE
     },
-    StimulusCase {
+    Case {
         name: "two invokes of one cell at once",
         text: "none; par { invoke c()(); invoke c()(); }",
         ended: Ended::Conflict,
@@ -486,71 +482,42 @@ pub(crate) fn framed(alloc: Global, frame: Frame, text: &str) -> Result<String, 
 }
 
 /// What is run says what the case tells.
-pub(crate) fn try_run(
-    rt: &impl Abort,
-    alloc: Global,
-    words: &[&str],
-    text: &str,
-    case: &StimulusCase,
-) -> Result<(), Fail> {
-    let name = case.name;
+pub(crate) fn try_run(alloc: Global, words: &[&str], text: &str, case: &Case) -> Result<(), Fail> {
     let said = ask_with(alloc, words, text, case.stimulus.as_bytes(), 5000)?;
-    assert_eq!(rt; said.line.as_str(), case.line, "{name}");
-    assert_eq!(rt; said.report.as_str(), case.report, "{name}");
-    assert_eq!(rt; said.ended, case.ended, "{name}");
-    Ok(())
+    try_said(case.name, &said, case.expected())
 }
 
 /// The design's trace is its netlist's text, an empty line, and rows that have what the case tells.
-fn try_traced(
-    rt: &impl Abort,
-    alloc: Global,
-    text: &str,
-    net: &str,
-    case: &StimulusCase,
-) -> Result<(), Fail> {
+fn try_traced(alloc: Global, text: &str, net: &str, case: &Case) -> Result<(), Fail> {
     let said = ask_with(alloc, TRACE_CALYX, text, case.stimulus.as_bytes(), 200_000)?;
-    assert_eq!(rt; said.line.as_str(), case.line, "{text}");
-    assert_eq!(rt; said.ended, case.ended, "{text}");
-    try_trace(rt, net, case.report, said.report.as_str());
-    Ok(())
+    try_ended(text, &said, case.ended, case.line)?;
+    try_trace(net, case.report, said.report.as_str())
 }
 
 /// The netlist of the design is accepted, and has its rows and its Verilog.
-fn try_net(
-    rt: &impl Abort,
-    alloc: Global,
-    text: &str,
-    net: &str,
-    case: &StimulusCase,
-) -> Result<(), Fail> {
-    try_accepted(rt, alloc, net)?;
-    try_run(rt, alloc, SIM, net, case)?;
-    let verilog = report_of(rt, alloc, &["verilog", "f.futil"], text, "")?;
-    let again = report_of(rt, alloc, &["verilog", "f.net"], net, "")?;
+fn try_net(rt: &impl Abort, alloc: Global, text: &str, net: &str, case: &Case) -> Result<(), Fail> {
+    try_accepted(alloc, CHECK, net)?;
+    try_run(alloc, SIM, net, case)?;
+    let verilog = report_of(alloc, &["verilog", "f.futil"], text, "")?;
+    let again = report_of(alloc, &["verilog", "f.net"], net, "")?;
     assert_eq!(rt; verilog.as_str(), again.as_str(), "{text}");
     Ok(())
 }
 
 /// What the design is lowered to is accepted, and has its rows.
-fn try_lowered(
-    rt: &impl Abort,
-    alloc: Global,
-    text: &str,
-    case: &StimulusCase,
-) -> Result<(), Fail> {
-    let lowered = report_of(rt, alloc, &["lower", "f.futil"], text, "")?;
-    try_kept(rt, alloc, lowered.as_str())?;
-    try_run(rt, alloc, SIM_CALYX, lowered.as_str(), case)
+fn try_lowered(alloc: Global, text: &str, case: &Case) -> Result<(), Fail> {
+    let lowered = report_of(alloc, &["lower", "f.futil"], text, "")?;
+    try_accepted(alloc, CHECK_CALYX, lowered.as_str())?;
+    try_run(alloc, SIM_CALYX, lowered.as_str(), case)
 }
 
 /// The design runs as the case tells, and so does all that is made of it.
-fn try_design(rt: &impl Abort, alloc: Global, text: &str, case: &StimulusCase) -> Result<(), Fail> {
-    try_run(rt, alloc, SIM_CALYX, text, case)?;
-    let net = report_of(rt, alloc, &["net", "f.futil"], text, "")?;
-    try_traced(rt, alloc, text, net.as_str(), case)?;
+fn try_design(rt: &impl Abort, alloc: Global, text: &str, case: &Case) -> Result<(), Fail> {
+    try_run(alloc, SIM_CALYX, text, case)?;
+    let net = report_of(alloc, &["net", "f.futil"], text, "")?;
+    try_traced(alloc, text, net.as_str(), case)?;
     try_net(rt, alloc, text, net.as_str(), case)?;
-    try_lowered(rt, alloc, text, case)
+    try_lowered(alloc, text, case)
 }
 
 /// The designs of the table do, whose texts stand in the frame.
@@ -558,7 +525,7 @@ pub(crate) fn try_designs(
     rt: &impl Abort,
     alloc: Global,
     frame: Frame,
-    cases: &[StimulusCase],
+    cases: &[Case],
 ) -> Result<(), Fail> {
     for case in cases {
         let text = framed(alloc, frame, case.text)?;

@@ -1,11 +1,11 @@
 //! `sched` of Calyx designs: which groups and invokes of the top component act in each row, beside its outputs, which are those of
 //! `sim` and `trace`.
 use crate::calyx_designs::{DOT, LISTS, MEMORIES, NESTED, WRITTEN};
-use crate::calyx_runs::{
-    Frame, INSTANCES, REGISTERS, SIM_CALYX, START, TRACE_CALYX, WHOLE, framed, try_run,
+use crate::calyx_runs::{Frame, INSTANCES, REGISTERS, START, WHOLE, framed, try_run};
+use filc_cases::{
+    Case, DOUBLE, FOUR, LOOPED, MEETING, REPEATS, SCHED, SIM_CALYX, TRACE_CALYX, ask_with, rows_of,
+    try_ended, try_row, try_stopped,
 };
-use crate::case::{try_row, try_stopped};
-use filc_cases::{DOUBLE, FOUR, LOOPED, MEETING, REPEATS, SCHED, StimulusCase, ask_with};
 use filc_core::Ended;
 use std::alloc::Global;
 use std::process::Abort;
@@ -16,7 +16,7 @@ const SIX: &str =
     r#"{"version":1,"cycles":6,"inputs":[{"from":0,"set":{"go":1}},{"from":1,"set":{"go":0}}]}"#;
 
 // It acts in the row of the start. Its done is read in row 1, so it doesn't act there, and the component is done in the row after.
-const ONE: StimulusCase = StimulusCase {
+const ONE: Case = Case {
     name: "one group",
     words: SCHED,
     text: "up;",
@@ -31,10 +31,10 @@ const ONE: StimulusCase = StimulusCase {
 };
 
 /// Controls in the frame of registers.
-const CONTROLS: &[StimulusCase] = &[
+const CONTROLS: &[Case] = &[
     ONE,
     // Where it starts its done reads 1: that is its last row, and in a last row a group doesn't act.
-    StimulusCase {
+    Case {
         name: "a group that is done in its first row",
         text: "none;",
         report: "0 x=0 y=0 done=0 |
@@ -45,7 +45,7 @@ const CONTROLS: &[StimulusCase] = &[
         ..ONE
     },
     // The first takes the rows 0 and 1, so the second starts in row 2.
-    StimulusCase {
+    Case {
         name: "one after another",
         text: "seq { up; plus; }",
         stimulus: SIX,
@@ -59,7 +59,7 @@ const CONTROLS: &[StimulusCase] = &[
         ..ONE
     },
     // The row after the start is the done row all the same, and the first row after it with go starts control again.
-    StimulusCase {
+    Case {
         name: "control that takes no row",
         text: "seq { } par { seq { } par { } }",
         stimulus: r#"{"version":1,"cycles":4,"inputs":[{"from":0,"set":{"go":1}}]}"#,
@@ -71,7 +71,7 @@ const CONTROLS: &[StimulusCase] = &[
         ..ONE
     },
     // Nothing is between the two groups, nor before or after them.
-    StimulusCase {
+    Case {
         name: "statements that take no row",
         text: "seq { } up; par { } seq { seq { } par { } } plus; seq { }",
         stimulus: SIX,
@@ -85,7 +85,7 @@ const CONTROLS: &[StimulusCase] = &[
         ..ONE
     },
     // `small` acts in the row in which the port is read, and in no other; 0 is less than 2.
-    StimulusCase {
+    Case {
         name: "a choice with a combinational group",
         text: "if less.out with small { up; } else { plus; }",
         report: "0 x=0 y=0 done=0 | small
@@ -96,7 +96,7 @@ const CONTROLS: &[StimulusCase] = &[
         ..ONE
     },
     // Nothing acts in row 0, in which `p` is read; it is 0.
-    StimulusCase {
+    Case {
         name: "a choice without one",
         text: "if p { up; } else { plus; }",
         report: "0 x=0 y=0 done=0 |
@@ -107,7 +107,7 @@ const CONTROLS: &[StimulusCase] = &[
         ..ONE
     },
     // The choice takes row 0, its empty branch none.
-    StimulusCase {
+    Case {
         name: "an empty branch",
         text: "if less.out with small { } else { up; } plus;",
         report: "0 x=0 y=0 done=0 | small
@@ -118,7 +118,7 @@ const CONTROLS: &[StimulusCase] = &[
         ..ONE
     },
     // A row for each of the three choices, and none for what they lead to.
-    StimulusCase {
+    Case {
         name: "empty elses, and none",
         text: "if p { up; } else { } if p { up; } if p { } else { } plus;",
         stimulus: SIX,
@@ -132,7 +132,7 @@ const CONTROLS: &[StimulusCase] = &[
         ..ONE
     },
     // From row 4 on the register is no longer less than 2, and its branch goes on: the condition was read in row 0.
-    StimulusCase {
+    Case {
         name: "a condition that is read once",
         text: "if less.out with small { up; up; up; }",
         stimulus: START,
@@ -148,7 +148,7 @@ const CONTROLS: &[StimulusCase] = &[
         ..ONE
     },
     // Each turn takes a row for the condition and two for the body; the condition is read a third time, and is 0.
-    StimulusCase {
+    Case {
         name: "a loop that turns twice",
         text: "while less.out with small { up; }",
         stimulus: START,
@@ -164,7 +164,7 @@ const CONTROLS: &[StimulusCase] = &[
         ..ONE
     },
     // In row 4 the condition is read, and is 0: its group acts, and the loop has ended.
-    StimulusCase {
+    Case {
         name: "a loop that never turns",
         text: "up; up; while less.out with small { plus; }",
         stimulus: SIX,
@@ -178,7 +178,7 @@ const CONTROLS: &[StimulusCase] = &[
         ..ONE
     },
     // The body takes no row, so the condition is read row after row, until `p` is 0 in row 3.
-    StimulusCase {
+    Case {
         name: "a loop whose body takes no row",
         text: "while p with small { seq { } par { } }",
         stimulus: r#"{"version":1,"cycles":6,"inputs":[{"from":0,"set":{"go":1,"p":1}},{"from":1,"set":{"go":0}},{"from":3,"set":{"p":0}}]}"#,
@@ -192,7 +192,7 @@ const CONTROLS: &[StimulusCase] = &[
         ..ONE
     },
     // In each turn a row for the loop's condition, one for that of the choice, and two for the branch.
-    StimulusCase {
+    Case {
         name: "a choice in a loop",
         text: "while less.out with small { if p { } else { up; } }",
         stimulus: START,
@@ -208,7 +208,7 @@ const CONTROLS: &[StimulusCase] = &[
         ..ONE
     },
     // Both groups start in the row after the condition, and act at once.
-    StimulusCase {
+    Case {
         name: "a par in a loop",
         text: "while less.out with small { par { up; plus; } }",
         stimulus: START,
@@ -224,7 +224,7 @@ const CONTROLS: &[StimulusCase] = &[
         ..ONE
     },
     // `plus` acts while the condition is read for the first time; the `par` ends with the loop, in row 6.
-    StimulusCase {
+    Case {
         name: "a loop in a par",
         text: "par { while less.out with small { up; } plus; }",
         stimulus: START,
@@ -240,7 +240,7 @@ const CONTROLS: &[StimulusCase] = &[
         ..ONE
     },
     // The multiplier is done in row 3, when its go has been 1 for three rows. The branches end in the rows 1, 5 and 1, the `par` in row 5.
-    StimulusCase {
+    Case {
         name: "branches of different lengths",
         text: "par { up; seq { times; take; } plus; }",
         stimulus: START,
@@ -256,7 +256,7 @@ const CONTROLS: &[StimulusCase] = &[
         ..ONE
     },
     // The branches end in the rows 3 and 1; the empty ones take no row.
-    StimulusCase {
+    Case {
         name: "seq and par, nested",
         text: "par { seq { up; up; } seq { par { plus; none; } } seq { } par { } }",
         stimulus: SIX,
@@ -270,7 +270,7 @@ const CONTROLS: &[StimulusCase] = &[
         ..ONE
     },
     // It acts once, and is told once.
-    StimulusCase {
+    Case {
         name: "a group that is enabled twice at once",
         text: "par { up; up; }",
         report: "0 x=0 y=0 done=0 | up
@@ -281,7 +281,7 @@ const CONTROLS: &[StimulusCase] = &[
         ..ONE
     },
     // In row 1 it is done for the first branch; the second enables it there, which ends in that same row.
-    StimulusCase {
+    Case {
         name: "a group that is done where another branch enables it",
         text: "par { up; seq { none; up; } }",
         report: "0 x=0 y=0 done=0 | up
@@ -292,7 +292,7 @@ const CONTROLS: &[StimulusCase] = &[
         ..ONE
     },
     // Both conditions are read in row 0, in which their group acts once.
-    StimulusCase {
+    Case {
         name: "a combinational group of two conditions at once",
         text: "par { if less.out with small { up; } if less.out with small { plus; } }",
         report: "0 x=0 y=0 done=0 | small
@@ -303,7 +303,7 @@ const CONTROLS: &[StimulusCase] = &[
         ..ONE
     },
     // A combinational group acts for its row beside a group that acts for three.
-    StimulusCase {
+    Case {
         name: "a condition beside a group",
         text: "par { seq { up; if less.out with small { up; } } times; }",
         stimulus: SIX,
@@ -317,7 +317,7 @@ const CONTROLS: &[StimulusCase] = &[
         ..ONE
     },
     // The register is written in the rows 0, 1 and 2, and the guard of the done line is first true in row 3.
-    StimulusCase {
+    Case {
         name: "a guard at the done line",
         text: "up_to;",
         stimulus: SIX,
@@ -331,7 +331,7 @@ const CONTROLS: &[StimulusCase] = &[
         ..ONE
     },
     // Control starts again in the row after each done row.
-    StimulusCase {
+    Case {
         name: "go that is held",
         stimulus: r#"{"version":1,"cycles":8,"inputs":[{"from":0,"set":{"go":1}}]}"#,
         report: "0 x=0 y=0 done=0 | up
@@ -346,7 +346,7 @@ const CONTROLS: &[StimulusCase] = &[
         ..ONE
     },
     // Row 2 is the done row, in which nothing starts.
-    StimulusCase {
+    Case {
         name: "go in the done row",
         stimulus: r#"{"version":1,"cycles":5,"inputs":[{"from":0,"set":{"go":1}},{"from":1,"set":{"go":0}},{"from":2,"set":{"go":1}},{"from":3,"set":{"go":0}}]}"#,
         report: "0 x=0 y=0 done=0 | up
@@ -357,7 +357,7 @@ const CONTROLS: &[StimulusCase] = &[
 ",
         ..ONE
     },
-    StimulusCase {
+    Case {
         name: "go in the row after the done row",
         stimulus: r#"{"version":1,"cycles":7,"inputs":[{"from":0,"set":{"go":1}},{"from":1,"set":{"go":0}},{"from":3,"set":{"go":1}},{"from":4,"set":{"go":0}}]}"#,
         report: "0 x=0 y=0 done=0 | up
@@ -371,7 +371,7 @@ const CONTROLS: &[StimulusCase] = &[
         ..ONE
     },
     // It starts in row 2, and once more in row 6; go in row 3 changes nothing.
-    StimulusCase {
+    Case {
         name: "go that is low for some rows",
         stimulus: r#"{"version":1,"cycles":8,"inputs":[{"from":2,"set":{"go":1}},{"from":4,"set":{"go":0}},{"from":6,"set":{"go":1}}]}"#,
         report: "0 x=0 y=0 done=0 |
@@ -386,7 +386,7 @@ const CONTROLS: &[StimulusCase] = &[
         ..ONE
     },
     // The control section is item 41, and the invoke in it item 42. An invoke of a register writes it.
-    StimulusCase {
+    Case {
         name: "an invoke of a register",
         text: "invoke r(in = 8'd7)(); up;",
         stimulus: SIX,
@@ -400,7 +400,7 @@ const CONTROLS: &[StimulusCase] = &[
         ..ONE
     },
     // Both write the register: no row is printed.
-    StimulusCase {
+    Case {
         name: "a Conflict in the first row",
         text: "par { up; take; }",
         ended: Ended::Conflict,
@@ -411,9 +411,9 @@ const CONTROLS: &[StimulusCase] = &[
 ];
 
 /// Controls in the frame of instances, where the first statement is item 14. An instance takes two rows, and its done is 1 in the third.
-const INVOKES: &[StimulusCase] = &[
+const INVOKES: &[Case] = &[
     // `par` is item 14. Each of the invokes acts for the two rows that its instance takes.
-    StimulusCase {
+    Case {
         name: "two instances at once",
         text: "par { invoke c(n = 8'd3)(); invoke d(n = 8'd7)(); }",
         report: "0 u=0 v=0 done=0 | #15 #16
@@ -424,7 +424,7 @@ const INVOKES: &[StimulusCase] = &[
         ..ONE
     },
     // The second starts in row 3, and `c` in that row once more.
-    StimulusCase {
+    Case {
         name: "an instance twice",
         text: "invoke c(n = 8'd3)(); invoke c(n = c.o)();",
         stimulus: START,
@@ -440,7 +440,7 @@ const INVOKES: &[StimulusCase] = &[
         ..ONE
     },
     // In row 3 `d` takes what `c` gives there, 4, by the binding of the other invoke. `par` is item 16.
-    StimulusCase {
+    Case {
         name: "bindings of both lists",
         text: "invoke c(n = 8'd3)(); par { invoke c(n = 8'd5)(o = d.n); invoke d()(); }",
         stimulus: START,
@@ -456,7 +456,7 @@ const INVOKES: &[StimulusCase] = &[
         ..ONE
     },
     // Groups are told first, wherever they stand. `kick` starts `c` and takes two rows, the invoke three.
-    StimulusCase {
+    Case {
         name: "a group after an invoke",
         text: "par { invoke d(n = 8'd1)(); kick; }",
         report: "0 u=0 v=0 done=0 | kick #15
@@ -467,7 +467,7 @@ const INVOKES: &[StimulusCase] = &[
         ..ONE
     },
     // `c` runs since row 0; the invoke, item 18, starts in row 1, changes nothing there, and is done with what runs.
-    StimulusCase {
+    Case {
         name: "an invoke of what still runs",
         text: "par { kick; seq { none; invoke c(n = 8'd9)(); } }",
         report: "0 u=0 v=0 done=0 | kick
@@ -478,7 +478,7 @@ const INVOKES: &[StimulusCase] = &[
         ..ONE
     },
     // It would start in row 2, in which `c` is done: that is its last row too, and it never acts.
-    StimulusCase {
+    Case {
         name: "an invoke in the row of done",
         text: "kick; invoke c(n = 8'd9)();",
         report: "0 u=0 v=0 done=0 | kick
@@ -489,7 +489,7 @@ const INVOKES: &[StimulusCase] = &[
         ..ONE
     },
     // They are two actors that drive one port.
-    StimulusCase {
+    Case {
         name: "two invokes of one cell at once",
         text: "none; par { invoke c()(); invoke c()(); }",
         ended: Ended::Conflict,
@@ -583,10 +583,10 @@ component main() -> () {
 ";
 
 /// Whole designs.
-const DESIGNS: &[StimulusCase] = &[
+const DESIGNS: &[Case] = &[
     // A turn of the outer loop takes 12 rows: one for its condition, two for `clear`, seven for the inner loop, which turns twice,
     // and two for `store` and `down`. Its condition is read a last time in row 24.
-    StimulusCase {
+    Case {
         name: "a loop in a loop",
         text: SUMS,
         stimulus: r#"{"version":1,"cycles":27,"inputs":[{"from":0,"set":{"go":1}},{"from":1,"set":{"go":0}}],"memories":{"words":[1,2,3,4]}}"#,
@@ -623,7 +623,7 @@ mem sums 3 7
         ..ONE
     },
     // A turn takes 7 rows: one for the condition, four for `mul`, two for the `par`. After eight of them the condition is 0 in row 56.
-    StimulusCase {
+    Case {
         name: "the product of two lists",
         text: DOT,
         stimulus: LISTS,
@@ -694,7 +694,7 @@ mem o 120
         ..ONE
     },
     // `write` acts in the last row, and the memories are shown after the edge that ends it. The invoke is item 20.
-    StimulusCase {
+    Case {
         name: "memories after the last row",
         text: MEMORIES,
         stimulus: r#"{"version":1,"cycles":4,"inputs":[{"from":0,"set":{"go":1}}],"memories":{"m":[5,7],"z":[1,2,3]}}"#,
@@ -707,7 +707,7 @@ mem z 1 2 3 0
 ",
         ..ONE
     },
-    StimulusCase {
+    Case {
         name: "memories of no rows",
         text: MEMORIES,
         stimulus: r#"{"version":1,"cycles":0,"inputs":[],"memories":{"m":[5,7]}}"#,
@@ -717,7 +717,7 @@ mem z 0 0 0 0
         ..ONE
     },
     // What acts in an instance is not told. The invoke is item 3; `m` takes the rows 0 to 5, and is done in row 6.
-    StimulusCase {
+    Case {
         name: "components in components",
         text: NESTED,
         stimulus: START,
@@ -732,7 +732,7 @@ mem z 0 0 0 0
 ",
         ..ONE
     },
-    StimulusCase {
+    Case {
         name: "a top with another name",
         text: LAST,
         report: "0 v=0 done=0 | #3
@@ -743,7 +743,7 @@ mem z 0 0 0 0
         ..ONE
     },
     // Its group never acts, so the address is 0; it has no output.
-    StimulusCase {
+    Case {
         name: "a bare component without outputs",
         text: STILL,
         stimulus: r#"{"version":1,"cycles":3,"inputs":[{"from":0,"set":{"word":5}},{"from":2,"set":{"word":6,"put":1}}],"memories":{"m":[1,2]}}"#,
@@ -755,7 +755,7 @@ mem m 6 2
         ..ONE
     },
     // An empty control section and an assignment of `done`: no control, so the group never acts.
-    StimulusCase {
+    Case {
         name: "a bare component with a done",
         text: "component main(a: 1) -> (done: 1) { cells { } wires { group g { g[done] = a; } done = a; } control { } }",
         stimulus: r#"{"version":1,"cycles":2,"inputs":[{"from":1,"set":{"a":1}}]}"#,
@@ -764,7 +764,7 @@ mem m 6 2
 ",
         ..ONE
     },
-    StimulusCase {
+    Case {
         name: "go and done that are written",
         text: WRITTEN,
         stimulus: r#"{"version":1,"cycles":5,"inputs":[{"from":0,"set":{"a":9}},{"from":1,"set":{"go":1}},{"from":2,"set":{"go":0,"a":4}}]}"#,
@@ -777,7 +777,7 @@ mem m 6 2
         ..ONE
     },
     // Where `ring` acts, in row 2, the wire is 1, and `wait` is done in that row.
-    StimulusCase {
+    Case {
         name: "a group that another ends",
         text: AWAITED,
         stimulus: SIX,
@@ -791,7 +791,7 @@ mem m 6 2
         ..ONE
     },
     // The rows before it are printed, and no memory.
-    StimulusCase {
+    Case {
         name: "a Conflict in a later row",
         text: MEETING,
         ended: Ended::Conflict,
@@ -801,7 +801,7 @@ mem m 6 2
         line: "conflict cycle 2 port r.in\n",
         ..ONE
     },
-    StimulusCase {
+    Case {
         name: "a Conflict in an instance",
         text: INNER_CLASH,
         ended: Ended::Conflict,
@@ -893,65 +893,52 @@ fn before_bar(row: &str) -> &str {
 }
 
 /// The line of a schedule, the one of `sim` and the one of a trace tell the same: a memory's words, or a cycle and its outputs.
-fn try_line(rt: &impl Abort, scheduled: &str, shown: &str, traced: &str) {
+fn try_line(rt: &impl Abort, scheduled: &str, shown: &str, traced: &str) -> Result<(), Fail> {
     assert_eq!(rt; before_bar(scheduled), shown);
     if shown.starts_with("mem ") {
         assert_eq!(rt; scheduled, traced);
+        Ok(())
     } else {
         assert!(rt; scheduled.contains(" |"), "{scheduled}");
-        try_row(rt, shown, traced);
+        try_row(shown, traced)
     }
 }
 
 /// The reports tell the same, line by line.
-fn try_lines(rt: &impl Abort, scheduled: &str, shown: &str, traced: &str) {
+fn try_lines(rt: &impl Abort, scheduled: &str, shown: &str, traced: &str) -> Result<(), Fail> {
     let count = scheduled.lines().count();
     assert_eq!(rt; shown.lines().count(), count, "{scheduled}");
     assert_eq!(rt; traced.lines().count(), count, "{scheduled}");
     for ((row, outputs), ports) in scheduled.lines().zip(shown.lines()).zip(traced.lines()) {
-        try_line(rt, row, outputs, ports);
+        try_line(rt, row, outputs, ports)?;
     }
+    Ok(())
 }
 
 /// `sched`, `sim` and `trace` of the design have the same rows and memories, and end alike.
-fn try_alike(rt: &impl Abort, alloc: Global, text: &str, case: &StimulusCase) -> Result<(), Fail> {
+fn try_alike(rt: &impl Abort, alloc: Global, text: &str, case: &Case) -> Result<(), Fail> {
     let stimulus = case.stimulus.as_bytes();
     let scheduled = ask_with(alloc, SCHED, text, stimulus, 5000)?;
     let shown = ask_with(alloc, SIM_CALYX, text, stimulus, 5000)?;
     let traced = ask_with(alloc, TRACE_CALYX, text, stimulus, 200_000)?;
     for other in [&shown, &traced] {
-        assert_eq!(rt; scheduled.line.as_str(), other.line.as_str(), "{text}");
-        assert_eq!(rt; scheduled.ended, other.ended, "{text}");
+        try_ended(text, other, scheduled.ended, scheduled.line.as_str())?;
     }
-    let rows = traced.report.as_str().split_once("\nend\n\n");
-    assert!(rt; rows.is_some(), "{text}");
-    if let Some((_, rows)) = rows {
-        try_lines(rt, scheduled.report.as_str(), shown.report.as_str(), rows);
-    }
-    Ok(())
+    let rows = rows_of(traced.report.as_str())?;
+    try_lines(rt, scheduled.report.as_str(), shown.report.as_str(), rows)
 }
 
 /// Each case of the table has the schedule that it tells.
-fn try_schedules(
-    rt: &impl Abort,
-    alloc: Global,
-    frame: Frame,
-    cases: &[StimulusCase],
-) -> Result<(), Fail> {
+fn try_schedules(rt: &impl Abort, alloc: Global, frame: Frame, cases: &[Case]) -> Result<(), Fail> {
     for case in cases {
         let text = framed(alloc, frame, case.text)?;
-        try_run(rt, alloc, SCHED, text.as_str(), case)?;
+        try_run(alloc, SCHED, text.as_str(), case)?;
     }
     Ok(())
 }
 
 /// Each case of the table has the same rows under the three commands.
-fn try_all_alike(
-    rt: &impl Abort,
-    alloc: Global,
-    frame: Frame,
-    cases: &[StimulusCase],
-) -> Result<(), Fail> {
+fn try_all_alike(rt: &impl Abort, alloc: Global, frame: Frame, cases: &[Case]) -> Result<(), Fail> {
     for case in cases {
         let text = framed(alloc, frame, case.text)?;
         try_alike(rt, alloc, text.as_str(), case)?;
@@ -992,7 +979,7 @@ fn schedules_of_designs_have_the_rows_of_sim_and_trace(rt: HostRuntime) -> Resul
 #[test]
 fn a_schedule_is_stopped_before_a_row(rt: HostRuntime) -> Result<(), Fail> {
     for (words, text, stimulus, ended, line) in STOPPED {
-        try_stopped(&rt, rt.alloc(), words, text, stimulus, (*ended, line))?;
+        try_stopped(rt.alloc(), words, text, stimulus, (*ended, line))?;
     }
     Ok(())
 }

@@ -1,6 +1,5 @@
 //! `net` of a Calyx design: the guards of its netlist are folded.
-use crate::case::try_cases;
-use filc_cases::Case;
+use filc_cases::{Case, try_cases};
 use filc_core::Ended;
 use std::test::Fail;
 
@@ -11,6 +10,7 @@ const TWICE: Case = Case {
     name: "a `!` over a `!`",
     words: NET,
     text: "component main(a: 1) -> (q: 1) { cells { } wires { q = !!a ? 1'd1; } }",
+    stimulus: "",
     ended: Ended::Done,
     report: "net main\nin a 1\nout q 1\nset q = a ? 1'd1\nend\n",
     line: "",
@@ -39,5 +39,5 @@ const CASES: &[Case] = &[
 
 #[test]
 fn guards_of_lowered_designs_are_folded(rt: HostRuntime) -> Result<(), Fail> {
-    try_cases(&rt, rt.alloc(), CASES)
+    try_cases(rt.alloc(), CASES)
 }

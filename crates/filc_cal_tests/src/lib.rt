@@ -22,6 +22,4 @@ mod calyx_runs;
 #[cfg(test)]
 mod calyx_schedule;
 #[cfg(test)]
-mod case;
-#[cfg(test)]
 mod folded;

@@ -1,30 +1,32 @@
 //! What is asked of the program, and what it says.
+use crate::expected::Expected;
 use filc_core::{Ended, filc};
 use hw_io::{MemFile, MemFiles, MemSink};
 use std::alloc::{AllocError, Global};
 use std::test::Fail;
 
-/// Words, the text of the files, and what the program answers, reports and says.
+/// Words, the texts of the design and of the stimulus, and what the program answers, reports and says.
 #[derive(Clone, Copy)]
 pub struct Case {
     pub name: &'static str,
     pub words: &'static [&'static str],
     pub text: &'static str,
+    /// Empty where the words name none.
+    pub stimulus: &'static str,
     pub ended: Ended,
     pub report: &'static str,
     pub line: &'static str,
 }
 
-/// A case in which a stimulus stands beside the file: words, the two texts, and what the program answers, reports and says.
-#[derive(Clone, Copy)]
-pub struct StimulusCase {
-    pub name: &'static str,
-    pub words: &'static [&'static str],
-    pub text: &'static str,
-    pub stimulus: &'static str,
-    pub ended: Ended,
-    pub report: &'static str,
-    pub line: &'static str,
+impl Case {
+    /// What the program is to answer, report and say.
+    pub fn expected(&self) -> Expected<'static> {
+        Expected {
+            ended: self.ended,
+            report: self.report,
+            line: self.line,
+        }
+    }
 }
 
 /// What the program said.

@@ -1,12 +1,8 @@
 //! Filament designs: each cause of a refusal, and designs that keep the rules.
-use filc_cases::{MAC, ask, push_times};
+use filc_cases::{CHECK_FIL, MAC, ask, push_times, stopped, try_accepted, try_answered};
 use filc_core::Ended;
 use std::alloc::{AllocError, Global};
-use std::process::Abort;
 use std::test::Fail;
-
-/// The words that check the one file.
-const CHECK: &[&str] = &["check", "f.fil"];
 
 /// A text of the unit, what stands in its place, and the line with which the design is refused then.
 const CHANGED: &[(&str, &str, Ended, &str)] = &[
@@ -166,41 +162,25 @@ fn with(alloc: Global, part: &str, other: &str) -> Result<String, AllocError> {
     Ok(text)
 }
 
-/// The text is answered so.
-fn try_checked(
-    rt: &impl Abort,
-    alloc: Global,
-    text: &str,
-    ended: Ended,
-    report: &str,
-    line: &str,
-) -> Result<(), Fail> {
-    let said = ask(alloc, CHECK, text)?;
-    assert_eq!(rt; said.line.as_str(), line);
-    assert_eq!(rt; said.report.as_str(), report, "with {line}");
-    assert_eq!(rt; said.ended, ended, "with {line}");
-    Ok(())
-}
-
-/// The text is accepted.
-fn try_accepted_design(rt: &impl Abort, alloc: Global, text: &str) -> Result<(), Fail> {
-    try_checked(rt, alloc, text, Ended::Done, "accepted\n", "")
-}
-
 #[test]
 fn a_design_is_accepted(rt: HostRuntime) -> Result<(), Fail> {
     let alloc = rt.alloc();
-    try_accepted_design(&rt, alloc, MAC)?;
+    try_accepted(alloc, CHECK_FIL, MAC)?;
     let most = with(alloc, "<G: 1>", "<G: 4096>")?;
-    try_accepted_design(&rt, alloc, most.as_str())?;
+    try_accepted(alloc, CHECK_FIL, most.as_str())?;
     let mut two = String::from_str(alloc, MAC)?;
     two.push_str("comp Two<G: 1>(@interface[G] go: 1, @[G, G+1] a: 8) -> (@[G+2, G+3] o: 8) {\n")?;
     two.push_str("  m := new Mac<G>(a, a, 8'd1);\n  o = m.out;\n}\n")?;
-    try_accepted_design(&rt, alloc, two.as_str())?;
+    try_accepted(alloc, CHECK_FIL, two.as_str())?;
     two.push_str("comp One<G: 1>(@interface[G] go: 1, @[G, G+1] a: 8) -> (@[G, G+1] o: 8) {\n")?;
     two.push_str("  d := new Add[0];\n  o = a;\n}\n")?;
     let line = "refused F3 One item 1\n";
-    try_checked(&rt, alloc, two.as_str(), Ended::Refused, "", line)
+    try_answered(
+        alloc,
+        CHECK_FIL,
+        two.as_str(),
+        stopped(Ended::Refused, line),
+    )
 }
 
 #[test]
@@ -208,10 +188,10 @@ fn the_first_cause_is_told(rt: HostRuntime) -> Result<(), Fail> {
     let alloc = rt.alloc();
     for (part, other, ended, line) in CHANGED {
         let text = with(alloc, part, other)?;
-        try_checked(&rt, alloc, text.as_str(), *ended, "", line)?;
+        try_answered(alloc, CHECK_FIL, text.as_str(), stopped(*ended, line))?;
     }
     for (text, line) in REFUSED {
-        try_checked(&rt, alloc, text, Ended::Refused, "", line)?;
+        try_answered(alloc, CHECK_FIL, text, stopped(Ended::Refused, line))?;
     }
     Ok(())
 }
@@ -225,10 +205,10 @@ fn the_source_has_a_limit(rt: HostRuntime) -> Result<(), Fail> {
         " ",
         1_048_576u64.saturating_sub(MAC.len() as u64),
     )?;
-    try_accepted_design(&rt, alloc, text.as_str())?;
+    try_accepted(alloc, CHECK_FIL, text.as_str())?;
     text.push_str("#")?;
     let line = "limit source 1048577 over 1048576\n";
-    try_checked(&rt, alloc, text.as_str(), Ended::Limit, "", line)
+    try_answered(alloc, CHECK_FIL, text.as_str(), stopped(Ended::Limit, line))
 }
 
 #[test]
@@ -238,13 +218,23 @@ fn the_nesting_has_a_limit(rt: HostRuntime) -> Result<(), Fail> {
     push_times(&mut text, "([{", 21)?;
     text.push_str("(")?;
     let line = "refused grammar at byte 0\n";
-    try_checked(&rt, alloc, text.as_str(), Ended::Refused, "", line)?;
+    try_answered(
+        alloc,
+        CHECK_FIL,
+        text.as_str(),
+        stopped(Ended::Refused, line),
+    )?;
     text.push_str("[")?;
     let line = "limit nesting 65 over 64\n";
-    try_checked(&rt, alloc, text.as_str(), Ended::Limit, "", line)?;
+    try_answered(alloc, CHECK_FIL, text.as_str(), stopped(Ended::Limit, line))?;
     text.push_str("#")?;
     let line = "refused token at byte 65\n";
-    try_checked(&rt, alloc, text.as_str(), Ended::Refused, "", line)
+    try_answered(
+        alloc,
+        CHECK_FIL,
+        text.as_str(),
+        stopped(Ended::Refused, line),
+    )
 }
 
 #[test]

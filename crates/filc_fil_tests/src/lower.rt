@@ -1,6 +1,5 @@
 //! `lower`: the Calyx text of a Filament design.
-use crate::case::try_cases;
-use filc_cases::Case;
+use filc_cases::{Case, try_cases};
 use filc_core::Ended;
 use std::test::Fail;
 
@@ -11,6 +10,7 @@ const SUM: Case = Case {
     name: "an adder",
     words: LOWER,
     text: "comp Sum<G: 1>(@[G, G+1] a: 8) -> (@[G, G+1] o: 8) { s := new Add[8]<G>(a, 8'd1); o = s.out; }",
+    stimulus: "",
     ended: Ended::Done,
     report: "component Sum(a: 8) -> (o: 8) {
   cells {
@@ -63,5 +63,5 @@ const CASES: &[Case] = &[
 
 #[test]
 fn designs_are_lowered_to_calyx(rt: HostRuntime) -> Result<(), Fail> {
-    try_cases(&rt, rt.alloc(), CASES)
+    try_cases(rt.alloc(), CASES)
 }

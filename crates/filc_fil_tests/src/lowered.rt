@@ -1,14 +1,15 @@
 //! `sim` and `trace` of Filament designs: the rows of their netlists, as transactions drive them.
-use crate::case::{try_stimulus_cases, try_stopped};
 use crate::transactions::{BARE, STEPS, USED};
-use filc_cases::{MAC, NET, PAIR, SIM_FIL, StimulusCase, TRACE_FIL, ask_with};
+use filc_cases::{
+    Case, MAC, NET, PAIR, SIM_FIL, TRACE_FIL, report_of, try_cases, try_stopped, try_trace,
+};
 use filc_core::Ended;
 use std::alloc::Global;
 use std::process::Abort;
 use std::test::Fail;
 
 /// Three transactions that overlap.
-const OVERLAP: StimulusCase = StimulusCase {
+const OVERLAP: Case = Case {
     name: "transactions that overlap",
     words: SIM_FIL,
     text: MAC,
@@ -72,9 +73,9 @@ const KEEP: &str =
 }
 ";
 
-const RUNS: &[StimulusCase] = &[
+const RUNS: &[Case] = &[
     OVERLAP,
-    StimulusCase {
+    Case {
         name: "a shared multiplier",
         text: PAIR,
         stimulus: r#"{"version":1,"transactions":[{"start":0,"inputs":{"a":3,"b":5,"c":7,"d":9}},{"start":6,"inputs":{"a":10,"b":11,"c":12,"d":13}}],"idle":255}"#,
@@ -93,34 +94,34 @@ const RUNS: &[StimulusCase] = &[
 ",
         ..OVERLAP
     },
-    StimulusCase {
+    Case {
         name: "two steps",
         text: TWO_STEPS,
         stimulus: r#"{"version":1,"transactions":[{"start":0,"inputs":{"a":1}},{"start":1,"inputs":{"a":2}}]}"#,
         report: "0 out=-\n1 out=-\n2 out=-\n3 out=-\n4 out=16\n5 out=31\n",
         ..OVERLAP
     },
-    StimulusCase {
+    Case {
         name: "two events",
         text: DUO,
         stimulus: r#"{"version":2,"transactions":[{"event":"G","start":0,"inputs":{"a":5}},{"event":"H","start":0,"inputs":{"b":3}},{"event":"G","start":1,"inputs":{"a":6}}]}"#,
         report: "0 p=- q=6\n1 p=5 q=-\n2 p=6 q=-\n",
         ..OVERLAP
     },
-    StimulusCase {
+    Case {
         name: "an entry that stands for three",
         stimulus: r#"{"version":2,"transactions":[{"start":0,"inputs":{"a":"2","b":"3","c":"1"},"repeat":{"times":3,"every":1}}]}"#,
         report: "0 out=-\n1 out=-\n2 out=7\n3 out=7\n4 out=7\n",
         ..OVERLAP
     },
-    StimulusCase {
+    Case {
         name: "two events, one of them phantom",
         text: HALF,
         stimulus: r#"{"version":2,"transactions":[{"start":0,"inputs":{"a":5}},{"event":"H","start":1,"inputs":{"b":3}},{"start":2,"inputs":{"a":6}},{"event":"H","start":4,"inputs":{"b":20}}],"idle":9}"#,
         report: "0 p=- q=-\n1 p=5 q=-\n2 p=- q=-\n3 p=6 q=9\n4 p=- q=-\n5 p=- q=-\n6 p=- q=144\n",
         ..OVERLAP
     },
-    StimulusCase {
+    Case {
         name: "a register",
         text: KEEP,
         stimulus: r#"{"version":1,"transactions":[{"start":0,"inputs":{"a":9}},{"start":3,"inputs":{"a":255}}],"idle":77}"#,
@@ -134,7 +135,7 @@ const RUNS: &[StimulusCase] = &[
         ..OVERLAP
     },
     // The instance of one of them is used twice.
-    StimulusCase {
+    Case {
         name: "components in components",
         words: SIM_FIL,
         report: "0 o=- t=1
@@ -148,7 +149,7 @@ const RUNS: &[StimulusCase] = &[
 ",
         ..STEPS
     },
-    StimulusCase {
+    Case {
         name: "a component with two events",
         words: SIM_FIL,
         stimulus: r#"{"version":2,"transactions":[{"start":1,"inputs":{"x":1,"y":20}},{"event":"T","start":0,"inputs":{"z":21}}]}"#,
@@ -160,14 +161,14 @@ const RUNS: &[StimulusCase] = &[
         ..USED
     },
     // A row without outputs is its number.
-    StimulusCase {
+    Case {
         name: "events without outputs",
         words: SIM_FIL,
         stimulus: r#"{"version":2,"transactions":[{"start":2,"inputs":{}},{"event":"F","start":3,"inputs":{"a":1}}]}"#,
         report: "0\n1\n2\n3\n",
         ..BARE
     },
-    StimulusCase {
+    Case {
         name: "no transactions",
         stimulus: r#"{"version":1,"transactions":[],"idle":3}"#,
         report: "",
@@ -256,52 +257,11 @@ const IDLES: &[(&str, u8)] = &[
     ("\"340282366920938463463374607431768211455\"", 255),
 ];
 
-/// What the program reports of the design and the stimulus.
-fn report_of(
-    rt: &impl Abort,
-    alloc: Global,
-    words: &[&str],
-    text: &str,
-    stimulus: &str,
-) -> Result<String, Fail> {
-    let said = ask_with(alloc, words, text, stimulus.as_bytes(), 50_000)?;
-    assert_eq!(rt; said.line.as_str(), "", "{text}");
-    assert_eq!(rt; said.ended, Ended::Done, "{text}");
-    Ok(said.report)
-}
-
-/// The words of one row of `sim` stand in a row of `trace`, but for the dashes.
-fn try_row(rt: &impl Abort, shown: &str, traced: &str) {
-    for word in shown.split(' ') {
-        let stands = word.ends_with("=-") || traced.split(' ').any(|it| it == word);
-        assert!(rt; stands, "{word} in {traced}");
-    }
-}
-
-/// Both have rows of the same numbers, and what `sim` prints is what `trace` does.
-fn try_rows(rt: &impl Abort, shown: &str, traced: &str) {
-    assert_eq!(rt; shown.lines().count(), traced.lines().count(), "{traced}");
-    for (row, all) in shown.lines().zip(traced.lines()) {
-        try_row(rt, row, all);
-    }
-}
-
-/// A trace is the netlist's text, an empty line, and the rows of which `sim` prints a part.
-fn try_trace(rt: &impl Abort, net: &str, shown: &str, trace: &str) {
-    assert!(rt; trace.starts_with(net), "{trace}");
-    let rows = trace.split_once("\nend\n\n");
-    assert!(rt; rows.is_some(), "{trace}");
-    if let Some((_, rows)) = rows {
-        try_rows(rt, shown, rows);
-    }
-}
-
 /// The two commands tell the same of the case.
-fn try_compared(rt: &impl Abort, alloc: Global, case: &StimulusCase) -> Result<(), Fail> {
-    let net = report_of(rt, alloc, NET, case.text, "")?;
-    let trace = report_of(rt, alloc, TRACE_FIL, case.text, case.stimulus)?;
-    try_trace(rt, net.as_str(), case.report, trace.as_str());
-    Ok(())
+fn try_compared(alloc: Global, case: &Case) -> Result<(), Fail> {
+    let net = report_of(alloc, NET, case.text, "")?;
+    let trace = report_of(alloc, TRACE_FIL, case.text, case.stimulus)?;
+    try_trace(net.as_str(), case.report, trace.as_str())
 }
 
 /// The inputs in a row without a transaction are these low bits.
@@ -316,9 +276,9 @@ fn try_idle(rt: &impl Abort, alloc: Global, idle: &str, low: u8) -> Result<(), F
     let stimulus = format!(in alloc;
         "{{\"version\":2,\"transactions\":[{SPACED}],\"idle\":{idle}}}"
     )?;
-    let shown = report_of(rt, alloc, SIM_FIL, MAC, stimulus.as_str())?;
+    let shown = report_of(alloc, SIM_FIL, MAC, stimulus.as_str())?;
     assert_eq!(rt; shown.as_str(), SPACED_ROWS, "{idle}");
-    let trace = report_of(rt, alloc, TRACE_FIL, MAC, stimulus.as_str())?;
+    let trace = report_of(alloc, TRACE_FIL, MAC, stimulus.as_str())?;
     for row in [1, 3, 4] {
         try_idle_row(rt, alloc, trace.as_str(), row, low)?;
     }
@@ -335,14 +295,14 @@ fn try_idle(rt: &impl Abort, alloc: Global, idle: &str, low: u8) -> Result<(), F
 
 #[test]
 fn designs_run_under_transactions(rt: HostRuntime) -> Result<(), Fail> {
-    try_stimulus_cases(&rt, rt.alloc(), RUNS)
+    try_cases(rt.alloc(), RUNS)
 }
 
 // The case's report is what `sim` prints: see the test before.
 #[test]
 fn a_trace_has_what_sim_shows(rt: HostRuntime) -> Result<(), Fail> {
     for case in RUNS {
-        try_compared(&rt, rt.alloc(), case)?;
+        try_compared(rt.alloc(), case)?;
     }
     Ok(())
 }
@@ -360,7 +320,7 @@ fn a_cause_is_told_before_a_byte_of_a_report(rt: HostRuntime) -> Result<(), Fail
     let alloc = rt.alloc();
     for words in [SIM_FIL, TRACE_FIL] {
         for (text, stimulus, ended, line) in STOPPED {
-            try_stopped(&rt, alloc, words, text, stimulus, (*ended, line))?;
+            try_stopped(alloc, words, text, stimulus, (*ended, line))?;
         }
     }
     Ok(())

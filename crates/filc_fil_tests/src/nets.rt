@@ -1,6 +1,5 @@
 //! `net`: the netlist of a Filament design, which is then checked and run as any other.
-use crate::case::{try_accepted, try_cases};
-use filc_cases::{Case, MAC, NET, SIM, ask_long, ask_with};
+use filc_cases::{CHECK, Case, MAC, NET, SIM, report_of, try_accepted, try_cases};
 use filc_core::Ended;
 use std::alloc::Global;
 use std::process::Abort;
@@ -100,6 +99,7 @@ const UNREAD: Case = Case {
     name: "no file",
     words: &["net", "g.fil"],
     text: MAC,
+    stimulus: "",
     ended: Ended::ReadFault,
     report: "",
     line: "read fault: g.fil\n",
@@ -150,29 +150,6 @@ fn try_parts(rt: &impl Abort, text: &str, parts: &[&str]) {
     }
 }
 
-/// The text of the netlist of a design.
-fn made_of(rt: &impl Abort, alloc: Global, design: &str) -> Result<String, Fail> {
-    let said = ask_long(alloc, NET, design, 20_000)?;
-    assert_eq!(rt; said.line.as_str(), "", "{design}");
-    assert_eq!(rt; said.ended, Ended::Done, "{design}");
-    Ok(said.report)
-}
-
-/// The netlist runs so.
-fn try_run(
-    rt: &impl Abort,
-    alloc: Global,
-    net: &str,
-    stimulus: &str,
-    rows: &[&str],
-) -> Result<(), Fail> {
-    let said = ask_with(alloc, SIM, net, stimulus.as_bytes(), 5000)?;
-    assert_eq!(rt; said.line.as_str(), "", "{net}");
-    assert_eq!(rt; said.ended, Ended::Done, "{net}");
-    try_parts(rt, said.report.as_str(), rows);
-    Ok(())
-}
-
 /// The text begins so.
 fn try_head(rt: &impl Abort, text: &str, head: &str) {
     assert!(rt; text.starts_with(head), "{text}");
@@ -180,11 +157,13 @@ fn try_head(rt: &impl Abort, text: &str, head: &str) {
 
 /// The design has such a netlist, which is accepted and runs so.
 fn try_made(rt: &impl Abort, alloc: Global, made: &Made) -> Result<(), Fail> {
-    let net = made_of(rt, alloc, made.text)?;
+    let net = report_of(alloc, NET, made.text, "")?;
     try_head(rt, net.as_str(), made.head);
     try_parts(rt, net.as_str(), made.cells);
-    try_accepted(rt, alloc, net.as_str())?;
-    try_run(rt, alloc, net.as_str(), made.stimulus, made.rows)
+    try_accepted(alloc, CHECK, net.as_str())?;
+    let rows = report_of(alloc, SIM, net.as_str(), made.stimulus)?;
+    try_parts(rt, rows.as_str(), made.rows);
+    Ok(())
 }
 
 #[test]
@@ -197,7 +176,7 @@ fn a_netlist_carries_transactions(rt: HostRuntime) -> Result<(), Fail> {
 
 #[test]
 fn a_design_that_is_refused_has_no_netlist(rt: HostRuntime) -> Result<(), Fail> {
-    try_cases(&rt, rt.alloc(), REFUSED)
+    try_cases(rt.alloc(), REFUSED)
 }
 
 #[test]
@@ -210,7 +189,7 @@ fn net_takes_one_file(rt: HostRuntime) -> Result<(), Fail> {
             line: "usage: filc COMMAND FILE [STIMULUS or NUMBER]\n",
             ..UNREAD
         };
-        try_cases(&rt, rt.alloc(), &[case])?;
+        try_cases(rt.alloc(), &[case])?;
     }
     Ok(())
 }

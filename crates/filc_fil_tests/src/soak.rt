@@ -1,6 +1,5 @@
 //! `soak`: the text of the netlist of a design that the program has, and what its run adds up to.
-use crate::case::try_cases;
-use filc_cases::{Case, FLOW, NET, TRACE_FIL, ask_long, ask_with};
+use filc_cases::{Case, FLOW, NET, TRACE_FIL, ask_long, ask_with, try_cases};
 use filc_core::Ended;
 use std::alloc::{AllocError, Global};
 use std::test::Fail;
@@ -135,6 +134,7 @@ const LIMIT: Case = Case {
     name: "one more than the limit",
     words: &["soak", "100001"],
     text: "",
+    stimulus: "",
     ended: Ended::Limit,
     report: "",
     line: "limit transactions 100001 over 100000\n",
@@ -176,5 +176,5 @@ const STOPPED: &[Case] = &[
 
 #[test]
 fn soaks_that_stop(rt: HostRuntime) -> Result<(), Fail> {
-    try_cases(&rt, rt.alloc(), STOPPED)
+    try_cases(rt.alloc(), STOPPED)
 }

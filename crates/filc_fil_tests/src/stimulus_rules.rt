@@ -1,9 +1,7 @@
 //! The rules S1 to S7 of stimuli and their limits, for netlists and for Filament designs.
-use crate::case::try_stopped;
-use filc_cases::{FLOW, SIM, TIMELINE, TRACE, ask_with, push_times};
+use filc_cases::{FLOW, SIM, TIMELINE, TRACE, ask_with, push_times, try_stopped};
 use filc_core::Ended;
 use std::alloc::{AllocError, Global};
-use std::process::Abort;
 use std::test::Fail;
 
 /// A netlist with two inputs, two shown memories and one that isn't shown.
@@ -440,27 +438,17 @@ fn of_transactions(alloc: Global, version: u8, entries: &str) -> Result<String, 
 }
 
 /// The stimulus of cycles is refused, whatever runs under it.
-fn try_cycles(
-    rt: &impl Abort,
-    alloc: Global,
-    stimulus: &str,
-    told: (Ended, &str),
-) -> Result<(), Fail> {
+fn try_cycles(alloc: Global, stimulus: &str, told: (Ended, &str)) -> Result<(), Fail> {
     for words in [SIM, TRACE] {
-        try_stopped(rt, alloc, words, NET, stimulus, told)?;
+        try_stopped(alloc, words, NET, stimulus, told)?;
     }
     Ok(())
 }
 
 /// The stimulus of transactions is refused, whatever is told of them.
-fn try_transactions(
-    rt: &impl Abort,
-    alloc: Global,
-    stimulus: &str,
-    told: (Ended, &str),
-) -> Result<(), Fail> {
+fn try_transactions(alloc: Global, stimulus: &str, told: (Ended, &str)) -> Result<(), Fail> {
     for words in [FLOW, TIMELINE] {
-        try_stopped(rt, alloc, words, DESIGN, stimulus, told)?;
+        try_stopped(alloc, words, DESIGN, stimulus, told)?;
     }
     Ok(())
 }
@@ -473,8 +461,8 @@ const UNSAID: (Ended, &str) = (Ended::Stimulus, "stimulus S2\n");
 #[test]
 fn a_stimulus_is_json(rt: HostRuntime) -> Result<(), Fail> {
     for text in NO_JSON {
-        try_cycles(&rt, rt.alloc(), text, UNREADABLE)?;
-        try_transactions(&rt, rt.alloc(), text, UNREADABLE)?;
+        try_cycles(rt.alloc(), text, UNREADABLE)?;
+        try_transactions(rt.alloc(), text, UNREADABLE)?;
     }
     Ok(())
 }
@@ -505,8 +493,8 @@ fn a_stimulus_nests_at_most_127_deep(rt: HostRuntime) -> Result<(), Fail> {
         (200, UNREADABLE),
     ] {
         let text = nested(alloc, depth)?;
-        try_cycles(&rt, alloc, text.as_str(), told)?;
-        try_transactions(&rt, alloc, text.as_str(), told)?;
+        try_cycles(alloc, text.as_str(), told)?;
+        try_transactions(alloc, text.as_str(), told)?;
     }
     Ok(())
 }
@@ -515,11 +503,11 @@ fn a_stimulus_nests_at_most_127_deep(rt: HostRuntime) -> Result<(), Fail> {
 fn stimuli_of_cycles_have_a_form(rt: HostRuntime) -> Result<(), Fail> {
     let alloc = rt.alloc();
     for text in NO_CYCLES {
-        try_cycles(&rt, alloc, text, UNSAID)?;
+        try_cycles(alloc, text, UNSAID)?;
     }
     for (version, entries) in NO_ENTRY {
         let text = of_cycles(alloc, *version, entries, "")?;
-        try_cycles(&rt, alloc, text.as_str(), UNSAID)?;
+        try_cycles(alloc, text.as_str(), UNSAID)?;
     }
     Ok(())
 }
@@ -529,7 +517,7 @@ fn the_first_broken_rule_of_cycles_is_told(rt: HostRuntime) -> Result<(), Fail> 
     let alloc = rt.alloc();
     for (entries, memories, line) in CYCLES_REFUSED {
         let text = of_cycles(alloc, 2, entries, memories)?;
-        try_cycles(&rt, alloc, text.as_str(), (Ended::Stimulus, line))?;
+        try_cycles(alloc, text.as_str(), (Ended::Stimulus, line))?;
     }
     Ok(())
 }
@@ -538,11 +526,11 @@ fn the_first_broken_rule_of_cycles_is_told(rt: HostRuntime) -> Result<(), Fail> 
 fn stimuli_of_transactions_have_a_form(rt: HostRuntime) -> Result<(), Fail> {
     let alloc = rt.alloc();
     for text in NO_TRANSACTIONS {
-        try_transactions(&rt, alloc, text, UNSAID)?;
+        try_transactions(alloc, text, UNSAID)?;
     }
     for (version, entries) in NO_TRANSACTION {
         let text = of_transactions(alloc, *version, entries)?;
-        try_transactions(&rt, alloc, text.as_str(), UNSAID)?;
+        try_transactions(alloc, text.as_str(), UNSAID)?;
     }
     Ok(())
 }
@@ -552,7 +540,7 @@ fn the_first_broken_rule_of_transactions_is_told(rt: HostRuntime) -> Result<(), 
     let alloc = rt.alloc();
     for (entries, line) in TRANSACTIONS_REFUSED {
         let text = of_transactions(alloc, 2, entries)?;
-        try_transactions(&rt, alloc, text.as_str(), (Ended::Stimulus, line))?;
+        try_transactions(alloc, text.as_str(), (Ended::Stimulus, line))?;
     }
     Ok(())
 }
@@ -562,13 +550,13 @@ fn transactions_have_limits(rt: HostRuntime) -> Result<(), Fail> {
     let alloc = rt.alloc();
     for (entries, line) in TRANSACTIONS_LIMITED {
         let text = of_transactions(alloc, 2, entries)?;
-        try_transactions(&rt, alloc, text.as_str(), (Ended::Limit, line))?;
+        try_transactions(alloc, text.as_str(), (Ended::Limit, line))?;
     }
     // The rules come before the limit on rows.
     let entries = r#"{"start":1000000,"inputs":{"a":1,"b":1}},{"start":0,"inputs":{"x":1}}"#;
     let text = of_transactions(alloc, 1, entries)?;
     let line = "stimulus S3 entry 1\n";
-    try_transactions(&rt, alloc, text.as_str(), (Ended::Stimulus, line))
+    try_transactions(alloc, text.as_str(), (Ended::Stimulus, line))
 }
 
 #[test]
@@ -593,7 +581,7 @@ fn cycles_have_a_limit(rt: HostRuntime) -> Result<(), Fail> {
             "{{\"version\":1,\"cycles\":{cycles},\"inputs\":[{{\"from\":0,\"set\":{{\"x\":1}}}}]}}"
         )?;
         let line = format!(in alloc; "limit cycles {cycles} over 1000000\n")?;
-        try_cycles(&rt, alloc, text.as_str(), (Ended::Limit, line.as_str()))?;
+        try_cycles(alloc, text.as_str(), (Ended::Limit, line.as_str()))?;
     }
     Ok(())
 }
@@ -606,7 +594,7 @@ fn entries_of_inputs_have_a_limit(rt: HostRuntime) -> Result<(), Fail> {
     push_times(&mut text, r#"{"from":0,"set":{}},"#, 100_000)?;
     text.push_str(r#"{"from":0,"set":{}}]}"#)?;
     let line = "limit transactions 100001 over 100000\n";
-    try_stopped(&rt, alloc, SIM, NET, text.as_str(), (Ended::Limit, line))
+    try_stopped(alloc, SIM, NET, text.as_str(), (Ended::Limit, line))
 }
 
 // What the text says is not looked at.

@@ -1,12 +1,8 @@
 //! The timeline rules F6 to F14 of Filament designs: each with what its refusal shows, and the limit of the weight.
-use filc_cases::{ask, push_times};
+use filc_cases::{CHECK_FIL, push_times, stopped, try_accepted, try_answered};
 use filc_core::Ended;
 use std::alloc::{AllocError, Global};
-use std::process::Abort;
 use std::test::Fail;
-
-/// The words that check the one file.
-const CHECK: &[&str] = &["check", "f.fil"];
 
 /// Designs that break a rule of F6 to F13, and their lines.
 const REFUSED: &[(&str, &str)] = &[
@@ -259,26 +255,10 @@ const ACCEPTED: &[&str] = &[
      }",
 ];
 
-/// The text is answered so.
-fn try_checked(
-    rt: &impl Abort,
-    alloc: Global,
-    text: &str,
-    ended: Ended,
-    report: &str,
-    line: &str,
-) -> Result<(), Fail> {
-    let said = ask(alloc, CHECK, text)?;
-    assert_eq!(rt; said.line.as_str(), line, "{text}");
-    assert_eq!(rt; said.report.as_str(), report, "{text}");
-    assert_eq!(rt; said.ended, ended, "{text}");
-    Ok(())
-}
-
 #[test]
 fn the_first_broken_rule_shows_where(rt: HostRuntime) -> Result<(), Fail> {
     for (text, line) in REFUSED {
-        try_checked(&rt, rt.alloc(), text, Ended::Refused, "", line)?;
+        try_answered(rt.alloc(), CHECK_FIL, text, stopped(Ended::Refused, line))?;
     }
     Ok(())
 }
@@ -286,7 +266,7 @@ fn the_first_broken_rule_shows_where(rt: HostRuntime) -> Result<(), Fail> {
 #[test]
 fn the_least_loop_is_told(rt: HostRuntime) -> Result<(), Fail> {
     for (text, line) in LOOPS {
-        try_checked(&rt, rt.alloc(), text, Ended::Refused, "", line)?;
+        try_answered(rt.alloc(), CHECK_FIL, text, stopped(Ended::Refused, line))?;
     }
     Ok(())
 }
@@ -294,7 +274,7 @@ fn the_least_loop_is_told(rt: HostRuntime) -> Result<(), Fail> {
 #[test]
 fn designs_that_keep_the_rules_are_accepted(rt: HostRuntime) -> Result<(), Fail> {
     for text in ACCEPTED {
-        try_checked(&rt, rt.alloc(), text, Ended::Done, "accepted\n", "")?;
+        try_accepted(rt.alloc(), CHECK_FIL, text)?;
     }
     Ok(())
 }
@@ -344,13 +324,13 @@ fn push_heavy(text: &mut String, name: &str, more: &str) -> Result<(), AllocErro
 fn the_weight_has_a_limit(rt: HostRuntime) -> Result<(), Fail> {
     let alloc = rt.alloc();
     let text = tower(alloc, 17)?;
-    try_checked(&rt, alloc, text.as_str(), Ended::Done, "accepted\n", "")?;
+    try_accepted(alloc, CHECK_FIL, text.as_str())?;
     let text = tower(alloc, 18)?;
     let line = "limit weight 1048573 over 1000000\n";
-    try_checked(&rt, alloc, text.as_str(), Ended::Limit, "", line)?;
+    try_answered(alloc, CHECK_FIL, text.as_str(), stopped(Ended::Limit, line))?;
     let text = tower(alloc, 64)?;
     let line = "limit weight 18446744073709551615 over 1000000\n";
-    try_checked(&rt, alloc, text.as_str(), Ended::Limit, "", line)
+    try_answered(alloc, CHECK_FIL, text.as_str(), stopped(Ended::Limit, line))
 }
 
 #[test]
@@ -358,12 +338,12 @@ fn the_weight_is_that_of_the_top(rt: HostRuntime) -> Result<(), Fail> {
     let alloc = rt.alloc();
     let mut text = tower(alloc, 17)?;
     push_heavy(&mut text, "main", "")?;
-    try_checked(&rt, alloc, text.as_str(), Ended::Done, "accepted\n", "")?;
+    try_accepted(alloc, CHECK_FIL, text.as_str())?;
     // The last is not the top where one is named main.
     push_heavy(&mut text, "Last", "X := new Not[1]; ")?;
-    try_checked(&rt, alloc, text.as_str(), Ended::Done, "accepted\n", "")?;
+    try_accepted(alloc, CHECK_FIL, text.as_str())?;
     let mut text = tower(alloc, 17)?;
     push_heavy(&mut text, "Last", "X := new Not[1]; ")?;
     let line = "limit weight 1000001 over 1000000\n";
-    try_checked(&rt, alloc, text.as_str(), Ended::Limit, "", line)
+    try_answered(alloc, CHECK_FIL, text.as_str(), stopped(Ended::Limit, line))
 }

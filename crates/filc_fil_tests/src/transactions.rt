@@ -1,12 +1,11 @@
 //! `flow` and `timeline`: what transactions compute, and what they hold.
-use crate::case::try_stimulus_cases;
-use filc_cases::{FLOW, MAC, PAIR, StimulusCase, TIMELINE, ask_with};
+use filc_cases::{Case, FLOW, MAC, PAIR, TIMELINE, ask_with, try_cases};
 use filc_core::Ended;
 use std::alloc::{AllocError, Global};
 use std::test::Fail;
 
 /// Each primitive once.
-const EACH: StimulusCase = StimulusCase {
+const EACH: Case = Case {
     name: "each primitive",
     words: FLOW,
     text: "comp Each<G: 3>(@interface[G] go: 1, @[G, G+1] a: 8, @[G, G+1] b: 8, @[G, G+1] s: 1) -> (
@@ -43,7 +42,7 @@ const EACH: StimulusCase = StimulusCase {
 };
 
 /// Two events, each with inputs and outputs of its own; the ports of both are mixed.
-const DUO: StimulusCase = StimulusCase {
+const DUO: Case = Case {
     name: "the outputs of one of two events",
     text: "comp Duo<G: 1, H: 2>(@interface[G] go: 1, @interface[H] ho: 1, @[H, H+1] b: 8, @[G, G+1] a: 8, @[H, H+1] c: 8)
   -> (@[H, H+1] q: 8, @[G+1, G+2] p: 8, @[H, H+1] r: 8) {
@@ -62,7 +61,7 @@ const DUO: StimulusCase = StimulusCase {
 };
 
 /// The component with two events is used by times on one event, and on two.
-pub(crate) const USED: StimulusCase = StimulusCase {
+pub(crate) const USED: Case = Case {
     name: "a component with two events",
     text: "comp Duo<G: 1, H: 2>(@interface[G] go: 1, @interface[H] ho: 1, @[H, H+1] b: 8, @[G, G+1] a: 8)
   -> (@[H, H+1] q: 8, @[G+1, G+2] p: 8) {
@@ -88,7 +87,7 @@ comp Top<S: 3, T: 3>(@interface[S] so: 1, @interface[T] to: 1, @[S, S+1] x: 8, @
 
 /// A component is used three times, twice by one instance, with values of its own each time; the design's last component
 /// isn't its top.
-pub(crate) const STEPS: StimulusCase = StimulusCase {
+pub(crate) const STEPS: Case = Case {
     name: "components in components",
     text: "comp Step<G: 1>(@interface[G] go: 1, @[G, G+1] a: 8, @[G, G+1] b: 8) -> (@[G+2, G+3] high: 8, @[G, G+1] low: 8) {
   p := new FastMult[8]<G>(a, b);
@@ -117,7 +116,7 @@ comp After<G: 1>() -> (@[G, G+1] none: 1) { none = 1'd1; }
 };
 
 /// The event `E` has no port at all, and `F` no output.
-pub(crate) const BARE: StimulusCase = StimulusCase {
+pub(crate) const BARE: Case = Case {
     name: "events without outputs",
     text: "comp Bare<E: 1, F: 2>(@interface[F] go: 1, @[F, F+1] a: 8) -> () {}",
     stimulus: r#"{"version":2,"transactions":[{"start":0,"inputs":{}},{"start":1000000,"inputs":{}},{"event":"F","start":3,"inputs":{"a":1}}]}"#,
@@ -125,27 +124,27 @@ pub(crate) const BARE: StimulusCase = StimulusCase {
     ..EACH
 };
 
-const FLOWS: &[StimulusCase] = &[
+const FLOWS: &[Case] = &[
     EACH,
     DUO,
     USED,
     STEPS,
     BARE,
-    StimulusCase {
+    Case {
         name: "no transactions",
         text: MAC,
         stimulus: r#"{"version":1,"transactions":[]}"#,
         report: "",
         ..EACH
     },
-    StimulusCase {
+    Case {
         name: "an entry that stands for three",
         text: MAC,
         stimulus: r#"{"version":2,"transactions":[{"start":0,"inputs":{"a":"2","b":"3","c":"1"},"repeat":{"times":3,"every":1}},{"start":9,"inputs":{"a":0,"b":0,"c":9}}],"idle":"340282366920938463463374607431768211455"}"#,
         report: "0 out=7\n1 out=7\n2 out=7\n3 out=9\n",
         ..EACH
     },
-    StimulusCase {
+    Case {
         name: "outputs that are an input, and a literal",
         text: "comp Wires<G: 1>(@[G+3, G+4] a: 4) -> (@[G+3, G+4] o: 4, @[G, G+1] l: 7) { o = a; l = 7'd100; }",
         stimulus: r#"{"version":1,"transactions":[{"start":5,"inputs":{"a":9}}]}"#,
@@ -156,11 +155,11 @@ const FLOWS: &[StimulusCase] = &[
 
 #[test]
 fn flows_are_computed(rt: HostRuntime) -> Result<(), Fail> {
-    try_stimulus_cases(&rt, rt.alloc(), FLOWS)
+    try_cases(rt.alloc(), FLOWS)
 }
 
-const HOLDS: &[StimulusCase] = &[
-    StimulusCase {
+const HOLDS: &[Case] = &[
+    Case {
         name: "a register is held until the row before its value ends",
         words: TIMELINE,
         text: "comp Keep<G: 4>(@interface[G] go: 1, @[G+1, G+2] a: 8) -> (@[G+3, G+4] o: 8) {
@@ -175,7 +174,7 @@ const HOLDS: &[StimulusCase] = &[
         report: "R 1 4 r 0\nA 3 4 s 0\nR 5 8 r 1\nA 7 8 s 1\n",
         ..EACH
     },
-    StimulusCase {
+    Case {
         name: "a multiplier's three rows",
         words: TIMELINE,
         text: PAIR,
@@ -183,7 +182,7 @@ const HOLDS: &[StimulusCase] = &[
         report: "M 100 103 x 0\nM 103 106 y 0\nM 107 110 x 1\nM 110 113 y 1\n",
         ..EACH
     },
-    StimulusCase {
+    Case {
         name: "transactions that overlap",
         words: TIMELINE,
         text: MAC,
@@ -192,33 +191,33 @@ const HOLDS: &[StimulusCase] = &[
         ..EACH
     },
     // Only what its own times trigger is held by a transaction.
-    StimulusCase {
+    Case {
         name: "two events",
         words: TIMELINE,
         report: "D 0 1 d 0\nX 0 1 x 1\nD 1 2 d 2\nX 9 10 x 3\n",
         ..DUO
     },
     // An instance has an event for each of its component's, with that event's delay.
-    StimulusCase {
+    Case {
         name: "a component with two events",
         words: TIMELINE,
         report: "one 10 11 one 0\none 12 14 one 0\ntwo 10 11 two 0\ntwo 4 6 two 1\n",
         ..USED
     },
     // What is inside of an instance isn't told.
-    StimulusCase {
+    Case {
         name: "components in components",
         words: TIMELINE,
         report: "big 0 3 big 0\nu 4 5 u 0\nbig 3 6 big 1\nu 7 8 u 1\n",
         ..STEPS
     },
-    StimulusCase {
+    Case {
         name: "nothing to hold",
         words: TIMELINE,
         report: "",
         ..BARE
     },
-    StimulusCase {
+    Case {
         name: "no transactions",
         words: TIMELINE,
         text: MAC,
@@ -230,7 +229,7 @@ const HOLDS: &[StimulusCase] = &[
 
 #[test]
 fn what_is_held_is_told(rt: HostRuntime) -> Result<(), Fail> {
-    try_stimulus_cases(&rt, rt.alloc(), HOLDS)
+    try_cases(rt.alloc(), HOLDS)
 }
 
 /// A component of so many sums, each of the one before with itself.

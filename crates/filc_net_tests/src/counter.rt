@@ -1,6 +1,5 @@
 //! The rows of a counter, and words that ask for nothing.
-use crate::case::try_cases;
-use filc_cases::{CHECK, Case};
+use filc_cases::{CHECK, Case, try_cases};
 use filc_core::Ended;
 use std::test::Fail;
 
@@ -20,6 +19,7 @@ const FIVE: Case = Case {
     name: "five rows",
     words: &["rows", "f.net", "5"],
     text: COUNTER,
+    stimulus: "",
     ended: Ended::Done,
     report: "0 q=0\n1 q=1\n2 q=2\n3 q=3\n4 q=4\n",
     line: "",
@@ -105,7 +105,7 @@ const UNASKED: &[&[&str]] = &[
 
 #[test]
 fn a_counter_counts(rt: HostRuntime) -> Result<(), Fail> {
-    try_cases(&rt, rt.alloc(), ANSWERS)
+    try_cases(rt.alloc(), ANSWERS)
 }
 
 #[test]
@@ -119,7 +119,7 @@ fn words_that_ask_for_nothing_are_told_the_usage(rt: HostRuntime) -> Result<(), 
             line: "usage: filc COMMAND FILE [STIMULUS or NUMBER]\n",
             ..FIVE
         };
-        try_cases(&rt, rt.alloc(), &[case])?;
+        try_cases(rt.alloc(), &[case])?;
     }
     Ok(())
 }

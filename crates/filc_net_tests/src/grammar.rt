@@ -1,9 +1,8 @@
 //! Texts that are no netlist's, and the byte at which each is refused.
-use crate::case::{try_accepted, try_refused};
 use crate::counter::COUNTER;
+use filc_cases::{CHECK, try_accepted, try_refused};
 use filc_core::Ended;
 use std::alloc::Global;
-use std::process::Abort;
 use std::test::Fail;
 
 /// A text, and the byte at which it is refused: the first of the first line that can't stand there.
@@ -109,15 +108,15 @@ const GOOD_LINES: &[&str] = &[
 ];
 
 /// The text is refused at the byte.
-fn try_place(rt: &impl Abort, alloc: Global, text: &str, at: u64) -> Result<(), Fail> {
+fn try_place(alloc: Global, text: &str, at: u64) -> Result<(), Fail> {
     let line = format!(in alloc; "refused grammar at byte {at}\n")?;
-    try_refused(rt, alloc, text, Ended::Refused, line.as_str())
+    try_refused(alloc, text, Ended::Refused, line.as_str())
 }
 
 #[test]
 fn texts_are_refused_at_a_line(rt: HostRuntime) -> Result<(), Fail> {
     for (text, at) in REFUSED {
-        try_place(&rt, rt.alloc(), text, *at)?;
+        try_place(rt.alloc(), text, *at)?;
     }
     Ok(())
 }
@@ -126,7 +125,7 @@ fn texts_are_refused_at_a_line(rt: HostRuntime) -> Result<(), Fail> {
 fn bad_lines_are_refused(rt: HostRuntime) -> Result<(), Fail> {
     for line in BAD_LINES {
         let text = format!(in rt.alloc(); "net g\n{line}\nend\n")?;
-        try_place(&rt, rt.alloc(), text.as_str(), 6)?;
+        try_place(rt.alloc(), text.as_str(), 6)?;
     }
     Ok(())
 }
@@ -138,19 +137,19 @@ fn each_prefix_is_refused_after_its_last_line_feed(rt: HostRuntime) -> Result<()
     let mut line_start = 0;
     for length in 0..bytes.len() {
         let prefix = str::from_utf8(&bytes[..length])?;
-        try_place(&rt, rt.alloc(), prefix, line_start as u64)?;
+        try_place(rt.alloc(), prefix, line_start as u64)?;
         if bytes[length] == b'\n' {
             line_start = length + 1;
         }
     }
-    try_accepted(&rt, rt.alloc(), COUNTER)
+    try_accepted(rt.alloc(), CHECK, COUNTER)
 }
 
 #[test]
 fn good_lines_are_read(rt: HostRuntime) -> Result<(), Fail> {
     for lines in GOOD_LINES {
         let text = format!(in rt.alloc(); "net g\nin a 1\nwire b.c$1 1\n{lines}\nend\n")?;
-        try_accepted(&rt, rt.alloc(), text.as_str())?;
+        try_accepted(rt.alloc(), CHECK, text.as_str())?;
     }
     Ok(())
 }

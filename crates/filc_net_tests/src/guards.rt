@@ -1,6 +1,5 @@
 //! Rows of netlists with guards: what each form means, and Conflicts that come and go.
-use crate::case::{try_accepted, try_cases};
-use filc_cases::{Case, ask, push_times};
+use filc_cases::{CHECK, Case, ask, push_times, try_accepted, try_cases};
 use filc_core::Ended;
 use std::alloc::{AllocError, Global};
 use std::test::Fail;
@@ -30,6 +29,7 @@ set le = (n.out <= 2'd2) ? 1'd1
 set ge = (n.out >= 2'd2) ? 1'd1
 end
 ",
+    stimulus: "",
     ended: Ended::Done,
     report: "0 eq=0 ne=1 lt=1 gt=0 le=1 ge=0
 1 eq=0 ne=1 lt=1 gt=0 le=1 ge=0
@@ -169,6 +169,7 @@ set q = r.out
 set q = (r.out == 8'd3) ? 8'd9
 end
 ",
+    stimulus: "",
     ended: Ended::Conflict,
     report: "0 q=0\n1 q=1\n2 q=2\n",
     line: "conflict cycle 3 port q\n",
@@ -280,7 +281,7 @@ pub(crate) fn deep_guard(alloc: Global) -> Result<String, AllocError> {
 
 #[test]
 fn guards_choose(rt: HostRuntime) -> Result<(), Fail> {
-    try_cases(&rt, rt.alloc(), RUNS)
+    try_cases(rt.alloc(), RUNS)
 }
 
 #[test]
@@ -288,7 +289,7 @@ fn the_first_conflict_ends_a_run(rt: HostRuntime) -> Result<(), Fail> {
     let alloc = rt.alloc();
     for (sets, cycle, port) in CONFLICTS {
         let text = format!(in alloc; "{COUNT}{sets}\nend\n")?;
-        try_accepted(&rt, alloc, text.as_str())?;
+        try_accepted(alloc, CHECK, text.as_str())?;
         let line = format!(in alloc; "conflict cycle {cycle} port {port}\n")?;
         let said = ask(alloc, &["rows", "f.net", "50"], text.as_str())?;
         assert_eq!(rt; said.line.as_str(), line.as_str(), "{sets}");

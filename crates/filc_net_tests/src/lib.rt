@@ -13,8 +13,6 @@
 #![tactic(auto)]
 
 #[cfg(test)]
-mod case;
-#[cfg(test)]
 mod counter;
 #[cfg(test)]
 mod faults;

@@ -1,7 +1,6 @@
 //! Netlists at each limit and over it, and which of several causes is told.
-use crate::case::{try_accepted, try_refused};
 use crate::guards::deep_guard;
-use filc_cases::{CHECK, ask, ask_long, push_times};
+use filc_cases::{CHECK, ask, ask_long, push_times, try_accepted, try_refused};
 use filc_core::Ended;
 use std::alloc::{AllocError, Global};
 use std::test::Fail;
@@ -81,7 +80,7 @@ fn the_nesting_has_a_limit(rt: HostRuntime) -> Result<(), Fail> {
         push_times(&mut text, part, *times)?;
         text.push_str(last)?;
         let line = format!(in alloc; "limit nesting {depth} over 256\n")?;
-        try_refused(&rt, alloc, text.as_str(), Ended::Limit, line.as_str())?;
+        try_refused(alloc, text.as_str(), Ended::Limit, line.as_str())?;
     }
     Ok(())
 }
@@ -94,20 +93,20 @@ fn what_nests_within_the_limit_is_judged_by_the_grammar(rt: HostRuntime) -> Resu
         push_times(&mut text, part, *times)?;
         text.push_str(last)?;
         let line = "refused grammar at byte 0\n";
-        try_refused(&rt, alloc, text.as_str(), Ended::Refused, line)?;
+        try_refused(alloc, text.as_str(), Ended::Refused, line)?;
     }
     let guard = deep_guard(alloc)?;
     let text = format!(in alloc; "net deep\nin on 1\nout q 1\nset q = {guard} ? on\nend\n")?;
-    try_accepted(&rt, alloc, text.as_str())?;
+    try_accepted(alloc, CHECK, text.as_str())?;
     let text = format!(in alloc; "net deep\nin on 1\nout q 1\nset q = !{guard} ? on\nend\n")?;
     let line = "limit nesting 257 over 256\n";
-    try_refused(&rt, alloc, text.as_str(), Ended::Limit, line)
+    try_refused(alloc, text.as_str(), Ended::Limit, line)
 }
 
 #[test]
 fn the_greatest_weight_is_accepted(rt: HostRuntime) -> Result<(), Fail> {
     let text = heavy(rt.alloc(), "", 1_000_000)?;
-    try_accepted(&rt, rt.alloc(), text.as_str())
+    try_accepted(rt.alloc(), CHECK, text.as_str())
 }
 
 #[test]
@@ -135,13 +134,13 @@ fn the_rules_come_before_the_weight(rt: HostRuntime) -> Result<(), Fail> {
 #[test]
 fn words_have_a_limit(rt: HostRuntime) -> Result<(), Fail> {
     let alloc = rt.alloc();
-    try_accepted(&rt, alloc, large(alloc, 16, "")?.as_str())?;
+    try_accepted(alloc, CHECK, large(alloc, 16, "")?.as_str())?;
     let line = "limit words 1048577 over 1048576\n";
     let text = large(alloc, 16, "ext one comb_mem_d1 1 1 1\n")?;
-    try_refused(&rt, alloc, text.as_str(), Ended::Limit, line)?;
+    try_refused(alloc, text.as_str(), Ended::Limit, line)?;
     let line = "limit words 1049600 over 1048576\n";
     let text = large(alloc, 16, "cell more std_mem_d2 1 32 32 5 5\n")?;
-    try_refused(&rt, alloc, text.as_str(), Ended::Limit, line)
+    try_refused(alloc, text.as_str(), Ended::Limit, line)
 }
 
 #[test]

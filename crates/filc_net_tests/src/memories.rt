@@ -1,6 +1,5 @@
 //! Memories: words that are written and read, and those that a run shows at its end.
-use crate::case::try_cases;
-use filc_cases::Case;
+use filc_cases::{Case, try_cases};
 use filc_core::Ended;
 use std::test::Fail;
 
@@ -30,6 +29,7 @@ set word = m.read_data
 set done = m.done
 end
 ",
+    stimulus: "",
     ended: Ended::Done,
     report: "0 word=0 done=0
 1 word=0 done=1
@@ -174,10 +174,11 @@ end
         ended: Ended::Conflict,
         report: "0\n",
         line: "conflict cycle 1 port m.write_en\n",
+        ..SHOWN
     },
 ];
 
 #[test]
 fn memories_are_kept_and_shown(rt: HostRuntime) -> Result<(), Fail> {
-    try_cases(&rt, rt.alloc(), RUNS)
+    try_cases(rt.alloc(), RUNS)
 }

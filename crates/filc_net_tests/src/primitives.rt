@@ -1,6 +1,5 @@
 //! Rows of the primitives: those that keep nothing, and those that keep something.
-use crate::case::try_cases;
-use filc_cases::Case;
+use filc_cases::{Case, try_cases};
 use filc_core::Ended;
 use std::test::Fail;
 
@@ -95,6 +94,7 @@ set part = part.c.out
 set concat = concat.c.out
 end
 ",
+    stimulus: "",
     ended: Ended::Done,
     report: "0 const=3000 wire=200 add=44 sub=100 less=156 and=64 or=236 xor=172 not=55 lsh=64 gone=0 rsh=25 slice=8 pad=200 tru=200 fal=100 part=9 concat=1480\n",
     line: "",
@@ -214,5 +214,5 @@ const RUNS: &[Case] = &[ARITHMETIC, COMPARISONS, STATES];
 
 #[test]
 fn primitives_have_their_rows(rt: HostRuntime) -> Result<(), Fail> {
-    try_cases(&rt, rt.alloc(), RUNS)
+    try_cases(rt.alloc(), RUNS)
 }

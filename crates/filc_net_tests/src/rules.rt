@@ -1,5 +1,5 @@
 //! Netlists that break a rule, each with the line that says so, and netlists that come close.
-use crate::case::{try_accepted, try_refused};
+use filc_cases::{CHECK, try_accepted, try_refused};
 use filc_core::Ended;
 use std::test::Fail;
 
@@ -266,7 +266,7 @@ const KEPT: &[&str] = &[
 #[test]
 fn broken_rules_are_told(rt: HostRuntime) -> Result<(), Fail> {
     for (text, line) in BROKEN {
-        try_refused(&rt, rt.alloc(), text, Ended::Refused, line)?;
+        try_refused(rt.alloc(), text, Ended::Refused, line)?;
     }
     Ok(())
 }
@@ -274,7 +274,7 @@ fn broken_rules_are_told(rt: HostRuntime) -> Result<(), Fail> {
 #[test]
 fn loops_are_told(rt: HostRuntime) -> Result<(), Fail> {
     for (text, line) in LOOPS {
-        try_refused(&rt, rt.alloc(), text, Ended::Refused, line)?;
+        try_refused(rt.alloc(), text, Ended::Refused, line)?;
     }
     Ok(())
 }
@@ -282,7 +282,7 @@ fn loops_are_told(rt: HostRuntime) -> Result<(), Fail> {
 #[test]
 fn kept_rules_are_accepted(rt: HostRuntime) -> Result<(), Fail> {
     for text in KEPT {
-        try_accepted(&rt, rt.alloc(), text)?;
+        try_accepted(rt.alloc(), CHECK, text)?;
     }
     Ok(())
 }

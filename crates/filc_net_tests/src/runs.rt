@@ -1,11 +1,10 @@
 //! `sim` and `trace`: the rows of netlists under stimuli, and their memories.
-use crate::case::try_stimulus_cases;
-use filc_cases::{SIM, StimulusCase, TRACE};
+use filc_cases::{Case, SIM, TRACE, try_cases};
 use filc_core::Ended;
 use std::test::Fail;
 
 /// An input is 0 until it is set, and keeps its value until it is set again.
-const KEPT: StimulusCase = StimulusCase {
+const KEPT: Case = Case {
     name: "inputs keep their values",
     words: SIM,
     text: "net kept
@@ -24,7 +23,7 @@ end
 };
 
 /// The words of the memories are read at an address, then at another.
-const BANK: StimulusCase = StimulusCase {
+const BANK: Case = Case {
     name: "lists that are shorter than their memories",
     words: SIM,
     text: "net bank
@@ -60,7 +59,7 @@ mem grid 1 2 3 4 5 0
 };
 
 /// Two assignments drive `q` where `a` is 1.
-const CLASH: StimulusCase = StimulusCase {
+const CLASH: Case = Case {
     name: "a Conflict that an input makes",
     words: SIM,
     text: "net clash
@@ -94,7 +93,7 @@ end
 ";
 
 /// Two inputs, an output and a wire of 128 bits.
-const WIDE: StimulusCase = StimulusCase {
+const WIDE: Case = Case {
     name: "values of 128 bits",
     words: TRACE,
     text: "net wide
@@ -124,54 +123,54 @@ end
     ..KEPT
 };
 
-const RUNS: &[StimulusCase] = &[
+const RUNS: &[Case] = &[
     KEPT,
     BANK,
     CLASH,
     WIDE,
-    StimulusCase {
+    Case {
         name: "a row after the last one",
         stimulus: r#"{"version":1,"cycles":2,"inputs":[{"from":1,"set":{"a":3}},{"from":2,"set":{"a":4,"b":4}},{"from":18446744073709551615,"set":{"a":5}}]}"#,
         report: "0 p=0 q=0\n1 p=3 q=0\n",
         ..KEPT
     },
-    StimulusCase {
+    Case {
         name: "a netlist without inputs that are set",
         stimulus: r#"{"version":2,"cycles":2,"inputs":[]}"#,
         report: "0 p=0 q=0\n1 p=0 q=0\n",
         ..KEPT
     },
-    StimulusCase {
+    Case {
         name: "of a key that is given twice the last value",
         stimulus: r#"{"version":3,"cycles":1,"inputs":[{"from":9,"set":{"a":99,"a":1},"from":0}],"version":1,"cycles":2}"#,
         report: "0 p=1 q=0\n1 p=1 q=0\n",
         ..KEPT
     },
-    StimulusCase {
+    Case {
         name: "blanks and escapes",
         stimulus: "\t{ \"inputs\" : [ { \"set\" : { \"\\u0061\" : 5 } , \"from\" : 0 } ] ,\r\n \"cycles\" : 1 , \"\\u0076ersion\" : 1 }\n",
         report: "0 p=5 q=0\n",
         ..KEPT
     },
-    StimulusCase {
+    Case {
         name: "no cycles",
         stimulus: r#"{"version":1,"cycles":0,"inputs":[{"from":0,"set":{"at":1}}],"memories":{"grid":[1]}}"#,
         report: "mem line 0 0 0 0\nmem grid 1 0 0 0 0 0\n",
         ..BANK
     },
-    StimulusCase {
+    Case {
         name: "memories without a list, with an empty and with a whole one",
         stimulus: r#"{"version":2,"cycles":1,"inputs":[],"memories":{"line":["255",1,"0",4],"grid":[]}}"#,
         report: "0 word=255 cell=0\nmem line 255 1 0 4\nmem grid 0 0 0 0 0 0\n",
         ..BANK
     },
-    StimulusCase {
+    Case {
         name: "no memories",
         stimulus: r#"{"version":2,"cycles":1,"inputs":[],"memories":{}}"#,
         report: "0 word=0 cell=0\nmem line 0 0 0 0\nmem grid 0 0 0 0 0 0\n",
         ..BANK
     },
-    StimulusCase {
+    Case {
         name: "a Conflict in a row that is not asked for",
         stimulus: r#"{"version":1,"cycles":2,"inputs":[{"from":2,"set":{"a":1}}],"memories":{"m":[3,4]}}"#,
         ended: Ended::Done,
@@ -179,20 +178,20 @@ const RUNS: &[StimulusCase] = &[
         line: "",
         ..CLASH
     },
-    StimulusCase {
+    Case {
         name: "a Conflict in the first row",
         stimulus: r#"{"version":1,"cycles":2,"inputs":[{"from":0,"set":{"a":1}}]}"#,
         report: "",
         line: "conflict cycle 0 port q\n",
         ..CLASH
     },
-    StimulusCase {
+    Case {
         name: "all ports up to a Conflict",
         words: TRACE,
         report: CLASH_TRACED,
         ..CLASH
     },
-    StimulusCase {
+    Case {
         name: "all ports before a Conflict in the first row",
         words: TRACE,
         text: "net clash\nout q 8\nset q = 8'd1\nset q = 8'd2\nend\n",
@@ -201,7 +200,7 @@ const RUNS: &[StimulusCase] = &[
         line: "conflict cycle 0 port q\n",
         ..CLASH
     },
-    StimulusCase {
+    Case {
         name: "all ports in no cycles",
         words: TRACE,
         text: "net none\nin a 1\next m std_mem_d1 1 2 1\nend\n",
@@ -209,7 +208,7 @@ const RUNS: &[StimulusCase] = &[
         report: "net none\nin a 1\next m std_mem_d1 1 2 1\nend\n\nmem m 0 1\n",
         ..KEPT
     },
-    StimulusCase {
+    Case {
         name: "all ports of a netlist without ports",
         words: TRACE,
         text: "net none\nend\n",
@@ -217,7 +216,7 @@ const RUNS: &[StimulusCase] = &[
         report: "net none\nend\n\n0\n1\n",
         ..KEPT
     },
-    StimulusCase {
+    Case {
         name: "the outputs of a netlist without outputs",
         text: "net none\nin a 1\nend\n",
         stimulus: r#"{"version":1,"cycles":2,"inputs":[{"from":0,"set":{"a":1}}]}"#,
@@ -228,5 +227,5 @@ const RUNS: &[StimulusCase] = &[
 
 #[test]
 fn netlists_run_under_stimuli(rt: HostRuntime) -> Result<(), Fail> {
-    try_stimulus_cases(&rt, rt.alloc(), RUNS)
+    try_cases(rt.alloc(), RUNS)
 }

@@ -1,7 +1,6 @@
 //! Commands that take a stimulus: worked answers, what is told of files that can't be read, and words that ask for nothing.
-use crate::case::{try_stimulus_cases, try_stopped};
 use crate::counter::COUNTER;
-use filc_cases::{FLOW, MAC, PAIR, SIM, StimulusCase, TIMELINE, TRACE};
+use filc_cases::{Case, FLOW, MAC, PAIR, SIM, TIMELINE, TRACE, try_cases, try_stopped};
 use filc_core::Ended;
 use std::test::Fail;
 
@@ -35,7 +34,7 @@ end
 1 q=1 r.in=2 r.write_en=1 r.out=1 r.done=1 a.left=1 a.right=1 a.out=2
 ";
 
-const FLOWS: StimulusCase = StimulusCase {
+const FLOWS: Case = Case {
     name: "three transactions",
     words: FLOW,
     text: MAC,
@@ -45,7 +44,7 @@ const FLOWS: StimulusCase = StimulusCase {
     line: "",
 };
 
-const REFUSED: StimulusCase = StimulusCase {
+const REFUSED: Case = Case {
     name: "no JSON",
     stimulus: "{",
     ended: Ended::Stimulus,
@@ -54,10 +53,10 @@ const REFUSED: StimulusCase = StimulusCase {
     ..FLOWS
 };
 
-const WORKED: &[StimulusCase] = &[
+const WORKED: &[Case] = &[
     FLOWS,
     REFUSED,
-    StimulusCase {
+    Case {
         name: "what two transactions hold",
         words: TIMELINE,
         text: PAIR,
@@ -65,7 +64,7 @@ const WORKED: &[StimulusCase] = &[
         report: "M 0 3 x 0\nM 3 6 y 0\nM 6 9 x 1\nM 9 12 y 1\n",
         ..FLOWS
     },
-    StimulusCase {
+    Case {
         name: "all ports of a counter",
         words: TRACE,
         text: COUNTER,
@@ -73,7 +72,7 @@ const WORKED: &[StimulusCase] = &[
         report: TRACED,
         ..FLOWS
     },
-    StimulusCase {
+    Case {
         name: "a memory that is loaded",
         words: SIM,
         text: "net mem\next m std_mem_d1 8 2 1\nend\n",
@@ -81,7 +80,7 @@ const WORKED: &[StimulusCase] = &[
         report: "0\nmem m 7 0\n",
         ..FLOWS
     },
-    StimulusCase {
+    Case {
         name: "a sum over 128 bits",
         words: SIM,
         text: "net wide
@@ -98,44 +97,44 @@ end
         report: "0 q=1\n",
         ..FLOWS
     },
-    StimulusCase {
+    Case {
         name: "a product over 128 bits",
         text: WIDE_MAC,
         stimulus: r#"{"version":2,"transactions":[{"start":0,"inputs":{"a":"18446744073709551616","b":"18446744073709551616","c":5}}]}"#,
         report: "0 out=5\n",
         ..FLOWS
     },
-    StimulusCase {
+    Case {
         name: "a list",
         stimulus: "[]",
         line: "stimulus S2\n",
         ..REFUSED
     },
-    StimulusCase {
+    Case {
         name: "a version alone",
         stimulus: r#"{"version":1}"#,
         line: "stimulus S2\n",
         ..REFUSED
     },
-    StimulusCase {
+    Case {
         name: "leading zeros",
         stimulus: r#"{"version":2,"transactions":[{"start":0,"inputs":{"a":"007","b":1,"c":1}}]}"#,
         line: "stimulus S2\n",
         ..REFUSED
     },
-    StimulusCase {
+    Case {
         name: "an input without a value",
         stimulus: r#"{"version": 1, "transactions": [{"start": 0, "inputs": {"a": 2, "b": 3}}]}"#,
         line: "stimulus S6 entry 0\n",
         ..REFUSED
     },
-    StimulusCase {
+    Case {
         name: "too wide a value",
         stimulus: r#"{"version": 1, "transactions": [{"start": 0, "inputs": {"a": 256, "b": 3, "c": 1}}]}"#,
         line: "stimulus S4 entry 0\n",
         ..REFUSED
     },
-    StimulusCase {
+    Case {
         name: "an unknown input",
         stimulus: r#"{"version": 1, "transactions": [{"start": 0, "inputs": {"a": 2, "b": 3, "c": 1, "d": 1}}]}"#,
         line: "stimulus S3 entry 0\n",
@@ -251,13 +250,13 @@ const UNASKED: &[&[&str]] = &[
 
 #[test]
 fn stimuli_are_answered(rt: HostRuntime) -> Result<(), Fail> {
-    try_stimulus_cases(&rt, rt.alloc(), WORKED)
+    try_cases(rt.alloc(), WORKED)
 }
 
 #[test]
 fn the_file_that_cannot_be_read_is_told(rt: HostRuntime) -> Result<(), Fail> {
     for (words, text, line) in UNREAD {
-        try_stopped(&rt, rt.alloc(), words, text, "{", (Ended::ReadFault, line))?;
+        try_stopped(rt.alloc(), words, text, "{", (Ended::ReadFault, line))?;
     }
     Ok(())
 }
@@ -265,7 +264,7 @@ fn the_file_that_cannot_be_read_is_told(rt: HostRuntime) -> Result<(), Fail> {
 #[test]
 fn the_design_is_judged_before_the_stimulus_is_read(rt: HostRuntime) -> Result<(), Fail> {
     for (words, text, line) in UNFIT {
-        try_stopped(&rt, rt.alloc(), words, text, "{", (Ended::Refused, line))?;
+        try_stopped(rt.alloc(), words, text, "{", (Ended::Refused, line))?;
     }
     Ok(())
 }
@@ -274,7 +273,7 @@ fn the_design_is_judged_before_the_stimulus_is_read(rt: HostRuntime) -> Result<(
 fn words_without_a_stimulus_are_told_the_usage(rt: HostRuntime) -> Result<(), Fail> {
     let line = "usage: filc COMMAND FILE [STIMULUS or NUMBER]\n";
     for words in UNASKED {
-        try_stopped(&rt, rt.alloc(), words, COUNTER, "{", (Ended::Usage, line))?;
+        try_stopped(rt.alloc(), words, COUNTER, "{", (Ended::Usage, line))?;
     }
     Ok(())
 }

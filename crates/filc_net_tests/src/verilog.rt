@@ -1,6 +1,5 @@
 //! `verilog`: the Verilog text of a netlist, and of the netlist of a Filament design.
-use crate::case::try_cases;
-use filc_cases::Case;
+use filc_cases::{Case, try_cases};
 use filc_core::Ended;
 use std::test::Fail;
 
@@ -13,6 +12,7 @@ const WIRE: Case = Case {
     name: "a wire",
     words: NET,
     text: "net w\nin a 4\nout b 4\nset b = a\nend\n",
+    stimulus: "",
     ended: Ended::Done,
     report: "module \\w (
   input wire \\$clk ,
@@ -142,5 +142,5 @@ endmodule
 
 #[test]
 fn netlists_are_written_as_verilog(rt: HostRuntime) -> Result<(), Fail> {
-    try_cases(&rt, rt.alloc(), CASES)
+    try_cases(rt.alloc(), CASES)
 }

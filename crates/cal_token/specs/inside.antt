@@ -1,2 +1,0 @@
--- What only the functions inside the crate are specified by.
-pub mod Coming
