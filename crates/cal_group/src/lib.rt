@@ -4,8 +4,8 @@
 //! without invokes: each has become the group that it stands for, named by its item, which is enabled in its place. Of item 12 of
 //! a component, where `t` is a `std_mult_pipe(16)`,
 //!
-//!     invoke t(a = n, b = n)();     becomes     c$invoke12;     where
-//!     group c$invoke12 { t.a = n; t.b = n; t.go = 1'd1; c$invoke12[done] = t.done; }
+//!     invoke t(left = n, right = n)();     becomes     c$invoke12;     where
+//!     group c$invoke12 { t.left = n; t.right = n; t.go = 1'd1; c$invoke12[done] = t.done; }
 //!
 //! `remove_groups` takes a design without control, with a rule for each group, and gives one of wires alone: a group's
 //! assignments are continuous, each under the group's rule and its own guard. Where the rule of `set` is `c$acts$set.out`,

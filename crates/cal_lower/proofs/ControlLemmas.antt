@@ -10,7 +10,7 @@ use Rattle.cal_walk.specs.Stages.{Progress, Waits, Runs, Ends, progress_of, next
 use Rattle.cal_token.proofs.OverLemmas.{over_enables, over_tests, over_left}
 use Rattle.cal_token.proofs.TestLemmas.{and_true}
 use Rattle.cal_token.proofs.TokenLemmas.{tokens_walk_control}
-use Rattle.cal_token.specs.inside.Coming.{IsOff, Leaves}
+use Rattle.cal_token.specs.Coming.{IsOff, Leaves}
 use Rattle.cal_token.specs.Laws.{ComesTo, Walks, StaysOff}
 use Rattle.cal_token.specs.Tokens.{Token, ends, enables_by, tests_by, Steps}
 use Rattle.std.proofs.lemmas.Bool.{and_parts}

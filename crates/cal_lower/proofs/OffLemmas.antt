@@ -5,7 +5,7 @@ use Rattle.net_core.specs.Guard.{GuardTree, Negates}
 use Rattle.cal_ast.specs.Plan.{Plan, Enables, InTurn, AtOnce, Chooses, Repeats, Plans, NoPlans, MorePlans}
 use Rattle.cal_ast.specs.Tree.{PortName}
 use Rattle.cal_walk.specs.Left.{is_over}
-use Rattle.cal_token.specs.inside.Coming.{IsOff, FirstIsOff, OthersAreOff, AllAreOff, IsLaterOff}
+use Rattle.cal_token.specs.Coming.{IsOff, FirstIsOff, OthersAreOff, AllAreOff, IsLaterOff}
 use Rattle.cal_token.specs.Tokens.{Token, Starting, Ended, size}
 use Rattle.cal_token.proofs.StartLemmas.{with_none, with_start as starts_with}
 use Rattle.cal_token.proofs.TestLemmas.{at_true, at_false}

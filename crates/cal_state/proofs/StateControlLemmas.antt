@@ -13,7 +13,7 @@ use Rattle.cal_ast.specs.Tree.{PortName, port_of, own}
 use Rattle.cal_walk.specs.Left.{sight_at, is_over, is_by}
 use Rattle.cal_walk.specs.Stages.{Progress, Waits, Runs, Ends, progress_at}
 use Rattle.cal_token.proofs.TestLemmas.{and_true, or_same}
-use Rattle.cal_token.specs.inside.Coming.{IsOff, Leaves}
+use Rattle.cal_token.specs.Coming.{IsOff, Leaves}
 use Rattle.cal_token.specs.Tokens.{Token, Tokens, size, ends, enables_by, tests_by, Steps}
 use Rattle.cal_lower.specs.Lowered.{control_ends, plan_pieces, start_guard}
 use Rattle.cal_lower.specs.Parts.{part_ends, part_pieces}

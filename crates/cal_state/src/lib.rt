@@ -5,8 +5,8 @@
 //!
 //!     control { seq { one; inc; one; inc; } }
 //!
-//!     cal_lower    c$goes1, c$starts2, c$goes2, .. c$busy, c$over: a register of one bit for each token
-//!     cal_state    c$fsm0: one register of 3 bits; 0 nothing, 1 over, 2 the first `one`, 3 the first `inc`, 4 and 5 the others
+//!     cal_lower    c$goes1, c$next2, c$goes2, .. c$busy, c$over: a register of one bit for each token
+//!     cal_state    c$fsm0: one register of 3 bits; 0 nothing, 1 over, 2 the `seq`, 3 the first `one`, 4 the first `inc`, ..
 //!
 //! A thread is what runs in sequence: the main one, and one for each branch of a `par` that takes a row. Each part of a thread
 //! that takes a row has a state. The wires of `cal_lower` stay with their names; what was a token's register is a wire that is 1

@@ -3,7 +3,7 @@ use Rattle.std.specs.Prelude.{◌≡◌, ℕ, Bool, true, false}
 use Rattle.cal_ast.specs.Actors.{Actor}
 use Rattle.cal_ast.specs.Plan.{Plan}
 use Rattle.cal_walk.specs.Left.{Sight, is_over, left, enables, tests}
-use Rattle.cal_token.specs.inside.Coming.{IsOff, Leaves}
+use Rattle.cal_token.specs.Coming.{IsOff, Leaves}
 use Rattle.cal_token.specs.Tokens.{Tokens, ends, enables_by, tests_by, Steps}
 
 -- tokens of the plan where nothing of it is left, or else this

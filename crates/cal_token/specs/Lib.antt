@@ -1,3 +1,3 @@
-pub mod inside
 pub mod Tokens
+pub mod Coming
 pub mod Laws

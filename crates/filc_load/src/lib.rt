@@ -1,8 +1,8 @@
 //! What the files of a command give: a design by its language, a stimulus for it; or why they give nothing.
 //!
 //! In: a file's name, and the files. Out: a design that is read, judged and light enough (`Built` for a netlist, `FilBuilt`,
-//! `CalBuilt`), a stimulus that fits it, or the `Stop` with the first cause, in this order: the file cannot be read; it is too
-//! long or nests too deep; a byte is refused; a rule is broken; it weighs too much.
+//! `CalBuilt`), a stimulus that fits it, or the `Stop` with the first cause, in this order: the file cannot be read; it is too long; no token
+//! starts at a byte; it nests too deep; the grammar refuses a byte; an offset is too large; a rule is broken; it weighs too much, or has too many words.
 //!
 //!     counter.net   ->  the netlist, its table of ports and their order
 //!     adder.fil     ->  the design's tree, and its top component

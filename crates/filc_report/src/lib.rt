@@ -2,9 +2,9 @@
 //!
 //! In: what was loaded, and a sink. Out: the report's bytes in the sink, or a prefix of them and the `Stop`.
 //!
-//!     0 p=- q=-                 a line for each row of a run (`stream`, `net_run`), with a dash where no value is promised;
-//!     1 p=15 q=-                after the last row the words of the memories that are shown (`memories`)
-//!     mem table 10 20 30 99
+//!     2 p=15 q=-                a line for each row of a run (`stream`, `net_run`), with a dash where a design promises no value
+//!     5 found=30                a row of a netlist, after whose last row stand
+//!     mem table 10 20 30 99     the words of the memories that are shown (`memories`)
 //!
 //! `drive` says what a row is given, from rows or from transactions (`inputs`, `tx_inputs`); `view` which ports a line shows. `report` makes a
 //! row's line in a buffer of its own (`line`, `digits`), and passes it on as one piece; a port for which the buffer has no room goes on by itself.

@@ -5,7 +5,7 @@
 //! for all, in which ports reach ports exactly as they do at once and through cells (`flatten`).
 //!
 //!     a reads x.o, x.i reads a           the cell x: o reads w, w reads i
-//!     flat: a reads x.o, x.o reads o', o' reads w', w' reads i', i' reads x.i, x.i reads a
+//!     by pairs: a reads x.o, x.o reads x.i, x.i reads a    by a copy: a reads x.o, x.o reads o', o' reads w', w' reads i', i' reads x.i, x.i reads a
 //!
 //! What a cell's outputs reach of its inputs can be as many pairs as there are outputs times inputs, where the graph of what it is made
 //! of has some entries a port. So a cell with many pins gets a copy of that graph (`flat`): its nodes are numbered behind the ports, each of

@@ -13,8 +13,8 @@
 //!       {"start": 0, "inputs": {"a": 2, "b": 3, "c": 1}}]}    a value for each data input of its event
 //!
 //! How it goes: `serde_json` reads the bytes to a JSON value (S1); `cycle_text` and `tx_text` say which stimulus that is, if it
-//! is one (S2). Then the limits `MOST_TRANSACTIONS` and `MOST_CYCLES` are judged, and the other rules entry by entry: for cycles
-//! in `cycle_inputs` and `cycle_memories`, for transactions in `tx_values` and `tx_starts`, where a `repeat` is written out.
+//! is one (S2). Then the limit `MOST_TRANSACTIONS` is judged, for cycles `MOST_CYCLES` too, and the other rules entry by entry (for transactions
+//! `MOST_CYCLES` comes last): for cycles in `cycle_inputs` and `cycle_memories`, else in `tx_values` and `tx_starts`, where a `repeat` is written out.
 //!
 //! What the layer above uses: `read_cycles` gives what the bytes say, of a stimulus that keeps the rules and the limits
 //! (`GiveRun`), and it fits the inputs and memories (`FitsRun`). `read_txs` does so for transactions (`GiveTransactions`), which
