@@ -1,11 +1,12 @@
-/* Prints so many names of seven letters whose hashes agree in so many low bits: the hash is the one that names get where no key
-   of their source goes before it. So a table of names without a key finds no more in one look than in a list. */
+/* Prints so many names of eight letters, the fewest that are hashed as they are and not as one number, whose hashes agree in so many
+   low bits: the hash is the one that names get where no key of their source goes before it. So a table of names without a key finds
+   no more in one look than in a list. */
 #include <stdint.h>
 #include <stdio.h>
 #include <stdlib.h>
 #include <string.h>
 
-enum { LENGTH = 7 };
+enum { LENGTH = 8 };
 static const char LETTERS[] = "abcdefghijklmnopqrstuvwxyzABCDEFGHIJKLMNOPQRSTUVWXYZ";
 static const uint64_t MULTIPLIER = 0x9e3779b97f4a7c15, BEGIN = 0x243f6a8885a308d3;
 
