@@ -1,39 +1,44 @@
-/* Prints so many names of eight letters, the fewest that are hashed as they are and not as one number, whose hashes agree in so many
-   low bits: the hash is the one that names get where no key of their source goes before it. So a table of names without a key finds
-   no more in one look than in a list. */
+/* Prints so many names whose hashes agree in so many low bits: the hash is the one that names get where no key of their source goes
+   before it. So a table of names without a key finds no more in one look than in a list. One half has seven letters, and is hashed as
+   one number behind the count; the other has eight, and is hashed as it is. */
 #include <stdint.h>
 #include <stdio.h>
 #include <stdlib.h>
 #include <string.h>
 
-enum { LENGTH = 8 };
+enum { SHORT = 7, LONG = 8 };
 static const char LETTERS[] = "abcdefghijklmnopqrstuvwxyzABCDEFGHIJKLMNOPQRSTUVWXYZ";
 static const uint64_t MULTIPLIER = 0x9e3779b97f4a7c15, BEGIN = 0x243f6a8885a308d3;
 
-static uint32_t four_bytes(const char *from)
-{
-    uint32_t word;
-    memcpy(&word, from, sizeof word);
-    return word;
-}
-
-/* The toolchain's hash of a name: it is at most eight bytes, so it is one number. */
-static uint64_t hashed(const char *name)
-{
-    uint64_t number = four_bytes(name) | (uint64_t)four_bytes(name + LENGTH - 4) << 32;
-    unsigned __int128 product = (unsigned __int128)(BEGIN ^ number) * (MULTIPLIER ^ 2 * LENGTH);
-    return (uint64_t)product ^ (uint64_t)(product >> 64);
-}
-
-static char name[LENGTH + 1];
+static char name[LONG + 1];
+static int length;
 static long left;
 static uint32_t low;
+
+/* The eight bytes, as one number, that are hashed for the name. */
+static uint64_t fed(void)
+{
+    uint64_t number = SHORT;
+    if (length == LONG) {
+        memcpy(&number, name, sizeof number);
+        return number;
+    }
+    for (int at = 0; at < SHORT; at++) number = number << 8 | (unsigned char)name[at];
+    return number;
+}
+
+/* The toolchain's hash of eight bytes. */
+static uint64_t hashed(void)
+{
+    unsigned __int128 product = (unsigned __int128)(BEGIN ^ fed()) * (MULTIPLIER ^ 2 * sizeof(uint64_t));
+    return (uint64_t)product ^ (uint64_t)(product >> 64);
+}
 
 /* The names that begin with the first letters of `name`. */
 static void print_from(int at)
 {
-    if (at == LENGTH) {
-        uint64_t hash = hashed(name);
+    if (at == length) {
+        uint64_t hash = hashed();
         if (((uint32_t)(hash ^ hash >> 32) & low) == 0) left--, puts(name);
         return;
     }
@@ -43,11 +48,21 @@ static void print_from(int at)
     }
 }
 
+/* So many names of this length. */
+static void print_names(int letters, long many)
+{
+    length = letters;
+    left = many;
+    name[length] = 0;
+    print_from(0);
+}
+
 int main(int count, char **words)
 {
     if (count != 3) return 2;
-    left = atol(words[1]);
+    long many = atol(words[1]);
     low = (uint32_t)((UINT64_C(1) << atoi(words[2])) - 1);
-    print_from(0);
+    print_names(SHORT, many / 2);
+    print_names(LONG, many - many / 2);
     return 0;
 }

@@ -21,9 +21,9 @@
 //!
 //! What the layer above uses: `flatten` gives a graph (`IsFlat`) whose first nodes are the ports; between them it reaches exactly what is
 //! reached at once and through cells, and a loop in it that starts with a port is one of ports, but for the nodes between. In the graph
-//! that `condense` gives, a port reaches another exactly where it reads it through the cell (`IsCondensed`), and after `condense_graph` each output
-//! leads to the same inputs (`LeadsAlike`). What `tell` says of outputs and
-//! inputs, by their nodes, is so in the graph (`IsTold`).
+//! that `condense` gives, a port reaches another exactly where it reads it through the cell (`IsCondensed`), and after `condense_graph`
+//! each output leads to the same inputs (`LeadsAlike`). What `tell` says of outputs and inputs, by their nodes, is so in the graph
+//! (`IsTold`).
 #![tactic(auto)]
 
 mod cell;
