@@ -5,18 +5,20 @@ usage: gate.py [FOLDER]      the clone is made in FOLDER, or in a new folder bel
 
 A crate's time is told in three parts, in processor minutes: its own proof, the proof with its tests, and its must-fail
 edits. The time of each run of the prover is read from /proc twice a second, so the last half second of a run may be missed.
+So is its memory: the most that a run of the crate held, and the most that all runs held at once, in GB.
 The gate's own lines go to FOLDER/gate.log."""
 import collections, os, pathlib, subprocess, sys, tempfile, time
 
 TICKS = os.sysconf("SC_CLK_TCK")
+PAGE = os.sysconf("SC_PAGE_SIZE")
 PARTS = ("proof", "tests", "edits")
 
 
 def status_of(process):
-    """A process's parent, its start, and its processor seconds: its own, and those of its children that have ended."""
+    """A process's parent, its start, its processor seconds (its own, and those of its children that have ended), and its bytes of memory."""
     fields = (process / "stat").read_text().rsplit(")", 1)[1].split()
     own, ended = int(fields[11]) + int(fields[12]), int(fields[13]) + int(fields[14])
-    return fields[1], fields[19], own / TICKS, ended / TICKS
+    return fields[1], fields[19], own / TICKS, ended / TICKS, int(fields[21]) * PAGE
 
 
 def part_of(process, clone):
@@ -33,7 +35,7 @@ def part_of(process, clone):
 
 
 def runs_now(clone):
-    """The runs of the prover that are under way, each with its crate, its part and its processor seconds so far."""
+    """The runs of the prover that are under way, each with its crate, its part, its processor seconds so far and its bytes of memory."""
     found = {}
     for process in pathlib.Path("/proc").iterdir():
         try:
@@ -43,36 +45,40 @@ def runs_now(clone):
         except OSError:
             pass
     runs = {}
-    for number, (part, parent, start, own, ended) in found.items():
+    for number, (part, parent, start, own, ended, held) in found.items():
         # The prover works in copies of itself: the time of those that have ended is their parent's.
         top = parent if parent in found else number
         run = top, found[top][2]
         seconds = own if parent in found else own + ended
-        runs[run] = part, runs.get(run, (part, 0))[1] + seconds
+        _, before, beside = runs.get(run, (part, 0, 0))
+        runs[run] = part, before + seconds, beside + held
     return runs
 
 
 def watch(gate, clone):
-    """The processor seconds of each crate's parts until the gate ends."""
-    seen = {}
+    """The processor seconds of each crate's parts until the gate ends; and the most memory of each crate, and of all at once under None."""
+    seen, most = {}, collections.Counter()
     while gate.poll() is None:
-        for run, (part, seconds) in runs_now(clone).items():
+        runs = runs_now(clone)
+        for run, (part, seconds, held) in runs.items():
             seen[run] = part, max(seconds, seen.get(run, (part, 0))[1])
+            most[part[0]] = max(most[part[0]], held)
+        most[None] = max(most[None], sum(held for _, _, held in runs.values()))
         time.sleep(0.5)
     sums = collections.Counter()
     for part, seconds in seen.values():
         sums[part] += seconds
-    return sums
+    return sums, most
 
 
-def show(sums):
+def show(sums, most):
     """The table, in the form of gate.md."""
     crates = sorted({crate for crate, _ in sums})
-    print("| Crate | Proof | Tests | Edits | Sum |\n|---|---|---|---|---|")
+    print("| Crate | Proof | Tests | Edits | Sum | Memory |\n|---|---|---|---|---|---|")
     for crate in [*crates, None]:
         minutes = [sum(s for (name, part), s in sums.items() if part == it and crate in (name, None)) / 60 for it in PARTS]
         cells = [f"{it:.1f}" if it >= 0.05 else "" for it in minutes]
-        print(f"| {f'`{crate}`' if crate else 'all'} | {' | '.join(cells)} | {sum(minutes):.1f} |")
+        print(f"| {f'`{crate}`' if crate else 'all'} | {' | '.join(cells)} | {sum(minutes):.1f} | {most[crate] / 1e9:.1f} |")
 
 
 def main():
@@ -83,8 +89,8 @@ def main():
     started = time.time()
     with open(room / "gate.log", "w") as log:
         gate = subprocess.Popen([".ci/run"], cwd=clone, stdin=subprocess.DEVNULL, stdout=log, stderr=log)
-        sums = watch(gate, clone)
-    show(sums)
+        sums, most = watch(gate, clone)
+    show(sums, most)
     print(f"\n{(room / 'gate.log').read_text().splitlines()[-1]}; {(time.time() - started) / 60:.0f} minutes on {os.cpu_count()} processors")
     return gate.returncode
 
