@@ -1,0 +1,83 @@
+//! A list of cases: its lines, one after another.
+use crate::answer::ask;
+use crate::comparison::answer;
+use crate::line::{Call, Line, Piece, Question};
+use crate::text::Draft;
+use crate::transcript::Transcript;
+use anyhow::{Context, Result, bail};
+use std::fs;
+
+/// A list under way.
+#[derive(Drop)]
+struct Cases<'a, 't> {
+    rt: &'a HostRuntime,
+    /// The file whose text is being read, until a line comes that is none of its text.
+    draft: Option<Draft<'t>>,
+}
+
+/// Does what the list of this name says, and writes the transcript.
+pub fn run_list(rt: &HostRuntime, name: &str, transcript: &mut Transcript) -> Result<()> {
+    transcript.line("== ", name)?;
+    let list = fs::read_to_string(rt, name).context(name)?;
+    let mut cases = Cases { rt, draft: None };
+    for (place, line) in list.lines().enumerate() {
+        let number = place.saturating_add(1);
+        cases
+            .take(line, transcript)
+            .context(format_args!("{name} line {number}"))?;
+    }
+    cases.write_draft()
+}
+
+impl<'t> Cases<'_, 't> {
+    /// Does what the line says.
+    fn take(&mut self, line: &'t str, transcript: &mut Transcript) -> Result<()> {
+        let line = Line::read(self.rt.alloc(), line)?;
+        if let Line::Text(piece) = line {
+            return self.push(&piece);
+        }
+        self.write_draft()?;
+        match line {
+            Line::File(name) => {
+                self.draft = Some(Draft::new(self.rt.alloc(), name));
+                Ok(())
+            }
+            Line::Title(title) => transcript.line("", title),
+            Line::Call(call) => self.call(&call, transcript),
+            Line::Question(question) => self.ask(&question, transcript),
+            Line::Blank | Line::Text(_) => transcript.line("", ""),
+        }
+    }
+
+    /// Puts the piece at the end of the file's text.
+    fn push(&mut self, piece: &Piece<'_>) -> Result<()> {
+        match &mut self.draft {
+            Some(draft) => draft.push(self.rt, piece),
+            None => bail!("this text is no file's"),
+        }
+    }
+
+    /// Writes the file whose text has been read.
+    fn write_draft(&mut self) -> Result<()> {
+        match self.draft.take() {
+            Some(draft) => draft.write(self.rt),
+            None => Ok(()),
+        }
+    }
+
+    /// Calls the program, and keeps the report where the call says so.
+    fn call(&self, call: &Call<'_>, transcript: &mut Transcript) -> Result<()> {
+        transcript.line("$", call.text)?;
+        let answer = ask(self.rt, &call.words)?;
+        if let Some(name) = call.keep {
+            fs::write(self.rt, name, answer.report.as_slice()).context(name)?;
+        }
+        transcript.answer(&answer, call.keep.is_none())
+    }
+
+    /// Answers the question.
+    fn ask(&self, question: &Question<'_>, transcript: &mut Transcript) -> Result<()> {
+        transcript.line("? ", question.text)?;
+        transcript.found(&answer(self.rt, &question.asked)?)
+    }
+}
