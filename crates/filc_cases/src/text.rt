@@ -1,4 +1,6 @@
 //! The text of a file, as the lines of a list say it.
+ghost use Rattle.std.specs.Prelude.{◌≡◌, [], ◌∷◌, ◌++◌, OnOk};
+
 use crate::line::{Part, Piece};
 use anyhow::{Context, Result};
 use std::alloc::{AllocError, Global};
@@ -13,7 +15,9 @@ pub struct Draft<'a> {
 
 impl<'a> Draft<'a> {
     /// A file of this name without a byte.
-    pub fn new(alloc: Global, name: &'a str) -> Draft<'a> {
+    pub fn new(alloc: Global, name: &'a str) -> Draft<'a>
+        ensures { result.bytes.items ≡ [] }
+    {
         Draft {
             name,
             bytes: Vec::new(alloc),
@@ -52,7 +56,9 @@ fn push_times(bytes: &mut Vec<u8>, part: &[u8], times: u64) -> Result<(), AllocE
 }
 
 /// Puts the line and a line feed at the end.
-fn push_line(bytes: &mut Vec<u8>, text: &str) -> Result<(), AllocError> {
+fn push_line(bytes: &mut Vec<u8>, text: &str) -> Result<(), AllocError>
+    ensures { OnOk result (bytes.new.items ≡ bytes.old.items ++ (text.now ++ 10 ∷ [])) }
+{
     bytes.extend_from_slice(text.as_bytes())?;
     bytes.push(b'\n')?;
     Ok(())
