@@ -1,4 +1,5 @@
 pub mod inside
+pub mod Disk
 pub mod Faults
 pub mod MemFiles
 pub mod MemSink

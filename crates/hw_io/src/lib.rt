@@ -18,15 +18,18 @@
 #![tactic(auto)]
 
 mod buffer;
+mod disk;
 mod disk_files;
 mod faults;
 mod mem_files;
 mod mem_sink;
 mod reading;
+mod retrying;
 mod std_sink;
 mod writing;
 
 pub use buffer::{Gather, HELD_BYTES};
+pub use disk::Disk;
 pub use disk_files::DiskFiles;
 pub use faults::Failed;
 pub use mem_files::{MemFile, MemFiles};

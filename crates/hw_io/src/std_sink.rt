@@ -1,12 +1,14 @@
-//! A stream of the system as a sink. What reaches a real stream is told by no contract.
-ghost use Rattle.std.specs.Prelude.{◌≡◌, None};
+//! A stream as a sink.
+ghost use Rattle.std.specs.Prelude.{◌≡◌};
 
 use crate::faults::{Failed, raised};
+use crate::retrying::write_some;
 use crate::writing::Sink;
 use std::io::Write;
 
-/// A stream to which bytes are written, and how often that failed. A write that takes nothing is a
-/// fault.
+/// A stream to which bytes are written, and how often that failed. What was written to it is what
+/// the stream holds. A write that takes nothing is a fault; one that a signal interrupts is tried
+/// again.
 #[derive(Drop)]
 pub struct StdSink<W> {
     to: W,
@@ -16,14 +18,15 @@ pub struct StdSink<W> {
 impl<W: Write> StdSink<W> {
     /// A sink for the stream, in which no fault was met.
     pub fn new(to: W) -> StdSink<W>
-        ensures { ⟦<StdSink<W> as Sink>⟧.faults result ≡ 0 }
+        ensures written { ⟦<StdSink<W> as Sink>⟧.written result ≡ W.contents to }
+        ensures no_fault { ⟦<StdSink<W> as Sink>⟧.faults result ≡ 0 }
     {
         StdSink { to, faults: 0 }
     }
 }
 
 impl<W: Write> Sink for StdSink<W> {
-    ghost written = { λ _. None };
+    ghost written = { λ sink. W.contents sink.to };
 
     ghost faults = { λ sink. sink.faults };
 
@@ -31,7 +34,7 @@ impl<W: Write> Sink for StdSink<W> {
         if bytes.is_empty() {
             return Ok(0);
         }
-        match self.to.write(bytes) {
+        match write_some(&mut self.to, bytes) {
             Ok(count) if count > 0 => Ok(count),
             _ => {
                 self.faults = raised(self.faults);
