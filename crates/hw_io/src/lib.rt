@@ -7,9 +7,10 @@
 //!     the same where the second piece fails                  Fault, and the file's count of faults is one more
 //!
 //! `Files` are known by names, each with a content and a count of faults; a `Sink` has the bytes that were written to it, and
-//! such a count. `MemFiles` and `MemSink`, for tests, fail in the calls that they are told. `DiskFiles` and `StdSink` are those
-//! of the system; what a real file holds and what reaches a real stream is told by no contract. `Gather` holds up to `HELD_BYTES`
-//! bytes, so that a sink gets few large pieces.
+//! such a count. `MemFiles` and `MemSink`, for tests, fail in the calls that they are told. `DiskFiles` reads what a `Disk` opens,
+//! each file opened once and read on; `StdSink` writes to a `Write` of std. Both tell what their disk and their stream tell; those of
+//! the system tell nothing. A call that a signal interrupts is tried again. `Gather` holds up to `HELD_BYTES` bytes, so that a sink
+//! gets few large pieces.
 //!
 //! What the layer above uses: `read_whole` gives the whole content, where one is told, if it is no longer than the limit, and
 //! `TooLong` only where it is longer. `write_whole` and `Gather` bring all bytes into the sink in their order, or at a fault a

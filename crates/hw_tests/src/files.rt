@@ -1,13 +1,7 @@
-//! Files and sinks in memory and of the system, with faults in mid-stream.
-use hw_io::{
-    DiskFiles, Failed, Files, Gather, MemFile, MemFiles, MemSink, ReadEnd, StdSink, read_whole,
-    write_whole,
-};
+//! Files and sinks in memory, with faults in mid-stream.
+use hw_io::{Failed, Files, Gather, MemFile, MemFiles, MemSink, ReadEnd, read_whole, write_whole};
 use std::alloc::{AllocError, Global};
-use std::fs::File;
-use std::io::Write;
 use std::test::Fail;
-use std::{env, fs, process};
 
 // One file, of this many bytes `x`, whose reading fails in these calls.
 fn files_of(alloc: Global, size: usize, fails: &[u64]) -> Result<MemFiles, AllocError> {
@@ -85,21 +79,5 @@ fn pushes_come_out_in_order(rt: HostRuntime) -> Result<(), Fail> {
     assert_eq!(rt; gather.flush(&mut sink), Ok(()));
     assert!(rt; sink.written().starts_with(b"one xx"));
     assert!(rt; sink.written().ends_with(b"xx two"));
-    Ok(())
-}
-
-#[test]
-fn a_stream_becomes_a_file(rt: HostRuntime) -> Result<(), Fail> {
-    let alloc = rt.alloc();
-    let folder = env::temp_dir(&rt)?;
-    let path = format!(in alloc; "{}/hw_io_{}", folder.as_str(), process::id(rt.process()))?;
-    let mut sink = StdSink::new(File::create(&rt, path.as_str())?);
-    assert_eq!(rt; write_whole(&mut sink, b"a stream"), Ok(()));
-    let mut files = DiskFiles::new(&rt, alloc, &["missing", path.as_str()])?;
-    let bytes = read_whole(alloc, &mut files, path.as_str(), 100);
-    fs::remove_file(&rt, path.as_str())?;
-    assert_eq!(rt; bytes?.as_slice(), b"a stream".as_slice());
-    assert_eq!(rt; files.piece(path.as_str(), 0, &mut [0; 4]), Err(Failed));
-    assert_eq!(rt; files.piece("unknown", 0, &mut [0; 4]), Err(Failed));
     Ok(())
 }

@@ -14,6 +14,8 @@ mod bits;
 #[cfg(test)]
 mod cells;
 #[cfg(test)]
+mod disk;
+#[cfg(test)]
 mod files;
 #[cfg(test)]
 mod graphs;
