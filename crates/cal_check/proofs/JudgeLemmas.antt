@@ -10,23 +10,20 @@ use Rattle.cal_ast.specs.Rules.{Rule, Keeps, KeepsComponent, KeepsItem, KeepsRul
 use Rattle.cal_ast.specs.Tree.{Component, Design, component_tree, design_of}
 use Rattle.cal_ast.specs.declared.tree.CalComp.{CalComp}
 use Rattle.cal_ast.specs.declared.tree.CalDesign.{CalDesign}
-use Rattle.cal_check.specs.Around.{Around, KeepsAt, comp_at, design_at, earlier_at}
-use Rattle.cal_check.specs.inside.FirstLoop.{TellsFirstLoop}
-use Rattle.cal_check.specs.inside.Least.{place_of, rule_of}
-use Rattle.cal_check.specs.Told.{ComponentIs, IsFirstItem, TellsItem, TellsRefusal}
-use Rattle.cal_check.specs.declared.check.Looped.{Looped}
-use Rattle.cal_check.specs.declared.rule.CalEnd.{CalEnd}
-use Rattle.cal_check.specs.declared.rule.CalEnd.TheVariants.{Refused}
-use Rattle.cal_check.specs.declared.rule.CompEnd.{CompEnd}
-use Rattle.cal_check.specs.declared.rule.CompEnd.TheVariants.{Broken, Memory}
-use Rattle.cal_check.specs.declared.rule.Rule as code
-use Rattle.cal_check.specs.declared.rule.Rule.TheVariants as number
-use Rattle.cal_check.proofs.FoundLemmas.{to_map}
-
--- an end is passed up as it is
-pub passed_up : {T E : Type 0} (r : Result T E) (e : E) (P : E → Type 0) → IsErrAnd r (λ other. other ≡ e) → P e → IfErr r P
-passed_up (Ok x) e P is tells = tt
-passed_up (Err y) e P is tells = subst P (sym is) tells
+use Rattle.cal_place.specs.Around.{Around, KeepsAt, comp_at, design_at, earlier_at}
+use Rattle.cal_loops.specs.FirstLoop.{TellsFirstLoop}
+use Rattle.cal_rules.specs.LeastRule.{place_of, rule_of}
+use Rattle.cal_check.specs.inside.ComponentEnd.{ComponentIs}
+use Rattle.cal_rules.specs.FirstItem.{IsFirstItem, TellsItem}
+use Rattle.cal_check.specs.Refusals.{TellsRefusal}
+use Rattle.cal_loops.specs.declared.first_loop.Looped.{Looped}
+use Rattle.cal_check.specs.declared.refusal.CalEnd.{CalEnd}
+use Rattle.cal_check.specs.declared.refusal.CalEnd.TheVariants.{Refused}
+use Rattle.cal_rules.specs.declared.rule.CompEnd.{CompEnd}
+use Rattle.cal_rules.specs.declared.rule.CompEnd.TheVariants.{Broken, Memory}
+use Rattle.cal_rules.specs.declared.rule.Rule as code
+use Rattle.cal_rules.specs.declared.rule.Rule.TheVariants as number
+use Rattle.cal_place.proofs.FoundLemmas.{to_map}
 
 -- the components so far keep the rules
 abbrev pub KeepBefore : Design → ℕ → Type 0

@@ -16,21 +16,21 @@ use Rattle.cal_ast.specs.Tree.{CellDef, Component, Design, InBinding, OutBinding
 use Rattle.cal_ast.specs.Tree as tree
 use Rattle.cal_ast.specs.declared.tree.Control.{Control}
 use Rattle.cal_ast.specs.declared.tree.Control as code
-use Rattle.cal_check.specs.Mades.{AreMadeOf, IsMadeOf, made_component, made_primitive}
-use Rattle.cal_check.specs.Nests.{ArePartsFirst, HasPart}
-use Rattle.cal_check.specs.Signatures.{ShowsSignature, found}
-use Rattle.cal_check.specs.Tables.{AreMade}
+use Rattle.cal_place.specs.Prototypes.{AreMadeOf, IsMadeOf, made_component, made_primitive}
+use Rattle.cal_place.specs.Nesting.{ArePartsFirst, HasPart}
+use Rattle.cal_place.specs.Signatures.{ShowsSignature, found}
+use Rattle.cal_place.specs.Tables.{AreMade}
 use Rattle.cal_check.specs.inside.Totals.{AreOwn, ArePartsWhole, IsWhole}
-use Rattle.cal_check.specs.inside.Walks.{statements_from}
+use Rattle.cal_place.specs.Statements.{statements_from}
 use Rattle.cal_check.specs.Weight.{WithCells, CellsComeTo, NoCells, NoPart, APart, IsTold, cell_words, statement_weight}
-use Rattle.cal_check.specs.declared.made.Made.{Made}
-use Rattle.cal_check.specs.declared.made.Made.TheVariants as variant
-use Rattle.cal_check.specs.declared.signature.Signature.{Signature}
-use Rattle.cal_check.proofs.GraphLemmas.{exists_at}
-use Rattle.cal_check.proofs.ListLemmas.{one_more}
-use Rattle.cal_check.proofs.NestLemmas.{part_from_cell}
-use Rattle.cal_check.proofs.BranchLemmas.{trees}
-use Rattle.cal_check.proofs.RowLemmas.{seq_tree, par_tree}
+use Rattle.cal_place.specs.declared.prototype.Prototype.{Prototype}
+use Rattle.cal_place.specs.declared.prototype.Prototype.TheVariants as variant
+use Rattle.cal_place.specs.declared.signature.Signature.{Signature}
+use Rattle.cal_place.proofs.GraphLemmas.{exists_at}
+use Rattle.cal_place.proofs.ListLemmas.{one_more}
+use Rattle.cal_place.proofs.NestLemmas.{part_from_cell}
+use Rattle.cal_place.proofs.BranchLemmas.{trees}
+use Rattle.cal_place.proofs.RowLemmas.{seq_tree, par_tree}
 
 -- ---- sums
 
@@ -162,7 +162,7 @@ module _ (own : Component → ℕ) where
   own_all design k numbers end so_far = subst (λ xs. AreOwn xs own numbers) (take_all k design end) so_far
 
 -- what the cells of the component at hand are made of
-pub made_at : (design : Design) (mades : List (Vec (Option Made) Global)) (k : ℕ) (cells : Vec (Option Made) Global) (shown : List (Option Made)) → AreMade design mades → k < length mades → cells ≡ get_or mades k cells → shown ≡ cells.items
+pub made_at : (design : Design) (mades : List (Vec (Option Prototype) Global)) (k : ℕ) (cells : Vec (Option Prototype) Global) (shown : List (Option Prototype)) → AreMade design mades → k < length mades → cells ≡ get_or mades k cells → shown ≡ cells.items
     → (c : Component) × (slice_get design k ≡ Some c) × AreMadeOf design c.cells shown
 made_at design mades k cells shown are within is same =
     let c = exists_at design k (omega (arith, within, are.sized)) in
@@ -170,15 +170,15 @@ made_at design mades k cells shown are within is same =
     (c.0, c.1, subst (AreMadeOf design c.0.cells) (sym same) (are.each k c.0 cells c.1 at))
 
 -- a cell at hand is made so
-pub cell_made : (design : Design) (cells : List CellDef) (mades : List (Option Made)) (k : ℕ) (d : Option Made) → AreMadeOf design cells mades → k < length mades → (cell : CellDef) × (slice_get cells k ≡ Some cell) × IsMadeOf design cell (get_or mades k d)
+pub cell_made : (design : Design) (cells : List CellDef) (mades : List (Option Prototype)) (k : ℕ) (d : Option Prototype) → AreMadeOf design cells mades → k < length mades → (cell : CellDef) × (slice_get cells k ≡ Some cell) × IsMadeOf design cell (get_or mades k d)
 cell_made design cells mades k d are within =
     let cell = exists_at cells k (omega (arith, within, are.sized)) in
     (cell.0, cell.1, are.each k cell.0 (get_or mades k d) cell.1 (slice_get-get_or mades k d within))
 
-pub is_in_range : (design : Design) (cells : List CellDef) (mades : List (Option Made)) (k : ℕ) (d : Option Made) → AreMadeOf design cells mades → k < length mades → IfSome (option_and_then made_primitive (get_or mades k d)) IsMade
+pub is_in_range : (design : Design) (cells : List CellDef) (mades : List (Option Prototype)) (k : ℕ) (d : Option Prototype) → AreMadeOf design cells mades → k < length mades → IfSome (option_and_then made_primitive (get_or mades k d)) IsMade
 is_in_range design cells mades k d are within = let cell = cell_made design cells mades k d are within in cell.2.in_range
 
-pub words_step : (design : Design) (cells : List CellDef) (mades : List (Option Made)) (k : ℕ) (d : Option Made) (old one new : ℕ) → AreMadeOf design cells mades → k < length mades → old ≡ saturated (sum_by cell_words (take k cells))
+pub words_step : (design : Design) (cells : List CellDef) (mades : List (Option Prototype)) (k : ℕ) (d : Option Prototype) (old one new : ℕ) → AreMadeOf design cells mades → k < length mades → old ≡ saturated (sum_by cell_words (take k cells))
     → one ≡ made_words (option_and_then made_primitive (get_or mades k d)) → new ≡ saturated (old + one) → new ≡ saturated (sum_by cell_words (take (k + 1) cells))
 words_step design cells mades k d old one new are within so_far here is =
     let cell = cell_made design cells mades k d are within in
@@ -188,12 +188,12 @@ words_step design cells mades k d old one new are within so_far here is =
 -- ---- what components come to
 
 -- the components of cells are components of the design
-pub parts_within : (design : Design) (cells : List CellDef) (mades shown : List (Option Made)) (n : ℕ) → AreMadeOf design cells mades → shown ≡ mades → n ≡ length design → All (λ cell. IfSome (option_and_then made_component cell) (λ part. part < n)) shown
+pub parts_within : (design : Design) (cells : List CellDef) (mades shown : List (Option Prototype)) (n : ℕ) → AreMadeOf design cells mades → shown ≡ mades → n ≡ length design → All (λ cell. IfSome (option_and_then made_component cell) (λ part. part < n)) shown
 parts_within design cells mades shown n are same count =
-    let own : All (λ (cell : Option Made). IfSome (option_and_then made_component cell) (λ part. part < n)) mades = λ k d within.
+    let own : All (λ (cell : Option Prototype). IfSome (option_and_then made_component cell) (λ part. part < n)) mades = λ k d within.
     (let cell = cell_made design cells mades k d are within in
     subst (λ m. IfSome (option_and_then made_component (get_or mades k d)) (λ part. part < m)) (sym count) cell.2.within) in
-    subst (λ (l : List (Option Made)). All (λ (cell : Option Made). IfSome (option_and_then made_component cell) (λ part. part < n)) l) (sym same) own
+    subst (λ (l : List (Option Prototype)). All (λ (cell : Option Prototype). IfSome (option_and_then made_component cell) (λ part. part < n)) l) (sym same) own
 
 module _ (design : Design) (own : Component → ℕ) where
   -- one more cell
@@ -224,13 +224,13 @@ module _ (design : Design) (own : Component → ℕ) where
       is = omega (arith, is, so_far.is);
     }
 
-    pub cell_without : (made : Option Made) → IsMadeOf design cell made → option_and_then made_component made ≡ None → CellsWeigh (take (k + 1) c.cells) sum
+    pub cell_without : (made : Option Prototype) → IsMadeOf design cell made → option_and_then made_component made ≡ None → CellsWeigh (take (k + 1) c.cells) sum
     cell_without made is none =
         let no_part : part_of design cell ≡ None = is.part ∙ ap (option_and_then (slice_get design)) none in
         let e : sum ≡ saturated (sum + saturated 0) = (let f = so_far.is in omega (arith, f)) in
         put 0 sum (NoPart cell [] 0 no_part NoCells) e
 
-    pub cell_with : (made : Option Made) (m new : ℕ) → IsMadeOf design cell made → option_and_then made_component made ≡ Some m → new ≡ saturated (sum + get_or whole m 0) → CellsWeigh (take (k + 1) c.cells) new
+    pub cell_with : (made : Option Prototype) (m new : ℕ) → IsMadeOf design cell made → option_and_then made_component made ≡ Some m → new ≡ saturated (sum + get_or whole m 0) → CellsWeigh (take (k + 1) c.cells) new
     cell_with made m new is some more =
         let O : Option ℕ → Type 0 = λ o. IfSome o (λ number. number < length design) in
         let within : m < length design = subst O some is.within in
@@ -241,14 +241,14 @@ module _ (design : Design) (own : Component → ℕ) where
         let weighs = are.each m part.0 (get_or whole m 0) held part.1 (slice_get-get_or whole m 0 in_whole) in
         put (weighs.whole + 0) new (APart cell [] part.0 weighs.whole 0 made_of weighs.comes NoCells) (let w = weighs.is in omega (arith, more, w))
       where
-        held_by : (made : Option Made) (m : ℕ) → IsMadeOf design cell made → option_and_then made_component made ≡ Some m → HasPart design n m
+        held_by : (made : Option Prototype) (m : ℕ) → IsMadeOf design cell made → option_and_then made_component made ≡ Some m → HasPart design n m
         held_by None m is e = absurd (cc)
         held_by (Some (variant.Primitive prim)) m is e = absurd (cc)
         held_by (Some (variant.Component j)) m is e =
             let same : j ≡ m = same_Some j m e in
             subst (HasPart design n) same (part_from_cell design n j c at cell (Contains-at c.cells k cell there) is)
 
-    pub cell_weighs : (made : Option Made) (x new : ℕ) → IsMadeOf design cell made → MatchOption (option_and_then made_component made) (x ≡ 0) (λ part. x ≡ get_or whole part 0) → new ≡ saturated (sum + x) → CellsWeigh (take (k + 1) c.cells) new
+    pub cell_weighs : (made : Option Prototype) (x new : ℕ) → IsMadeOf design cell made → MatchOption (option_and_then made_component made) (x ≡ 0) (λ part. x ≡ get_or whole part 0) → new ≡ saturated (sum + x) → CellsWeigh (take (k + 1) c.cells) new
     cell_weighs made x new is told more = by (option_and_then made_component made) refl told
       where
         by : (o : Option ℕ) → option_and_then made_component made ≡ o → MatchOption o (x ≡ 0) (λ part. x ≡ get_or whole part 0) → CellsWeigh (take (k + 1) c.cells) new
@@ -258,7 +258,7 @@ module _ (design : Design) (own : Component → ℕ) where
         by (Some m) e one = cell_with made m new is e (omega (arith, one, more))
 
   -- one cell more, and all of them
-  pub cells_step : (n : ℕ) (c : Component) (mades : List (Option Made)) (whole : List ℕ) (k : ℕ) (d : Option Made) (sum x new : ℕ) → slice_get design n ≡ Some c → AreMadeOf design c.cells mades → ArePartsWhole design own n whole → k < length mades → CellsWeigh (take k c.cells) sum
+  pub cells_step : (n : ℕ) (c : Component) (mades : List (Option Prototype)) (whole : List ℕ) (k : ℕ) (d : Option Prototype) (sum x new : ℕ) → slice_get design n ≡ Some c → AreMadeOf design c.cells mades → ArePartsWhole design own n whole → k < length mades → CellsWeigh (take k c.cells) sum
       → MatchOption (option_and_then made_component (get_or mades k d)) (x ≡ 0) (λ part. x ≡ get_or whole part 0) → new ≡ saturated (sum + x) → CellsWeigh (take (k + 1) c.cells) new
   cells_step n c mades whole k d sum x new at are parts within so_far told more =
       let cell = cell_made design c.cells mades k d are within in

@@ -1,11 +1,3 @@
 pub mod inside
-pub mod Around
-pub mod Firsts
-pub mod Holders
-pub mod Mades
-pub mod Nests
-pub mod Signatures
-pub mod Stands
-pub mod Tables
-pub mod Told
+pub mod Refusals
 pub mod Weight

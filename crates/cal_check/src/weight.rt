@@ -10,19 +10,15 @@ ghost use Rattle.cal_ast.specs.Top.{IsTop};
 ghost use Rattle.cal_ast.specs.Tree.{CellDef, Component, Design, assignment_tree, component_tree, control_tree, design_of, done_tree, group_tree, port_tree, statement_tree};
 ghost use Rattle.hw_prims.specs.Table.{IsMade};
 ghost use Rattle.net_core.specs.Words.{made_words};
-ghost use Rattle.cal_check.specs.Mades.{AreMadeOf, made_component, made_primitive};
-ghost use Rattle.cal_check.specs.Signatures.{ShowsSignature};
-ghost use Rattle.cal_check.specs.Tables.{AreMade, AreSignatures, ShowsTables};
+ghost use Rattle.cal_place.specs.Prototypes.{AreMadeOf, made_component, made_primitive};
+ghost use Rattle.cal_place.specs.Signatures.{ShowsSignature};
+ghost use Rattle.cal_place.specs.Tables.{AreMade, AreSignatures, ShowsTables};
 ghost use Rattle.cal_check.specs.inside.Totals.{AreOwn, ArePartsWhole};
-ghost use Rattle.cal_check.specs.inside.Walks.{statements_from};
+ghost use Rattle.cal_place.specs.Statements.{statements_from};
 ghost use Rattle.cal_check.specs.Weight.{AreWords, CellsComeTo, IsTold, IsWeight, assignment_weight, cell_words, done_weight, group_weight, own_weight, own_words, statement_weight};
 
-use crate::component::is_empty_seq;
-use crate::made::{Made, component_of};
-use crate::nesting::{Nesting, PartOrder};
-use crate::signature::Signature;
-use crate::tables::Tables;
 use cal_ast::{Assign, CalComp, CalDesign, CalOk, CalPort, Control, ControlPart, DoneSet, Group};
+use cal_place::{Nesting, PartOrder, Prototype, Signature, Tables, component_of, is_empty_seq};
 use hw_bits::Memory;
 use net_core::{Guard, guard_nodes};
 use std::alloc::Global;
@@ -166,18 +162,18 @@ fn own_weights(
 }
 
 /// The words of what a cell is made of, if it is a memory's.
-fn words_of(made: Option<Made>) -> u64
+fn words_of(made: Option<Prototype>) -> u64
     requires { IfSome (option_and_then made_primitive made) IsMade }
     ensures { result ≡ made_words (option_and_then made_primitive made) }
 {
     match made {
-        Some(Made::Primitive(prim)) => prim.word_count(),
+        Some(Prototype::Primitive(prim)) => prim.word_count(),
         _ => 0,
     }
 }
 
 /// The words of the memories that are cells of a component.
-fn own_words(made: &[Option<Made>]) -> u64
+fn own_words(made: &[Option<Prototype>]) -> u64
     requires { (design : Design) × (cells : List CellDef) × AreMadeOf design cells made.now }
     ensures { (design : Design) (cells : List CellDef) → AreMadeOf design cells made.now → result ≡ saturated (sum_by cell_words cells) }
 {
@@ -189,7 +185,7 @@ fn own_words(made: &[Option<Made>]) -> u64
 }
 
 /// The words of the memories that are cells of each component.
-fn own_words_of_each(alloc: Global, made: &[Vec<Option<Made>>]) -> Result<Vec<u64>, Memory>
+fn own_words_of_each(alloc: Global, made: &[Vec<Option<Prototype>>]) -> Result<Vec<u64>, Memory>
     requires { (design : Design) × AreMade design made.now }
     ensures { (design : Design) → AreMade design made.now → IfOk result (λ words. AreOwn design own_words words.items) }
 {
@@ -216,7 +212,7 @@ fn top_of(design: &CalDesign) -> usize
 }
 
 /// What the component of a cell comes to; nothing where it is made of none.
-fn part_comes_to(whole: &[u64], made: Option<Made>) -> u64
+fn part_comes_to(whole: &[u64], made: Option<Prototype>) -> u64
     requires { IfSome (option_and_then made_component made) (λ part. part < length whole.now) }
     ensures { MatchOption (option_and_then made_component made) (result ≡ 0) (λ part. result ≡ slice_index whole.now part) }
 {
@@ -227,7 +223,7 @@ fn part_comes_to(whole: &[u64], made: Option<Made>) -> u64
 }
 
 /// The sum of what the components of cells come to.
-fn cells_come_to(whole: &[u64], made: &[Option<Made>]) -> u64
+fn cells_come_to(whole: &[u64], made: &[Option<Prototype>]) -> u64
     requires { All (λ cell. IfSome (option_and_then made_component cell) (λ part. part < length whole.now)) made.now }
     ensures { (design : Design) (own : Component → ℕ) (n : ℕ) (c : Component) → slice_get design n ≡ Some c → AreMadeOf design c.cells made.now
         → ArePartsWhole design own n whole.now → (parts : ℕ) × CellsComeTo design own c.cells parts × (result ≡ saturated parts) }

@@ -4,7 +4,7 @@ ghost use Rattle.hw_io.specs.Reading.{KeepsFiles, IsReadFault};
 ghost use Rattle.cal_ast.specs.Numbers.{HasNumbers};
 ghost use Rattle.cal_ast.specs.Rules.{CalRules};
 ghost use Rattle.cal_ast.specs.Tree.{design_of};
-ghost use Rattle.cal_check.specs.Told.{TellsRefusal};
+ghost use Rattle.cal_check.specs.Refusals.{TellsRefusal};
 ghost use Rattle.cal_parse.specs.Spelling.{EndsBy};
 ghost use Rattle.cal_parse.specs.declared.parse.CalTextEnd.{CalTextEnd};
 ghost use Rattle.cal_parse.specs.Written.{DesignIsWritten};

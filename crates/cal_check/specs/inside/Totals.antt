@@ -2,7 +2,7 @@
 use Rattle.std.specs.Prelude.{◌≡◌, ℕ, List, length, slice_get, Some}
 use Rattle.net_core.specs.Weight.{saturated}
 use Rattle.cal_ast.specs.Tree.{Component, Design}
-use Rattle.cal_check.specs.Nests.{HasPart}
+use Rattle.cal_place.specs.Nesting.{HasPart}
 use Rattle.cal_check.specs.Weight.{ComesTo}
 
 -- what each component has of its own

@@ -1,12 +1,13 @@
 use Rattle.std.proofs.Common.{◌≡◌, Option, Some, length, slice_get, refl, sym, subst, arith}
 use Rattle.std.proofs.lemmas.Option.{slice_get_read}
 use Rattle.cal_ast.specs.Tree.{design_of}
-use Rattle.cal_check.specs.inside.FirstLoop.{TellsFirstLoop}
-use Rattle.cal_check.specs.Tables.{AreMade}
-use Rattle.cal_check.specs.Told.{TellsRefusal}
-use Rattle.cal_check.specs.declared.check.Looped.{Looped}
-use Rattle.cal_check.specs.declared.rule.CalEnd.TheVariants as design
-use Rattle.cal_check.proofs.JudgeLemmas.{looped, looped_within, passed_up}
+use Rattle.cal_loops.specs.FirstLoop.{TellsFirstLoop}
+use Rattle.cal_place.specs.Tables.{AreMade}
+use Rattle.cal_check.specs.Refusals.{TellsRefusal}
+use Rattle.cal_loops.specs.declared.first_loop.Looped.{Looped}
+use Rattle.cal_check.specs.declared.refusal.CalEnd.TheVariants as design
+use Rattle.cal_check.proofs.JudgeLemmas.{looped, looped_within}
+use Rattle.cal_place.proofs.EndLemmas.{passed_up}
 use Rattle.cal_check.proofs.check.check_calyx.Goals as goal
 
 pub of-requires-2 : goal.of-requires-2
@@ -23,19 +24,6 @@ pub first_looped-requires-clause-nesting : goal.first_looped-requires-clause-nes
 first_looped-requires-clause-nesting c =
     let d = design_of c.args.design.now in
     c.in_ok-nesting.ensures d (subst (AreMade d) (sym c.deref.ensures.value) c.in_ok-tables.ensures.made)
-
-pub have_levels-requires-clause-nesting : goal.have_levels-requires-clause-nesting
-have_levels-requires-clause-nesting c =
-    let d = design_of c.args.design.now in
-    c.in_ok-nesting.ensures d (subst (AreMade d) (sym c.deref.ensures.value) c.in_ok-tables.ensures.made)
-
-pub new-requires-clause-rules : goal.new-requires-clause-rules
-new-requires-clause-rules c =
-    record { keeps = c.in_ok-judge_components.ensures.kept; no_loop = c.in_ok-have_levels.ensures c.if-branch.true }
-
-pub returns-in_err-have_levels-clause-refused : goal.returns-in_err-have_levels-clause-refused
-returns-in_err-have_levels-clause-refused c =
-    passed_up c.from_residual-in_err-have_levels.result design.Memory (TellsRefusal c.args.design.now) c.from_residual-in_err-have_levels.ensures.1 tt
 
 pub returns-in-None-clause-kept : goal.returns-in-None-clause-kept
 returns-in-None-clause-kept c =

@@ -1,7 +1,7 @@
 use Rattle.std.proofs.Common.{ℕ, refl, sym, ap, subst}
-use Rattle.cal_check.specs.Told.{ComponentIs}
-use Rattle.cal_check.specs.declared.rule.CalEnd.TheVariants.{Refused, Memory}
-use Rattle.cal_check.specs.declared.rule.CompEnd.{CompEnd}
+use Rattle.cal_check.specs.inside.ComponentEnd.{ComponentIs}
+use Rattle.cal_check.specs.declared.refusal.CalEnd.TheVariants.{Refused, Memory}
+use Rattle.cal_rules.specs.declared.rule.CompEnd.{CompEnd}
 use Rattle.cal_check.proofs.check.in_component.Goals as goal
 
 pub returns-in-Broken : goal.returns-in-Broken

@@ -1,10 +1,11 @@
 use Rattle.std.proofs.Common.{◌≡◌, ◌≤◌, length, slice_get, Some, ap, arith}
 use Rattle.std.proofs.lemmas.List.{length-map}
 use Rattle.cal_ast.specs.Tree.{component_tree, design_of}
-use Rattle.cal_check.specs.Told.{TellsRefusal}
-use Rattle.cal_check.specs.declared.rule.CalEnd.TheVariants as design
-use Rattle.cal_check.proofs.JudgeLemmas.{all_keep, component_ends, component_kept, keep_more, passed_up}
-use Rattle.cal_check.proofs.ListLemmas.{at_mapped}
+use Rattle.cal_check.specs.Refusals.{TellsRefusal}
+use Rattle.cal_check.specs.declared.refusal.CalEnd.TheVariants as design
+use Rattle.cal_check.proofs.JudgeLemmas.{all_keep, component_ends, component_kept, keep_more}
+use Rattle.cal_place.proofs.EndLemmas.{passed_up}
+use Rattle.cal_place.proofs.ListLemmas.{at_mapped}
 use Rattle.cal_check.proofs.check.judge_components.Goals as goal
 
 pub of-requires-clause-number : goal.of-requires-clause-number

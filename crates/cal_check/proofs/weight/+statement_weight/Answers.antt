@@ -4,10 +4,10 @@ use Rattle.net_core.specs.Weight.{saturated}
 use Rattle.cal_ast.specs.Items.{statements_in, statements_of}
 use Rattle.cal_ast.specs.Tree.{Statement, in_tree, out_tree, statement_tree}
 use Rattle.cal_ast.specs.declared.tree.Control.{Control}
-use Rattle.cal_check.specs.inside.Walks.{statements_from}
+use Rattle.cal_place.specs.Statements.{statements_from}
 use Rattle.cal_check.specs.Weight.{statement_weight}
-use Rattle.cal_check.proofs.BranchLemmas.{branch_none, branch_some, branch_statements, trees}
-use Rattle.cal_check.proofs.ListLemmas.{at_mapped}
+use Rattle.cal_place.proofs.BranchLemmas.{branch_none, branch_some, branch_statements, trees}
+use Rattle.cal_place.proofs.ListLemmas.{at_mapped}
 use Rattle.cal_check.proofs.WeightLemmas.{sum_all, sum_step, weighed, weight_enable, weight_if, weight_invoke, weight_of_list, weight_par, weight_seq, weight_while}
 use Rattle.cal_check.proofs.weight.+statement_weight.Goals as goal
 

@@ -2,10 +2,10 @@ use Rattle.std.proofs.Common.{ℕ, List, IfOk, length, sym, subst, ap, arith}
 use Rattle.std.proofs.lemmas.List.{length-map}
 use Rattle.cal_ast.specs.Tree.{component_tree, design_of}
 use Rattle.cal_ast.specs.declared.tree.CalDesign.{CalDesign}
-use Rattle.cal_check.specs.Tables.{AreSignatures}
+use Rattle.cal_place.specs.Tables.{AreSignatures}
 use Rattle.cal_check.specs.inside.Totals.{AreOwn}
 use Rattle.cal_check.specs.Weight.{IsTold, own_weight}
-use Rattle.cal_check.specs.declared.signature.Signature.{Signature}
+use Rattle.cal_place.specs.declared.signature.Signature.{Signature}
 use Rattle.cal_check.proofs.weight.cal_weight.Goals as goal
 
 pub own_weights-requires : goal.own_weights-requires

@@ -1,6 +1,6 @@
 use Rattle.std.proofs.Common.{◌≡◌, ℕ, Some, slice_get, take}
 use Rattle.cal_ast.specs.Tree.{Component, Design}
-use Rattle.cal_check.specs.Mades.{AreMadeOf}
+use Rattle.cal_place.specs.Prototypes.{AreMadeOf}
 use Rattle.cal_check.specs.inside.Totals.{ArePartsWhole}
 use Rattle.cal_check.proofs.WeightLemmas.{CellsWeigh}
 use Rattle.cal_check.proofs.weight.cells_come_to.Given as goal

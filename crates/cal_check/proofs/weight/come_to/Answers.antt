@@ -2,27 +2,27 @@ use Rattle.std.proofs.Common.{◌≡◌, ◌<◌, ℕ, List, Vec, Global, Option
 use Rattle.std.proofs.lemmas.List.{get_or_read, length-map, length-set}
 use Rattle.std.proofs.lemmas.Option.{slice_get-get_or}
 use Rattle.cal_ast.specs.Tree.{Component, Design, component_tree, design_of}
-use Rattle.cal_check.specs.Mades.{AreMadeOf}
-use Rattle.cal_check.specs.Nests.{ArePartsFirst, ShowsOrder}
-use Rattle.cal_check.specs.Tables.{AreMade}
+use Rattle.cal_place.specs.Prototypes.{AreMadeOf}
+use Rattle.cal_place.specs.Nesting.{ArePartsFirst, ShowsOrder}
+use Rattle.cal_place.specs.Tables.{AreMade}
 use Rattle.cal_check.specs.inside.Totals.{ArePartsWhole}
-use Rattle.cal_check.specs.declared.made.Made.{Made}
-use Rattle.cal_check.specs.declared.nesting.PartOrder.{PartOrder}
-use Rattle.cal_check.specs.declared.nesting.PartOrder.TheVariants.{Parts}
-use Rattle.cal_check.proofs.LoopedLemmas.{no_other_order, parts_first}
+use Rattle.cal_place.specs.declared.prototype.Prototype.{Prototype}
+use Rattle.cal_place.specs.declared.nesting.PartOrder.{PartOrder}
+use Rattle.cal_place.specs.declared.nesting.PartOrder.TheVariants.{Parts}
+use Rattle.cal_place.proofs.PartOrderLemmas.{no_other_order, parts_first}
 use Rattle.cal_check.proofs.WeightLemmas.{CellsWeigh, made_at, parts_whole, parts_within, told_top, weigh_more, weigh_none}
 use Rattle.cal_check.proofs.weight.come_to.Goals as goal
 
 pub of-requires : goal.of-requires
 of-requires c =
     let d = design_of c.args.design.now in
-    let M : List (Vec (Option Made) Global) → Type 0 = λ l. AreMade d l in
+    let M : List (Vec (Option Prototype) Global) → Type 0 = λ l. AreMade d l in
     (d, subst M (sym c.deref.ensures.value) c.requires.tables.made)
 
 pub unreachable-requires : goal.unreachable-requires
 unreachable-requires c =
     let d = design_of c.args.design.now in
-    let M : List (Vec (Option Made) Global) → Type 0 = λ l. AreMade d l in
+    let M : List (Vec (Option Prototype) Global) → Type 0 = λ l. AreMade d l in
     let shows = c.in_ok-nesting.ensures d (subst M (sym c.deref.ensures.value) c.requires.tables.made) in
     no_other_order d c.requires.rules.keeps c.in_ok-nesting.nesting.order shows.order c.in_default.not-Parts
 
@@ -38,14 +38,14 @@ first_in : (design : Design) (order : PartOrder) (parts : Vec ℕ Global) (items
 first_in design order parts items is shows same = subst (ArePartsFirst design) (sym same) (parts_first design order parts is shows)
 
 -- what the cells of the component at hand are made of
-hand : (design : Design) (mades : List (Vec (Option Made) Global)) (number : ℕ) (cells : Vec (Option Made) Global) → AreMade design mades → number < length design → cells ≡ get_or mades number cells
+hand : (design : Design) (mades : List (Vec (Option Prototype) Global)) (number : ℕ) (cells : Vec (Option Prototype) Global) → AreMade design mades → number < length design → cells ≡ get_or mades number cells
     → (c : Component) × (slice_get design number ≡ Some c) × AreMadeOf design c.cells cells.items
 hand design mades number cells are within is = made_at design mades number cells cells.items are (omega (arith, within, are.sized)) is refl
 
 pub cells_come_to-parts-requires : goal.cells_come_to-parts-requires
 cells_come_to-parts-requires c =
     let d = design_of c.args.design.now in
-    let M : List (Vec (Option Made) Global) → Type 0 = λ l. AreMade d l in
+    let M : List (Vec (Option Prototype) Global) → Type 0 = λ l. AreMade d l in
     let shows = c.in_ok-nesting.ensures d (subst M (sym c.deref.ensures.value) c.requires.tables.made) in
     let items = c.deref-number-items.result.now in
     let k = c.loop-number.number-index in
@@ -58,7 +58,7 @@ cells_come_to-parts-requires c =
 pub loop-number-preserved : goal.loop-number-preserved
 loop-number-preserved c =
     let d = design_of c.args.design.now in
-    let M : List (Vec (Option Made) Global) → Type 0 = λ l. AreMade d l in
+    let M : List (Vec (Option Prototype) Global) → Type 0 = λ l. AreMade d l in
     let shows = c.in_ok-nesting.ensures d (subst M (sym c.deref.ensures.value) c.requires.tables.made) in
     let items = c.deref-number-items.result.now in
     let k = c.loop-number.number-index in
@@ -84,7 +84,7 @@ loop-number-preserved c =
 pub returns : goal.returns
 returns c = λ own_of own.
     let d = design_of c.args.design.now in
-    let M : List (Vec (Option Made) Global) → Type 0 = λ l. AreMade d l in
+    let M : List (Vec (Option Prototype) Global) → Type 0 = λ l. AreMade d l in
     let shows = c.in_ok-nesting.ensures d (subst M (sym c.deref.ensures.value) c.requires.tables.made) in
     let items = c.deref-number-items.result.now in
     let first = first_in d c.in_ok-nesting.nesting.order c.in-Parts.order items c.in-Parts.is shows.order c.deref-number-items.ensures.value in

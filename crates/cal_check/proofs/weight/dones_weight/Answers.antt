@@ -3,7 +3,7 @@ use Rattle.std.proofs.lemmas.List.{length-map}
 use Rattle.net_core.specs.Weight.{saturated}
 use Rattle.cal_ast.specs.Tree.{done_tree}
 use Rattle.cal_check.specs.Weight.{done_weight}
-use Rattle.cal_check.proofs.ListLemmas.{at_mapped}
+use Rattle.cal_place.proofs.ListLemmas.{at_mapped}
 use Rattle.cal_check.proofs.WeightLemmas.{line_step, sum_all}
 use Rattle.cal_check.proofs.weight.dones_weight.Goals as goal
 

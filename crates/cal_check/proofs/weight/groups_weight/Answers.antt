@@ -5,7 +5,7 @@ use Rattle.cal_ast.specs.Tree.{assignment_tree, done_tree, group_tree}
 use Rattle.cal_ast.specs.declared.tree.Assign.{Assign}
 use Rattle.cal_ast.specs.declared.tree.DoneSet.{DoneSet}
 use Rattle.cal_check.specs.Weight.{assignment_weight, done_weight, group_weight}
-use Rattle.cal_check.proofs.ListLemmas.{at_mapped}
+use Rattle.cal_place.proofs.ListLemmas.{at_mapped}
 use Rattle.cal_check.proofs.WeightLemmas.{both_counted, sum_all, sum_step}
 use Rattle.cal_check.proofs.weight.groups_weight.Goals as goal
 

@@ -3,7 +3,7 @@ use Rattle.std.proofs.lemmas.List.{length-map}
 use Rattle.std.proofs.lemmas.Option.{slice_get_read}
 use Rattle.cal_ast.specs.Tree.{component_tree, design_of}
 use Rattle.cal_check.specs.Weight.{own_weight}
-use Rattle.cal_check.proofs.ListLemmas.{at_mapped}
+use Rattle.cal_place.proofs.ListLemmas.{at_mapped}
 use Rattle.cal_check.proofs.WeightLemmas.{own_all, own_more, own_none}
 use Rattle.cal_check.proofs.weight.own_weights.Goals as goal
 

@@ -1,7 +1,7 @@
 use Rattle.std.proofs.Common.{sym, subst, ◌∙◌}
 use Rattle.hw_names.proofs.NameLemmas.{text_of-slice_get}
-use Rattle.cal_check.specs.Told.{TellsRefusal}
-use Rattle.cal_check.specs.declared.rule.CalEnd.{CalEnd}
+use Rattle.cal_check.specs.Refusals.{TellsRefusal}
+use Rattle.cal_check.specs.declared.refusal.CalEnd.{CalEnd}
 use Rattle.filc_load.proofs.CalLemmas.{refusal_number, design_refused}
 use Rattle.filc_load.proofs.cal_file.unfit.Goals as goal
 

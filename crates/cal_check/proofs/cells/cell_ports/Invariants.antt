@@ -1,7 +1,0 @@
-use Rattle.cal_check.specs.Around.{comp_at, design_at}
-use Rattle.cal_check.proofs.CellPinLemmas.{AreCellPortsBelow}
-use Rattle.cal_check.proofs.cells.cell_ports.Given as goal
-
--- those of the nodes so far
-abbrev pub invariant-loop-node : goal.invariant-loop-node
-invariant-loop-node l = AreCellPortsBelow (design_at l.place) (comp_at l.place) l.graph l.node l.entries.items

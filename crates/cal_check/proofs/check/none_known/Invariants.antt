@@ -1,6 +1,0 @@
-use Rattle.std.proofs.Common.{◌≡◌, None}
-use Rattle.std.specs.Prelude.{replicate}
-use Rattle.cal_check.proofs.check.none_known.Given as goal
-
-abbrev pub invariant-loop : goal.invariant-loop
-invariant-loop l = l.insides.items ≡ replicate l.counter None

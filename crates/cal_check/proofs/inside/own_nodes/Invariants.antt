@@ -1,7 +1,0 @@
-use Rattle.cal_check.specs.Around.{comp_at}
-use Rattle.cal_check.proofs.InsideLemmas.{AreNodesTo}
-use Rattle.cal_check.proofs.inside.own_nodes.Given as goal
-
--- the nodes of so many ports
-abbrev pub invariant-loop-number : goal.invariant-loop-number
-invariant-loop-number l = AreNodesTo (comp_at l.place) l.ports.keys l.number l.nodes.items

@@ -1,9 +1,0 @@
-use Rattle.std.proofs.Common.{map, take}
-use Rattle.cal_ast.specs.Naming.{component_names}
-use Rattle.cal_ast.specs.Tree.{Design, cell_tree}
-use Rattle.cal_check.specs.Firsts.{ShowsFirsts}
-use Rattle.cal_check.specs.Mades.{AreMadeOf}
-use Rattle.cal_check.proofs.made.made_of_each.Given as goal
-
-abbrev pub invariant-loop-cell : goal.invariant-loop-cell
-invariant-loop-cell l = (design : Design) → ShowsFirsts l.comps (component_names design) → AreMadeOf design (take l.cell-index (map (cell_tree l.names) l.cells)) l.made.items

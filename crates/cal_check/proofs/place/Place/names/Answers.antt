@@ -1,6 +1,0 @@
-use Rattle.std.proofs.Common.{ap}
-use Rattle.cal_check.specs.Around.{Around}
-use Rattle.cal_check.proofs.place.Place.names.Goals as goal
-
-pub returns : goal.returns
-returns c = ap (λ (p : Around). p.design.names) c.self.view_is

@@ -1,8 +1,0 @@
-use Rattle.std.proofs.Common.{map, take}
-use Rattle.cal_ast.specs.Naming.{cell_names}
-use Rattle.cal_ast.specs.Tree.{cell_tree}
-use Rattle.cal_check.specs.Firsts.{ShowsFirsts}
-use Rattle.cal_check.proofs.place.cells_of.Given as goal
-
-abbrev pub invariant-loop-place : goal.invariant-loop-place
-invariant-loop-place l = ShowsFirsts l.firsts (take l.place (cell_names (map (cell_tree l.names) l.cells)))

@@ -1,4 +1,0 @@
-use Rattle.cal_check.proofs.tables.Tables.of.Goals as goal
-
-pub returns : goal.returns
-returns c = record { comps = c.in_ok-comps.ensures; signatures = c.in_ok-signatures.ensures; made = c.in_ok-made.ensures }

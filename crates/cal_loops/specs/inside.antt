@@ -1,0 +1,10 @@
+-- What only the functions inside the crate are specified by.
+pub mod CellPins
+pub mod Cells
+pub mod Levels
+pub mod LoopedSoFar
+pub mod NodeOrder
+pub mod Nodes
+pub mod Readings
+pub mod WireGraphs
+pub mod Wiring

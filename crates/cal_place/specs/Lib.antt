@@ -1,0 +1,11 @@
+pub mod inside
+pub mod Around
+pub mod FirstPlaces
+pub mod Holders
+pub mod Nesting
+pub mod PlaceTables
+pub mod Prototypes
+pub mod ReadPorts
+pub mod Signatures
+pub mod Statements
+pub mod Tables

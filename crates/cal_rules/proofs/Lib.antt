@@ -1,0 +1,13 @@
+pub mod ComponentLemmas
+pub mod DrivenLemmas
+pub mod EachLemmas
+pub mod GroupLemmas
+pub mod InvokeLemmas
+pub mod KindLemmas
+pub mod LeastLemmas
+pub mod NamingLemmas
+pub mod NewNameLemmas
+pub mod SourceLemmas
+pub mod TestLemmas
+pub mod TypingLemmas
+pub mod WalkLemmas

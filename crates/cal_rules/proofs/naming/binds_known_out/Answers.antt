@@ -1,0 +1,26 @@
+use Rattle.hw_names.specs.Name.{text_of}
+use Rattle.cal_ast.specs.Naming.{IsKnownPort}
+use Rattle.cal_ast.specs.Tree.{out_tree, port_of}
+use Rattle.cal_place.specs.Around.{comp_at, design_at, names_at}
+use Rattle.cal_rules.proofs.TestLemmas.{both_parts, first_fails}
+use Rattle.cal_rules.proofs.naming.binds_known_out.Goals as goal
+
+pub is_known-requires : goal.is_known-requires
+is_known-requires c = (c.requires.cell, c.requires.bind.0)
+
+pub is_known-requires-then-is_known : goal.is_known-requires-then-is_known
+is_known-requires-then-is_known c = c.requires.bind.1
+
+pub returns-then-is_known : goal.returns-then-is_known
+returns-then-is_known c =
+    let p = c.args.place.now in
+    let b = out_tree (names_at p) c.args.bind in
+    both_parts (IsKnownPort (design_at p) (comp_at p) (port_of (text_of (names_at p) c.args.cell) b.pin)) (IsKnownPort (design_at p) (comp_at p) b.dst)
+    c.is_known.result c.is_known-then-is_known.result c.is_known.ensures c.if-is_known.true c.is_known-then-is_known.ensures
+
+pub returns-else-is_known : goal.returns-else-is_known
+returns-else-is_known c =
+    let p = c.args.place.now in
+    let b = out_tree (names_at p) c.args.bind in
+    first_fails (IsKnownPort (design_at p) (comp_at p) (port_of (text_of (names_at p) c.args.cell) b.pin)) (IsKnownPort (design_at p) (comp_at p) b.dst)
+    c.is_known.result c.is_known.ensures c.if-is_known.false

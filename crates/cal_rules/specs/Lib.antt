@@ -1,0 +1,3 @@
+pub mod inside
+pub mod FirstItem
+pub mod LeastRule

@@ -1,0 +1,3 @@
+-- What only the functions inside the crate are specified by.
+pub mod Groups
+pub mod Walks
