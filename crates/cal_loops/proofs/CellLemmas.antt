@@ -24,22 +24,22 @@ use Rattle.cal_place.specs.Prototypes.{IsMadeOf, made_component}
 use Rattle.cal_place.specs.Nesting.{HasPart}
 use Rattle.cal_loops.specs.inside.CellPins.{HasPins, IsOutputPin, IsInputPin, IsPinAt, IsPortOfCell}
 use Rattle.cal_loops.specs.inside.Cells.{AreCells}
-use Rattle.cal_loops.specs.inside.Levels.{ReadsByPart}
-use Rattle.cal_loops.specs.inside.Nodes.{APort, Node, key_of, ports_in}
-use Rattle.cal_loops.specs.inside.WireGraphs.{HasNumber}
+use Rattle.cal_wires.specs.WireGraphs.{ReadsByPart}
+use Rattle.cal_wires.specs.Nodes.{APort, Node, key_of, ports_in}
+use Rattle.cal_wires.specs.WireGraphs.{HasNumber}
 use Rattle.hw_cells.specs.PartGraph.{Leads}
 use Rattle.cal_loops.specs.inside.Wiring.{IsInside, ShowsParts}
 use Rattle.cal_loops.specs.declared.cells.inside.Inside.{Inside}
 use Rattle.cal_place.specs.declared.prototype.Prototype.{Prototype}
 use Rattle.cal_place.specs.declared.prototype.Prototype.TheVariants as variant
-use Rattle.cal_loops.specs.declared.wires.graph.WireGraph.{WireGraph}
-use Rattle.cal_loops.proofs.DependLemmas.{input_place, output_place}
+use Rattle.cal_wires.specs.declared.graph.WireGraph.{WireGraph}
+use Rattle.cal_wires.proofs.DependLemmas.{input_place, output_place}
 use Rattle.cal_place.proofs.FoundLemmas.{first_at, found_first, from_map, to_map}
-use Rattle.cal_loops.proofs.GainLemmas.{get_either}
+use Rattle.cal_wires.proofs.GainLemmas.{get_either}
 use Rattle.cal_place.proofs.GraphLemmas.{exists_at}
-use Rattle.cal_loops.proofs.FullNameLemmas.{same_node, same_pin}
+use Rattle.cal_wires.proofs.FullNameLemmas.{same_node, same_pin}
 use Rattle.cal_place.proofs.NestLemmas.{part_from_cell}
-use Rattle.cal_loops.proofs.PortLemmas.{distinct_first}
+use Rattle.cal_wires.proofs.PortLemmas.{distinct_first}
 use Rattle.cal_loops.proofs.ToldCellLemmas.{told_rightly}
 
 -- ---- a port's place among the ports of its component

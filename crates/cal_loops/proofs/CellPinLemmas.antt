@@ -20,15 +20,15 @@ use Rattle.cal_place.specs.FirstPlaces.{IsFirst, ShowsFirsts, TellsFirst}
 use Rattle.cal_place.specs.Prototypes.{made_component}
 use Rattle.cal_place.specs.Signatures.{ShowsSignature}
 use Rattle.cal_loops.specs.inside.CellPins.{AreCellPorts, ArePins, IsInputPin, IsOutputPin, IsPinAt, IsPortOfCell, TellsPin}
-use Rattle.cal_loops.specs.inside.Nodes.{APort, key_of, ports_in}
+use Rattle.cal_wires.specs.Nodes.{APort, key_of, ports_in}
 use Rattle.hw_cells.specs.declared.cell.CellPin.{CellPin}
 use Rattle.cal_loops.specs.declared.cells.inside.Inside.{Inside}
 use Rattle.cal_place.specs.declared.prototype.Prototype.{Prototype}
 use Rattle.cal_place.specs.declared.signature.Signature.{Signature}
-use Rattle.cal_loops.specs.declared.wires.graph.WireGraph.{WireGraph}
+use Rattle.cal_wires.specs.declared.graph.WireGraph.{WireGraph}
 use Rattle.cal_place.proofs.FoundLemmas.{from_map}
 use Rattle.cal_place.proofs.GraphLemmas.{entry_read, exists_at, read_entry}
-use Rattle.cal_loops.proofs.FullNameLemmas.{same_pin}
+use Rattle.cal_wires.proofs.FullNameLemmas.{same_pin}
 use Rattle.cal_place.proofs.SidedNameLemmas.{names_both}
 use Rattle.cal_place.proofs.PlaceLemmas.{IsMadeIn}
 use Rattle.cal_place.proofs.PlaceTableLemmas.{told_first}

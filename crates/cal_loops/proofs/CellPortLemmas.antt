@@ -16,15 +16,15 @@ use Rattle.cal_place.specs.FirstPlaces.{IsFirst, ShowsFirsts, TellsFirst}
 use Rattle.cal_place.specs.Prototypes.{IsMadeOf, made_component}
 use Rattle.cal_place.specs.Signatures.{ShowsSignature}
 use Rattle.cal_loops.specs.inside.Levels.{IsCellPort, KeepsOwn}
-use Rattle.cal_loops.specs.inside.Nodes.{APort, key_of, ports_in}
+use Rattle.cal_wires.specs.Nodes.{APort, key_of, ports_in}
 use Rattle.cal_loops.specs.declared.levels.Levels.{Levels}
 use Rattle.cal_place.specs.declared.prototype.Prototype.{Prototype}
 use Rattle.cal_place.specs.declared.prototype.Prototype.TheVariants as variant
 use Rattle.cal_place.specs.declared.signature.Signature.{Signature}
-use Rattle.cal_loops.specs.declared.wires.graph.WireGraph.{WireGraph}
+use Rattle.cal_wires.specs.declared.graph.WireGraph.{WireGraph}
 use Rattle.cal_place.proofs.FirstLemmas.{slice_get-front, slice_get-last}
 use Rattle.cal_place.proofs.FoundLemmas.{found_first, from_map}
-use Rattle.cal_loops.proofs.FullNameLemmas.{same_pin}
+use Rattle.cal_wires.proofs.FullNameLemmas.{same_pin}
 use Rattle.cal_place.proofs.SidedNameLemmas.{names_both}
 use Rattle.cal_place.proofs.NestLemmas.{first_named, one_first}
 use Rattle.cal_place.proofs.PlaceLemmas.{made_at_first}

@@ -9,13 +9,13 @@ use Rattle.hw_names.specs.Name.{AreDistinct}
 use Rattle.cal_ast.specs.Rules.{KeepsRules}
 use Rattle.cal_ast.specs.Tree.{Component, Design, own}
 use Rattle.cal_loops.specs.inside.Cells.{AreCells, Directly, IsNodeAt, LeadsAsRead, NodeReaches, ReadsAt, Through}
-use Rattle.cal_loops.specs.inside.Nodes.{APort, Node, key_of}
-use Rattle.cal_loops.specs.inside.Readings.{HasOwnReadings}
-use Rattle.cal_loops.specs.inside.WireGraphs.{HasNumber, NodeReads}
-use Rattle.cal_loops.specs.declared.wires.graph.WireGraph.{WireGraph}
-use Rattle.cal_loops.proofs.GainLemmas.{IsWithin, node_at, number_within}
+use Rattle.cal_wires.specs.Nodes.{APort, Node, key_of}
+use Rattle.cal_wires.specs.Readings.{HasOwnReadings}
+use Rattle.cal_wires.specs.WireGraphs.{HasNumber, NodeReads}
+use Rattle.cal_wires.specs.declared.graph.WireGraph.{WireGraph}
+use Rattle.cal_wires.proofs.GainLemmas.{IsWithin, node_at, number_within}
 use Rattle.cal_loops.proofs.LevelLemmas.{between, entry_or_part, own_read, own_reads}
-use Rattle.cal_loops.proofs.SaidLemmas.{own_reading, part_reading}
+use Rattle.cal_wires.proofs.SaidLemmas.{own_reading, part_reading}
 
 -- what reaches another reads one
 first_read : (design : Design) (c : Component) (x y : Node) → NodeReaches design c x y → (z : Node) × NodeReads design c x z

@@ -10,14 +10,14 @@ use Rattle.cal_ast.specs.Ports.{inputs_in}
 use Rattle.cal_ast.specs.Tree.{Component, Design, PortName, own}
 use Rattle.cal_ast.specs.Wires.{Reaches}
 use Rattle.cal_loops.specs.inside.Cells.{LeadsAsRead}
-use Rattle.cal_loops.specs.inside.Nodes.{APort, key_of, ports_in}
+use Rattle.cal_wires.specs.Nodes.{APort, key_of, ports_in}
 use Rattle.hw_cells.specs.Cells.{HasOwnNodes}
 use Rattle.hw_cells.specs.PartGraph.{Leads, LeadsAlike}
 use Rattle.hw_cells.specs.declared.part_graph.PartGraph.{PartGraph}
 use Rattle.cal_loops.specs.inside.Wiring.{AreNodes, ShowsReached}
 use Rattle.cal_place.proofs.FirstLemmas.{slice_get-front, slice_get-last}
 use Rattle.cal_place.proofs.GraphLemmas.{exists_at}
-use Rattle.cal_loops.proofs.FullNameLemmas.{same_port}
+use Rattle.cal_wires.proofs.FullNameLemmas.{same_port}
 use Rattle.cal_loops.proofs.NumberLemmas.{first_of, last_of, leads, reach_nodes}
 
 -- ---- the nodes of own ports

@@ -17,20 +17,21 @@ use Rattle.cal_ast.specs.Tree.{CellDef, Component, Design, PortName, own, port_o
 use Rattle.cal_ast.specs.Wires.{AtOnce, HasNoLoop, Over, Reaches}
 use Rattle.cal_place.specs.FirstPlaces.{IsFirst}
 use Rattle.cal_place.specs.Nesting.{HasPart}
-use Rattle.cal_loops.specs.inside.Levels.{IsCellPort, IsLower, KeepsOwn, ReadsByPart, ShowsLevels, ShowsPartLevels}
-use Rattle.cal_loops.specs.inside.Nodes.{AHole, APort, Node, key_of, ports_in}
-use Rattle.cal_loops.specs.inside.Readings.{HasOwnReadings}
-use Rattle.cal_loops.specs.inside.WireGraphs.{HasNumber, HasReading, NodeReads}
+use Rattle.cal_loops.specs.inside.Levels.{IsCellPort, IsLower, KeepsOwn, ShowsLevels, ShowsPartLevels}
+use Rattle.cal_wires.specs.WireGraphs.{ReadsByPart}
+use Rattle.cal_wires.specs.Nodes.{AHole, APort, Node, key_of, ports_in}
+use Rattle.cal_wires.specs.Readings.{HasOwnReadings}
+use Rattle.cal_wires.specs.WireGraphs.{HasNumber, HasReading, NodeReads}
 use Rattle.cal_loops.specs.declared.levels.Levels.{Levels}
-use Rattle.cal_loops.specs.declared.wires.graph.WireGraph.{WireGraph}
-use Rattle.cal_loops.proofs.DependLemmas.{input_place, output_place}
+use Rattle.cal_wires.specs.declared.graph.WireGraph.{WireGraph}
+use Rattle.cal_wires.proofs.DependLemmas.{input_place, output_place}
 use Rattle.cal_place.proofs.FoundLemmas.{first_at}
 use Rattle.cal_place.proofs.GraphLemmas.{exists_at}
-use Rattle.cal_loops.proofs.FullNameLemmas.{same_pin}
+use Rattle.cal_wires.proofs.FullNameLemmas.{same_pin}
 use Rattle.cal_loops.proofs.NodeLemmas.{NodesAlong, along_reaches, through_nodes}
 use Rattle.cal_place.proofs.PartsLemmas.{first_of_name}
-use Rattle.cal_loops.proofs.PortLemmas.{distinct_first}
-use Rattle.cal_loops.proofs.SaidLemmas.{is_said}
+use Rattle.cal_wires.proofs.PortLemmas.{distinct_first}
+use Rattle.cal_wires.proofs.SaidLemmas.{is_said}
 
 -- ---- a port's place among the ports of its component
 

@@ -3,7 +3,7 @@ use Rattle.std.proofs.Common.{◌≡◌, [], ◌∷◌, Some, None, map, refl, a
 use Rattle.std.proofs.lemmas.Option.{none-some, same_Some}
 use Rattle.hw_names.specs.Name.{Text}
 use Rattle.cal_ast.specs.Wires.{shown}
-use Rattle.cal_loops.specs.inside.Nodes.{Node, APort, AHole, IsName, node_ports}
+use Rattle.cal_wires.specs.Nodes.{Node, APort, AHole, IsName, node_ports}
 
 pub name_of_some : (node : Node) (name : Text) → IsName node (Some name) → name ∷ [] ≡ map shown (node_ports node)
 name_of_some (APort p) name is = ap (λ (t : Text). t ∷ []) (same_Some name (shown p) is)

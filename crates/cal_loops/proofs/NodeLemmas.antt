@@ -7,8 +7,8 @@ use Rattle.cal_ast.proofs.ListLemmas.{Contains-at, place_of}
 use Rattle.cal_ast.specs.Sides.{IsSource}
 use Rattle.cal_ast.specs.Tree.{PortName, own, Assignment, DoneLine, GroupDef, Component, Design}
 use Rattle.cal_ast.specs.Wires.{ReadsPort, ByAssignment, ByDone, ByGo, ByPrimitive, ByComponent, Reaches, AtOnce, Over, ReadsAlong, IsGroupOf, all_groups, done_ports}
-use Rattle.cal_loops.specs.inside.Nodes.{Node, APort, AHole, node_ports}
-use Rattle.cal_loops.specs.inside.WireGraphs.{IsGroupAt, NodeReads, BySet, InGroup, OfDone, OfGo, OfPrimitive, OfPart}
+use Rattle.cal_wires.specs.Nodes.{Node, APort, AHole, node_ports}
+use Rattle.cal_wires.specs.WireGraphs.{IsGroupAt, NodeReads, BySet, InGroup, OfDone, OfGo, OfPrimitive, OfPart}
 
 -- the one reads the other at once, or through a hole
 abbrev pub ReadsByHole : Design → Component → PortName → PortName → Type 0

@@ -20,10 +20,10 @@ use Rattle.cal_ast.proofs.ListLemmas.{Contains-cases_first, Contains-from_flat_m
 use Rattle.cal_ast.specs.Tree.{PortName, Component, Design}
 use Rattle.cal_ast.specs.Wires.{ReadsPort, Reaches, AtOnce, Over, ReadsAlong, HasNoLoop, IsLeastLoop, shown}
 use Rattle.cal_loops.specs.inside.Cells.{Directly, IsLoopAt, IsNodeAt, LeadsAsRead, NodeReaches, ReadsAt, Through}
-use Rattle.cal_loops.specs.inside.Nodes.{Node, APort, AHole, IsKey, key_of, node_ports}
-use Rattle.cal_loops.specs.inside.NodeOrder.{TellNodes}
-use Rattle.cal_loops.specs.inside.WireGraphs.{NodeReads}
-use Rattle.cal_loops.proofs.FullNameLemmas.{same_node}
+use Rattle.cal_wires.specs.Nodes.{Node, APort, AHole, IsKey, key_of, node_ports}
+use Rattle.cal_wires.specs.NodeOrder.{TellNodes}
+use Rattle.cal_wires.specs.WireGraphs.{NodeReads}
+use Rattle.cal_wires.proofs.FullNameLemmas.{same_node}
 use Rattle.cal_loops.proofs.NodeLemmas.{NodesAlong, along_reaches, no_holes, port_reads, ports_along, ports_among, reads_through, through_nodes}
 
 -- what holds of each member of a list

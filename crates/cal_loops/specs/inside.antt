@@ -3,8 +3,4 @@ pub mod CellPins
 pub mod Cells
 pub mod Levels
 pub mod LoopedSoFar
-pub mod NodeOrder
-pub mod Nodes
-pub mod Readings
-pub mod WireGraphs
 pub mod Wiring

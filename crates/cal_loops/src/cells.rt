@@ -18,8 +18,8 @@ pub mod told_cells;
 
 use crate::cells::inside::Inside;
 use crate::cells::told_cells::CellKey;
-use crate::wires::graph::WireGraph;
 use cal_place::{Place, component_of};
+use cal_wires::WireGraph;
 use hw_bits::Memory;
 use hw_cells::{Cell, CellPin, Pin};
 use hw_graph::{Entry, Groups, gather};

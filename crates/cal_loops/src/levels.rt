@@ -12,14 +12,12 @@ ghost use Rattle.cal_place.specs.Around.{comp_at, design_at};
 ghost use Rattle.cal_place.specs.Nesting.{ShowsNesting};
 ghost use Rattle.cal_place.specs.Tables.{ShowsTables};
 ghost use Rattle.cal_loops.specs.inside.Levels.{IsCellPort, KeepsOwn, ShowsLevels, ShowsPartLevels};
-ghost use Rattle.cal_loops.specs.inside.Nodes.{APort, key_of};
+ghost use Rattle.cal_wires.specs.Nodes.{APort, key_of};
 ghost use Rattle.hw_levels.specs.declared.cells.CellPort as specs_port;
 
 use crate::cells::inside::own_node;
-use crate::wires::graph::WireGraph;
-use crate::wires::ports::Ports;
-use crate::wires::{port_names, text_graph};
 use cal_place::{Overview, PartOrder, Place, component_of};
+use cal_wires::{Ports, WireGraph, port_names, text_graph};
 use hw_bits::Memory;
 use hw_levels::{CellPort, levels_of};
 use hw_texts::text_at;

@@ -13,16 +13,13 @@
 //!
 //! How it goes. `levels` asks `hw_levels` for levels of each component's ports, parts first, from those of its parts: where all have
 //! them none has a loop. Only where one has none are graphs made (`first_loop`): `hw_cells` makes one graph of a component's own text
-//! (`wires`) and of its cells' graphs (`cells`), which is what is kept of it for its holders (`cells::inside`), and `hw_graph` is asked for
-//! an order, and where there is none for the least loop (`least_loop`).
+//! (`cal_wires`) and of its cells' graphs (`cells`), which is what is kept of it for its holders (`cells::inside`). `hw_graph` is asked
+//! for an order, and where there is none for the least loop by the order of full names; full names are made of that loop's ports alone
+//! (`least_loop`).
 //!
-//!     wires    what a component's text says: which port or hole reads which (`wires::graph`). They are known by the numbers of
-//!              their names (`wires::ports`); full names are made of the least loop's ports alone (`wires::full_names`). Where
-//!              there is a loop, ports are put in the order of their full names by short names of the same order (`hw_short`).
-//!     cells    a component's cells that are made of components, with their graphs. A component may have very many holders, and each
-//!              would walk over its graph. So first all cells of the design are collected with their ports that are named
-//!              (`cells::named_ports`), and as soon as a component's graph is known, `hw_cells` tells of all cells made of it at once
-//!              which outputs reach which inputs (`cells::reached_inputs`, kept in `cells::told_cells`).
+//! A component may have very many holders, and each would walk over its graph. So first all cells that are made of components are
+//! collected, with those of their ports that are named (`cells::named_ports`), and as soon as a component's graph is known, `hw_cells`
+//! tells of all cells made of it at once which outputs reach which inputs (`cells::reached_inputs`, `cells::told_cells`).
 //!
 //! What the layer above uses is `first_looped`: `None` exactly where no component has a loop (`HasNoLoops`), and else the first that
 //! has one, and the least of its loops (`HasFirstLoop`).
@@ -32,6 +29,5 @@ mod cells;
 mod first_loop;
 mod least_loop;
 mod levels;
-mod wires;
 
 pub use first_loop::{Looped, first_looped};

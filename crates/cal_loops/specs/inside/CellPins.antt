@@ -11,10 +11,10 @@ use Rattle.cal_ast.specs.Naming.{cell_names}
 use Rattle.cal_ast.specs.Ports.{inputs_in, part_in}
 use Rattle.cal_ast.specs.Tree.{Component, Design, port_of}
 use Rattle.cal_place.specs.FirstPlaces.{IsFirst}
-use Rattle.cal_loops.specs.inside.Nodes.{APort, ports_in}
-use Rattle.cal_loops.specs.inside.WireGraphs.{HasNumber}
+use Rattle.cal_wires.specs.Nodes.{APort, ports_in}
+use Rattle.cal_wires.specs.WireGraphs.{HasNumber}
 use Rattle.cal_loops.specs.declared.cells.inside.Inside.{Inside}
-use Rattle.cal_loops.specs.declared.wires.graph.WireGraph.{WireGraph}
+use Rattle.cal_wires.specs.declared.graph.WireGraph.{WireGraph}
 
 -- the node of the graph is a port of the component's cell of this number, and that is made of a component
 pub record IsPortOfCell (design : Design) (c : Component) (g : WireGraph) (cell node : ℕ) : Type 0 where

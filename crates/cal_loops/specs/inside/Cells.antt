@@ -6,10 +6,10 @@ use Rattle.hw_graph.specs.Graph as graph
 use Rattle.hw_graph.specs.Graph.{AreInRange}
 use Rattle.hw_names.specs.Name.{Text}
 use Rattle.cal_ast.specs.Tree.{Component, Design, own}
-use Rattle.cal_loops.specs.inside.Levels.{ReadsByPart}
-use Rattle.cal_loops.specs.inside.Nodes.{APort, HasKey, IsKey, Node, key_of}
-use Rattle.cal_loops.specs.inside.WireGraphs.{HasNumber, NodeReads}
-use Rattle.cal_loops.specs.declared.wires.graph.WireGraph.{WireGraph}
+use Rattle.cal_wires.specs.WireGraphs.{ReadsByPart}
+use Rattle.cal_wires.specs.Nodes.{APort, HasKey, IsKey, Node, key_of}
+use Rattle.cal_wires.specs.WireGraphs.{HasNumber, NodeReads}
+use Rattle.cal_wires.specs.declared.graph.WireGraph.{WireGraph}
 
 -- among the ports that the graph has, through the cells exactly those read others that do so through cells that are made of components
 pub record AreCells (design : Design) (c : Component) (g : WireGraph) (cells : List Cell) : Type 0 where

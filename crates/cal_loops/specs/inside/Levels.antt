@@ -8,10 +8,10 @@ use Rattle.cal_ast.specs.Tree.{Component, Design, PortName, own, port_of}
 use Rattle.cal_ast.specs.Wires.{CrossesCell, Reaches}
 use Rattle.cal_place.specs.FirstPlaces.{IsFirst}
 use Rattle.cal_place.specs.Nesting.{HasPart}
-use Rattle.cal_loops.specs.inside.Nodes.{APort, Node, key_of, ports_in}
-use Rattle.cal_loops.specs.inside.WireGraphs.{HasNumber}
+use Rattle.cal_wires.specs.Nodes.{APort, Node, key_of, ports_in}
+use Rattle.cal_wires.specs.WireGraphs.{HasNumber}
 use Rattle.cal_loops.specs.declared.levels.Levels.{Levels}
-use Rattle.cal_loops.specs.declared.wires.graph.WireGraph.{WireGraph}
+use Rattle.cal_wires.specs.declared.graph.WireGraph.{WireGraph}
 
 -- the component's port of this number has the level
 abbrev pub HasLevel : Levels → ℕ → ℕ → Type 0
@@ -35,18 +35,6 @@ pub record ShowsPartLevels (design : Design) (n : ℕ) (levels : List Levels) : 
   pub all : length levels ≡ length design
   pub each : (m : ℕ) (part : Component) (l : Levels) → HasPart design n m → slice_get design m ≡ Some part → slice_get levels m ≡ Some l →
       ShowsLevels design part l
-
--- the nodes are ports of a cell that is made of a component, and the one reaches the other there
-pub record ReadsByPart (design : Design) (c : Component) (node other : Node) : Type 0 where
-  pub part : Component
-  pub port : PortName
-  pub input : PortName
-  pub is_port : node ≡ APort port
-  pub is_input : other ≡ APort input
-  pub output_name : Text
-  pub input_name : Text
-  pub crosses : CrossesCell design c part port input output_name input_name
-  pub reaches : Reaches design part (own output_name) (own input_name)
 
 -- the port of a cell that is made of a component, by the number of the cell, its level in the component, and its number in the graph of c
 pub record IsCellPort (design : Design) (c : Component) (g : WireGraph) (levels : List Levels) (port : CellPort) : Type 0 where

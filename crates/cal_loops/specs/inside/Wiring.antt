@@ -9,7 +9,7 @@ use Rattle.cal_ast.specs.Ports.{inputs_in}
 use Rattle.cal_ast.specs.Tree.{PortName, own, Component, Design}
 use Rattle.cal_ast.specs.Wires.{HasNoLoop, IsLeastLoop, Reaches, shown}
 use Rattle.cal_place.specs.Nesting.{HasPart}
-use Rattle.cal_loops.specs.inside.Nodes.{APort, key_of, ports_in}
+use Rattle.cal_wires.specs.Nodes.{APort, key_of, ports_in}
 use Rattle.cal_loops.specs.declared.cells.inside.Inside.{Inside}
 
 -- each of the component's ports has its node in the graph of these keys, if it has one

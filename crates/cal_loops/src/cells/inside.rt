@@ -4,14 +4,12 @@ ghost use Rattle.hw_names.specs.Name.{AreDistinct};
 ghost use Rattle.cal_ast.specs.Rules.{KeepsRules};
 ghost use Rattle.cal_ast.specs.Tree.{own};
 ghost use Rattle.cal_place.specs.Around.{comp_at, design_at};
-ghost use Rattle.cal_loops.specs.inside.Nodes.{APort, key_of};
+ghost use Rattle.cal_wires.specs.Nodes.{APort, key_of};
 ghost use Rattle.cal_loops.specs.inside.Wiring.{AreNodes};
 
 use crate::cells::told_cells::ToldCells;
-use crate::wires::pin_names::PinName;
-use crate::wires::ports::Ports;
-use crate::wires::{own_port, port_names};
 use cal_place::Place;
+use cal_wires::{PinName, Ports, own_port, port_names};
 use hw_bits::Memory;
 use hw_cells::PartGraph;
 use hw_texts::text_at;

@@ -13,9 +13,8 @@ ghost use Rattle.cal_place.specs.Tables.{ShowsTables};
 
 use crate::cells::cell_nodes;
 use crate::cells::told_cells::CellKey;
-use crate::wires::graph::WireGraph;
-use crate::wires::text_graph;
 use cal_place::{Overview, Place, Signature, component_of};
+use cal_wires::{WireGraph, text_graph};
 use hw_bits::Memory;
 use std::alloc::Global;
 

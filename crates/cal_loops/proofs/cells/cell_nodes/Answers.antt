@@ -5,7 +5,7 @@ use Rattle.hw_graph.specs.Groups.{IsGathered}
 use Rattle.hw_graph.specs.declared.groups.Entry.{Entry}
 use Rattle.cal_place.specs.Around.{comp_at, design_at}
 use Rattle.cal_loops.proofs.CellPinLemmas.{ports_gathered, ports_within}
-use Rattle.cal_loops.proofs.WiredCellLemmas.{cells_counted}
+use Rattle.cal_wires.proofs.WiredCellLemmas.{cells_counted}
 use Rattle.cal_loops.proofs.cells.cell_nodes.Goals as goal
 
 pub gather-requires-clause-in_range : goal.gather-requires-clause-in_range

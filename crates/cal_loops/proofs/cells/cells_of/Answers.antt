@@ -6,7 +6,7 @@ use Rattle.cal_place.specs.Prototypes.{made_component}
 use Rattle.cal_loops.proofs.CellLemmas.{are_cells, cells_more, cells_none, cells_same, made_cell, made_known, made_part, made_within, none_made}
 use Rattle.cal_loops.proofs.CellPinLemmas.{nodes_within}
 use Rattle.cal_loops.proofs.PartGraphLemmas.{graph_in, graphs_more, graphs_none, has_graph}
-use Rattle.cal_loops.proofs.WiredCellLemmas.{cells_counted}
+use Rattle.cal_wires.proofs.WiredCellLemmas.{cells_counted}
 use Rattle.cal_loops.proofs.cells.cells_of.Goals.{in-Some+in-Some-insides+in_ok-cell_of+in_ok-push, in-Some+in_default-insides, in_default}
 use Rattle.cal_loops.proofs.cells.cells_of.Goals as goal
 

@@ -1,7 +1,7 @@
 use Rattle.std.proofs.Common.{◌++◌, List, Option, sym, ap, subst, ◌∙◌}
 use Rattle.std.proofs.lemmas.List.{append-nil}
 use Rattle.hw_names.specs.Name.{Text}
-use Rattle.cal_loops.specs.inside.Nodes.{IsName}
+use Rattle.cal_wires.specs.Nodes.{IsName}
 use Rattle.cal_loops.proofs.NameInLemmas.{name_of_some, none_of_none}
 use Rattle.cal_loops.proofs.least_loop.add_full_name.Goals as goal
 

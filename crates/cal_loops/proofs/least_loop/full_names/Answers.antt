@@ -9,7 +9,7 @@ use Rattle.hw_cells.proofs.WayLemmas.{kept, left_out}
 use Rattle.hw_cells.specs.Cells.{is_below}
 use Rattle.hw_names.specs.Name.{Text}
 use Rattle.cal_ast.specs.Wires.{shown}
-use Rattle.cal_loops.specs.inside.Nodes.{key_of, node_ports}
+use Rattle.cal_wires.specs.Nodes.{key_of, node_ports}
 use Rattle.cal_loops.proofs.least_loop.full_names.Goals as goal
 use Rattle.cal_loops.proofs.least_loop.full_names.Goals.{then-number-len+in_ok-key+in_ok-add_full_name, else-number-len}
 

@@ -3,7 +3,7 @@ use Rattle.std.specs.Prelude.{filter}
 use Rattle.std.specs.List.{flat_map}
 use Rattle.hw_cells.specs.Cells.{is_below}
 use Rattle.cal_ast.specs.Wires.{shown}
-use Rattle.cal_loops.specs.inside.Nodes.{Node, key_of, node_ports}
+use Rattle.cal_wires.specs.Nodes.{Node, key_of, node_ports}
 use Rattle.cal_loops.proofs.least_loop.full_names.Given as goal
 
 -- the full names so far

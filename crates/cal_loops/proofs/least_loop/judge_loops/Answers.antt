@@ -7,8 +7,8 @@ use Rattle.hw_names.specs.Name.{AreDistinct}
 use Rattle.cal_ast.specs.Rules.{KeepsRules}
 use Rattle.cal_place.specs.Around.{Around, comp_at, design_at}
 use Rattle.cal_loops.specs.inside.Cells.{AreCells, LeadsAsRead}
-use Rattle.cal_loops.specs.inside.Readings.{HasOwnReadings}
-use Rattle.cal_loops.specs.declared.wires.graph.WireGraph.{WireGraph}
+use Rattle.cal_wires.specs.Readings.{HasOwnReadings}
+use Rattle.cal_wires.specs.declared.graph.WireGraph.{WireGraph}
 use Rattle.cal_loops.proofs.FlatLemmas.{leads_as_read}
 use Rattle.cal_loops.proofs.least_loop.judge_loops.Goals as goal
 

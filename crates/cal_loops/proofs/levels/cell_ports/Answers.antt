@@ -4,9 +4,9 @@ use Rattle.std.proofs.lemmas.List.Elements.{All-push}
 use Rattle.hw_levels.specs.declared.cells.CellPort.{CellPort}
 use Rattle.cal_ast.specs.Tree.{port_of}
 use Rattle.cal_place.specs.Around.{comp_at, design_at}
-use Rattle.cal_loops.specs.inside.Nodes.{APort}
+use Rattle.cal_wires.specs.Nodes.{APort}
 use Rattle.cal_loops.proofs.CellPortLemmas.{found_more, found_none}
-use Rattle.cal_loops.proofs.GainLemmas.{number_within}
+use Rattle.cal_wires.proofs.GainLemmas.{number_within}
 use Rattle.cal_loops.proofs.levels.cell_ports.Goals.{in-Some+in_ok-push, in_default}
 use Rattle.cal_loops.proofs.levels.cell_ports.Goals as goal
 

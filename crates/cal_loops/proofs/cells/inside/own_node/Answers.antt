@@ -1,4 +1,4 @@
-use Rattle.cal_loops.specs.inside.Nodes.{port_by}
+use Rattle.cal_wires.specs.Nodes.{port_by}
 use Rattle.cal_loops.proofs.InsideLemmas.{own_node_found}
 use Rattle.cal_loops.proofs.cells.inside.own_node.Goals as goal
 

@@ -2,7 +2,7 @@ use Rattle.std.proofs.Common.{rules, ◌<◌, length, arith, sym, ◌∙◌}
 use Rattle.cal_place.specs.Around.{comp_at, design_at}
 use Rattle.cal_loops.proofs.CellLemmas.{made_within}
 use Rattle.cal_loops.proofs.CellPinLemmas.{nodes_within}
-use Rattle.cal_loops.proofs.WiredCellLemmas.{cells_counted}
+use Rattle.cal_wires.proofs.WiredCellLemmas.{cells_counted}
 use Rattle.cal_loops.proofs.cells.named_ports.add_cells.Goals as goal
 
 pub signature_of-signature-requires : goal.signature_of-signature-requires

@@ -1,7 +1,0 @@
-use Rattle.std.proofs.Common.{◌≡◌, ◌++◌, take}
-use Rattle.cal_loops.specs.inside.Nodes.{marked}
-use Rattle.cal_loops.proofs.wires.full_names.add_marked.Given as goal
-
--- the bytes so far are there
-abbrev pub invariant-loop-byte : goal.invariant-loop-byte
-invariant-loop-byte l = l.key.items ≡ l.fn.key.items ++ marked (take l.byte-index l.text)

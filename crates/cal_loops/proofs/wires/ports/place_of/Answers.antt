@@ -1,5 +1,0 @@
-use Rattle.cal_loops.proofs.PortLemmas.{different_kept}
-use Rattle.cal_loops.proofs.wires.ports.place_of.Goals as goal
-
-pub returns-clause-different : goal.returns-clause-different
-returns-clause-different c = different_kept c.args.set.now.keys c.insert_full.new.self.keys c.args.key c.in_ok-place.ensures.keys

@@ -1,0 +1,10 @@
+pub mod DependLemmas
+pub mod FullNameLemmas
+pub mod GainLemmas
+pub mod InputLemmas
+pub mod InvokedLemmas
+pub mod NodeOrderLemmas
+pub mod PinNameLemmas
+pub mod PortLemmas
+pub mod SaidLemmas
+pub mod WiredCellLemmas

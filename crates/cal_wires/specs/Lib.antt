@@ -1,0 +1,4 @@
+pub mod NodeOrder
+pub mod Nodes
+pub mod Readings
+pub mod WireGraphs
