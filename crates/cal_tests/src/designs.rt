@@ -1,7 +1,6 @@
-//! Whole designs: the examples, which are in the canonical layout but for their comments, and others with all that the language has.
-use crate::case::{read, try_accepted, try_line};
+//! Whole designs, printed: the examples, which are in the canonical layout but for their comments, and others with all that the language has.
+use crate::case::read;
 use cal_print::print_calyx;
-use std::alloc::Global;
 use std::test::Fail;
 
 /// Two steps.
@@ -140,19 +139,6 @@ pub(crate) const COUNT: &str = "component main() -> (v: 8) {
       inc;
     }
   }
-}
-";
-
-/// Three groups at once.
-pub(crate) const AT_ONCE: &str = "component main() -> (p: 8) {
-  cells { x = std_reg(8); y = std_reg(8); m = std_mult_pipe(8); }
-  wires {
-    group gx { x.in = 8'd1; x.write_en = 1'd1; gx[done] = x.done; }
-    group gy { y.in = 8'd2; y.write_en = 1'd1; gy[done] = y.done; }
-    group gm { m.left = 8'd3; m.right = 8'd5; m.go = 1'd1; gm[done] = m.done; }
-    p = m.out;
-  }
-  control { par { gx; gy; gm; } }
 }
 ";
 
@@ -323,113 +309,6 @@ component main() -> () {
   }
 }
 ";
-
-/// The least designs with control.
-const LEAST: &[&str] = &[
-    "component main() -> () { cells { } wires { } control { } }",
-    "component main() -> () { cells { } wires { group nop { nop[done] = 1'd1; } } control { nop; } }",
-    "component main() -> () { cells { z = std_reg(1); } wires { group nop { nop[done] = 1'd1; } } control { while z.out { nop; } } }",
-    "component main() -> () { cells { z = std_reg(1); } wires { group nop { nop[done] = 1'd1; } } control { if z.out { nop; } } }",
-];
-
-/// A design, a part of it that is changed, what stands there then, and its line.
-const CHANGED: &[(&str, &str, &str, &str)] = &[
-    (
-        DOUBLE,
-        "double[done] = x.done;",
-        "",
-        "refused C7 main item 7",
-    ),
-    (
-        DOUBLE,
-        "set[done] = x.done;",
-        "set[done] = x.out;",
-        "refused C7 main item 6",
-    ),
-    (DOUBLE, "v = x.out;", "v = x.in;", "refused C6 main item 13"),
-    (DOUBLE, "seq {", "seq { twice;", "refused C9 main item 15"),
-    (
-        TOTAL,
-        "std_mem_d1(8, 4, 3)",
-        "std_mem_d1(8, 4, 2)",
-        "refused C4 main item 11",
-    ),
-    (
-        TOTAL,
-        "with compare",
-        "with step",
-        "refused C10 main item 24",
-    ),
-    (
-        CUBE,
-        "  control {\n    multiply;\n  }\n",
-        "",
-        "refused C11 main item 5",
-    ),
-    (
-        CUBE,
-        "(a = n, b = n)",
-        "(a = n, a = n)",
-        "refused C11 main item 5",
-    ),
-    (COUNT, "seq {", "par {", "accepted"),
-    (
-        COUNT,
-        "inc[done] = x.done;",
-        "inc[done] = a.out;",
-        "refused C7 main item 12",
-    ),
-    (
-        AT_ONCE,
-        "gm[done] = m.done",
-        "gx[done] = m.done",
-        "refused C2 main item 16",
-    ),
-    (
-        TWICE,
-        "invoke c(a = c.b)()",
-        "invoke c(a = c.b, go = 1'd1)()",
-        "refused C11 main item 16",
-    ),
-    (
-        DOT,
-        "cells {",
-        "cells { mu = std_reg(1);",
-        "refused C1 main item 11",
-    ),
-    (
-        DOT,
-        "lt.right = 4'd8",
-        "lt.right = 4'd16",
-        "refused C4 main item 13",
-    ),
-];
-
-/// The text with another part in the place of one.
-fn with(alloc: Global, text: &str, part: &str, other: &str) -> Result<String, Fail> {
-    let (front, back) = text.split_once(part).ok_or("no such part")?;
-    let mut changed = String::from_str(alloc, front)?;
-    changed.push_str(other)?;
-    changed.push_str(back)?;
-    Ok(changed)
-}
-
-#[test]
-fn designs_are_accepted(rt: HostRuntime) -> Result<(), Fail> {
-    let designs = [DOUBLE, TOTAL, CUBE, COUNT, AT_ONCE, TWICE, DOT];
-    try_accepted(&rt, rt.alloc(), &designs)?;
-    try_accepted(&rt, rt.alloc(), LEAST)
-}
-
-#[test]
-fn changed_designs_are_judged(rt: HostRuntime) -> Result<(), Fail> {
-    let alloc = rt.alloc();
-    for (text, part, other, line) in CHANGED {
-        let changed = with(alloc, text, part, other)?;
-        try_line(&rt, alloc, changed.as_str(), line)?;
-    }
-    Ok(())
-}
 
 #[test]
 fn designs_are_printed(rt: HostRuntime) -> Result<(), Fail> {

@@ -1,43 +1,20 @@
-//! Tests of the reader, the printer and the rules of Calyx, through what they offer: tables, one file for each subject.
+//! Tests of what Calyx's crates give and the whole program doesn't show: canonical texts of designs with control, and what designs weigh.
 //!
-//!     texts     tokens, grammar, nesting: texts at a limit, and refused ones by the byte      printed: canonical texts
-//!     rules     names: C1, C2    widths: C3, C4    sides: C5, C6    control: C7 to C11    loops: C12    order: which one is told
-//!     designs   designs: whole ones, and changes of them    weights: weights and words    page: the texts of docs/calyx.md
+//!     designs      whole designs, printed
+//!     printed      each construct, printed
+//!     deep_guard   a guard with 1,953 `!`, printed
+//!     weights      weights, and words of memories
 //!
-//! A row of most tables is a text and the line that tells of it (`case` makes the line), as of `wires { w.in = w.out; }`
-//!
-//!     refused C12 main item 0 loop w.in w.out
-//!
-//! They show what no contract says: that the definitions which contracts cite mean what docs/calyx.md tells a reader, text by
-//! text of that page; and that 200 components, each with two cells of the next, are judged, though the instances double with
-//! each.
+//! What the program does show, text by text, stands in the lists of `filc_cases`: tokens, grammar, nesting, and each of C1 to C12.
 #![tactic(auto)]
 
 #[cfg(test)]
 mod case;
 #[cfg(test)]
-mod control;
+mod deep_guard;
 #[cfg(test)]
 mod designs;
 #[cfg(test)]
-mod grammar;
-#[cfg(test)]
-mod loops;
-#[cfg(test)]
-mod names;
-#[cfg(test)]
-mod nesting;
-#[cfg(test)]
-mod order;
-#[cfg(test)]
-mod page;
-#[cfg(test)]
 mod printed;
 #[cfg(test)]
-mod sides;
-#[cfg(test)]
-mod tokens;
-#[cfg(test)]
 mod weights;
-#[cfg(test)]
-mod widths;

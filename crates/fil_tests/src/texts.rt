@@ -1,30 +1,6 @@
-//! Texts: the first cause for which one is refused, and what is printed of the design of one that is read.
-use fil_parse::{FilTextEnd, parse_fil, print_fil};
+//! What is printed of the design of a text.
+use fil_parse::{parse_fil, print_fil};
 use std::test::Fail;
-
-const REFUSED: &[(&str, FilTextEnd)] = &[
-    (
-        "import \"a.fil\"; // no more",
-        FilTextEnd::Grammar { at: 26 },
-    ),
-    ("comp # [[", FilTextEnd::Token { at: 5 }),
-    ("comp A<>() -> () {}", FilTextEnd::Grammar { at: 7 }),
-    ("comp new<G: 1>() -> () {}", FilTextEnd::Grammar { at: 5 }),
-    ("comp A<G: 1>(,) -> () {}", FilTextEnd::Grammar { at: 13 }),
-    ("comp A<G: 1,>() -> () {}", FilTextEnd::Grammar { at: 12 }),
-    (
-        "comp A<G: 1>() -> () { x := new B[]; }",
-        FilTextEnd::Grammar { at: 34 },
-    ),
-    (
-        "comp A<G: 4097>() -> () { v := x<G+5000>(); }",
-        FilTextEnd::Offset { count: 4097 },
-    ),
-    (
-        "comp A<G: 4096>() -> () { v := x<G+5000, H+6000>(); }",
-        FilTextEnd::Offset { count: 5000 },
-    ),
-];
 
 const MAC: &str =
     "comp Mac<G: 1>(@interface[G] go: 1, @[G, G+1] a: 8, @[G, G+1] b: 8, @[G, G+1] c: 8) -> (@[G+2, G+3] out: 8) {
@@ -59,14 +35,6 @@ const PRINTED: &[(&str, &str)] = &[
         "comp A<G: 1>() -> () {\n  v := new C<G>();\n  w := v<G>();\n}\ncomp B<G: 1>() -> () {\n}\n",
     ),
 ];
-
-#[test]
-fn the_first_cause_is_told(rt: HostRuntime) {
-    for (text, end) in REFUSED {
-        let got = parse_fil(rt.alloc(), text.as_bytes()).err();
-        assert_eq!(rt; got, Some(*end), "in {text:?}");
-    }
-}
 
 #[test]
 fn what_is_read_is_printed(rt: HostRuntime) -> Result<(), Fail> {
