@@ -31,10 +31,10 @@ use Rattle.fil_share.specs.Instances.{signature_of}
 use Rattle.fil_share.proofs.CalleeLemmas.{named_among}
 use Rattle.fil_share.proofs.ListLemmas.{All-flat_map, Contains-at}
 use Rattle.fil_share.proofs.OwnLemmas.{FoundIn, KeepsNames, KeepsShared, cut_before, cut_with, ends_in_time, find_last, found_all, found_more, found_own, made_in, own_apart, same_meaning, some_there, to_whole}
-use Rattle.fil_check.specs.inside.Callees.{HasGoodDelay, IsGoodDelay}
+use Rattle.fil_place.specs.Callees.{HasGoodDelay, IsGoodDelay}
 use Rattle.fil_check.specs.Needed.{Collide, HoldsTwice, NothingIsHeldTwice, SharingRulesAreExact, first_ten, gap_starts, later_of, meeting_starts, sharing_rules}
-use Rattle.fil_check.specs.Held.{AreHeld}
-use Rattle.fil_check.proofs.MadeLemmas.{primitive_times}
+use Rattle.fil_rules.specs.Held.{AreHeld}
+use Rattle.fil_place.proofs.MadeLemmas.{primitive_times}
 use Rattle.fil_check.proofs.NeededLemmas.{meet, overrun}
 
 -- a delay is a row or more

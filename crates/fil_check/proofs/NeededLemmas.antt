@@ -20,6 +20,7 @@ use Rattle.fil_ast.specs.Tree.{TimeAt, Event, Component}
 use Rattle.fil_ast.specs.Typing.{HasShape}
 use Rattle.fil_ast.proofs.HoldLemmas.{hold_there, in_flat}
 use Rattle.fil_check.specs.Needed.{HoldsTwice, Collide, MeetingIsReal, GapIsReal, gap_starts, later_of, meeting_starts, start_at, with_invocation}
+use Rattle.fil_place.proofs.GeneralLemmas.{at_left, at_right}
 
 -- two elements stand at different places
 pub record StandApart (X : Type 0) (xs : List X) (x y : X) : Type 0 where
@@ -28,17 +29,6 @@ pub record StandApart (X : Type 0) (xs : List X) (x y : X) : Type 0 where
   pub differ : i < j
   pub at_x : slice_get xs i ≡ Some x
   pub at_y : slice_get xs j ≡ Some y
-
-pub at_left : {X : Type 0} (xs ys : List X) (k : ℕ) (x : X) → slice_get xs k ≡ Some x → slice_get (xs ++ ys) k ≡ Some x
-at_left [] ys k x at = absurd (cc)
-at_left (z ∷ xs) ys zero x at = at
-at_left (z ∷ xs) ys (suc k) x at = at_left xs ys k x at
-
-pub at_right : {X : Type 0} (xs ys : List X) (k : ℕ) (y : X) → slice_get ys k ≡ Some y → slice_get (xs ++ ys) (length xs + k) ≡ Some y
-at_right [] ys k y at = let e : k ≡ 0 + k = omega arith in ap (slice_get ys) (sym e) ∙ at
-at_right (z ∷ xs) ys k y at =
-    let e : length (z ∷ xs) + k ≡ suc (length xs + k) = omega arith in
-    ap (slice_get (z ∷ xs ++ ys)) e ∙ at_right xs ys k y at
 
 pub across : {X : Type 0} (xs ys : List X) (x y : X) → Contains xs x → Contains ys y → StandApart X (xs ++ ys) x y
 across xs ys x y has_x has_y = record {

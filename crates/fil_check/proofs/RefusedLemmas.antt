@@ -19,7 +19,7 @@ use Rattle.fil_share.proofs.ListLemmas.{Contains-at, slice_get-take}
 use Rattle.fil_share.proofs.MakesLemmas.{flat_next}
 use Rattle.fil_share.proofs.OwnLemmas.{KeepsNames}
 use Rattle.fil_check.specs.Needed.{Collide, MeetsTwice, OverrunsTwice, RefusedGapIsReal, RefusedMeetingIsReal, gap_starts, meeting_starts, with_invocation}
-use Rattle.fil_check.specs.Held.{AreHeld}
+use Rattle.fil_rules.specs.Held.{AreHeld}
 use Rattle.fil_check.proofs.ExactLemmas.{are_held}
 use Rattle.fil_check.proofs.NeededLemmas.{gap_is_real, meeting_is_real}
 

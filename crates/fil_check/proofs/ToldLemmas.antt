@@ -7,7 +7,7 @@ use Rattle.fil_ast.specs.Rules.{KeepsRules, all_rules}
 use Rattle.fil_ast.specs.Tree.{Component, Design}
 use Rattle.fil_ast.specs.Weight.{saturated, told_weight, weight_of}
 use Rattle.fil_check.specs.inside.Weights.{AreWeights, capped, weight_among}
-use Rattle.fil_check.proofs.DesignLemmas.{new_names}
+use Rattle.fil_place.proofs.ComponentLemmas.{new_names}
 use Rattle.fil_check.proofs.WeightLemmas.{weight_later}
 use Rattle.fil_share.proofs.ListLemmas.{Contains-at, take_next}
 

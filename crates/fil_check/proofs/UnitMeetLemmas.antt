@@ -28,7 +28,8 @@ use Rattle.fil_share.proofs.OwnLemmas.{FoundIn, HasFineUses, called_in, fine, fo
 use Rattle.fil_check.specs.Needed.{first_ten}
 use Rattle.fil_check.specs.Units.{AreHoldsOn, GapHasOneMeaning, IsFirstAt, IsUseOn, MeetingHasOneMeaning, UnitEvent}
 use Rattle.fil_check.proofs.ExactLemmas.{distinct, earlier_whole, names, own_whole}
-use Rattle.fil_check.proofs.NeededLemmas.{at_left, at_right, on_one, one_event, user}
+use Rattle.fil_place.proofs.GeneralLemmas.{at_left, at_right}
+use Rattle.fil_check.proofs.NeededLemmas.{on_one, one_event, user}
 use Rattle.fil_check.proofs.RefusedLemmas.{only_one}
 use Rattle.fil_check.proofs.UnitLemmas.{AreShared, calls_shared, hold_of_use, holds_are, holds_in, holds_of_uses, holds_shared, kept_by_holds, one_hold, whole}
 

@@ -25,13 +25,13 @@ use Rattle.fil_ast.specs.Weight.{intervals_listed, needs_in, times_in, rows_of, 
 use Rattle.fil_sig.specs.Seen.{seen_port}
 use Rattle.fil_sig.specs.declared.time_sig.SigPort.{SigPort}
 use Rattle.fil_sig.proofs.ListLemmas.{map_more}
-use Rattle.fil_check.specs.inside.Tables.{Shows, instance_of, times_of, times_shown}
-use Rattle.fil_check.specs.inside.Times.{AreTimes, ShowsInterval}
-use Rattle.fil_check.specs.declared.timeline.times.Interval as numbers
+use Rattle.fil_place.specs.Tables.{Shows, instance_of, times_of, times_shown}
+use Rattle.fil_place.specs.Times.{AreTimes, ShowsInterval}
+use Rattle.fil_place.specs.declared.times.Interval as numbers
 use Rattle.fil_check.specs.declared.weight.Asked.{Asked}
-use Rattle.fil_check.specs.declared.tables.Earlier.{Earlier}
-use Rattle.fil_check.specs.declared.tables.Tables.{Tables}
-use Rattle.fil_check.specs.declared.timeline.times.Offset.{Offset}
+use Rattle.fil_place.specs.declared.earlier.Earlier.{Earlier}
+use Rattle.fil_place.specs.declared.tables.Tables.{Tables}
+use Rattle.fil_place.specs.declared.times.Offset.{Offset}
 use Rattle.fil_share.proofs.ListLemmas.{slice_get-take, take_next}
 use Rattle.fil_ast.specs.Naming.{component_names, event_names}
 use Rattle.fil_check.specs.inside.Weights.{AreWeights, IsAsked, capped, last_need, last_time, last_row, needs_for, weight_after, weight_among}

@@ -3,7 +3,7 @@ use Rattle.hw_names.specs.Name.{text_of}
 use Rattle.fil_ast.specs.Refusal.{IsRefusal}
 use Rattle.fil_ast.specs.Tree.{design_of}
 use Rattle.fil_ast.specs.declared.tree.FilDesign.{FilDesign}
-use Rattle.fil_check.specs.Least.{evidence_of}
+use Rattle.fil_rules.specs.Least.{evidence_of}
 use Rattle.fil_check.specs.declared.rules.FilEnd.{FilEnd}
 use Rattle.fil_check.specs.declared.rules.FilEnd.TheVariants as design
 

@@ -1,6 +1,6 @@
 pub mod inside
-pub mod Held
-pub mod Least
 pub mod First
 pub mod Needed
 pub mod Units
+pub use Rattle.fil_rules.specs.Held
+pub use Rattle.fil_rules.specs.Least

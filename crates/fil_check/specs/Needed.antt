@@ -12,7 +12,7 @@ use Rattle.fil_ast.specs.Sharing.{KeepsUsesApart}
 use Rattle.fil_ast.specs.Tree.{TimeAt, Component, Design, Statement}
 use Rattle.fil_ast.specs.Typing.{HasShape}
 use Rattle.fil_ast.specs.Wires.{whole_scope}
-use Rattle.fil_check.specs.Held.{AreHeld}
+use Rattle.fil_rules.specs.Held.{AreHeld}
 
 -- two holds of the list are of this event of the instance, and both hold it in the row
 pub record HoldsTwice (holds : List Hold) (inst : Text) (event row : ℕ) : Type 0 where

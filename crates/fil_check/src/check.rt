@@ -1,23 +1,19 @@
 //! The rules of a design.
-ghost use Rattle.std.specs.Prelude.{◌≡◌, [], ◌∷◌, ◌++◌, IfErr, IfOk, IsTrue, OnOk};
+ghost use Rattle.std.specs.Prelude.{◌≡◌, IfErr, IfOk, IsTrue, OnOk};
 ghost use Rattle.fil_ast.specs.Limits.{KeepsLimits, HasSmallOffsets};
 ghost use Rattle.fil_ast.specs.Numbers.{ComponentHasNumbers, HasNumbers};
 ghost use Rattle.fil_ast.specs.Rules.{FilRules, KeepsComponent, all_rules};
 ghost use Rattle.fil_ast.specs.Tree.{Design, component_tree, design_of};
 ghost use Rattle.fil_ast.specs.Wires.{whole_scope};
 ghost use Rattle.fil_check.specs.First.{TellsFirst};
-ghost use Rattle.fil_check.specs.inside.First.{ComponentIs, TellsComponent};
-ghost use Rattle.fil_check.specs.inside.Tables.{IsPlace, ShowsEarlier};
+ghost use Rattle.fil_check.specs.inside.FirstComponent.{ComponentIs, TellsComponent};
+ghost use Rattle.fil_place.specs.Tables.{IsPlace, ShowsEarlier};
 
-use crate::callee::Callee;
-use crate::component::judge_component;
-use crate::loops::levels::add_levels;
-use crate::loops::{Wired, add_wires};
-use crate::place::Place;
-use crate::rules::{CompEnd, Evidence, FilEnd};
-use crate::tables::{Earlier, Tables};
+use crate::rules::FilEnd;
 use fil_ast::{FilComp, FilDesign, FilOk};
-use fil_sig::{add_name, component_signature};
+use fil_loops::{Wired, add_levels, add_wires};
+use fil_place::{Earlier, Place, Tables, add_component};
+use fil_rules::{CompEnd, Evidence, judge_component};
 use hw_bits::Memory;
 use hw_names::{NameId, Names};
 use std::alloc::Global;
@@ -134,24 +130,4 @@ fn in_component(comp: NameId, end: CompEnd) -> FilEnd
         },
         CompEnd::Memory => FilEnd::Memory,
     }
-}
-
-/// Puts a component that keeps the rules last.
-pub fn add_component(
-    alloc: Global,
-    names: &Names,
-    earlier: &mut Earlier,
-    comp: &FilComp,
-) -> Result<(), Memory>
-    requires numbers { ComponentHasNumbers names.now comp.now }
-    requires small { KeepsLimits comp.now }
-    requires kept { (comps : Design) × ShowsEarlier earlier.old comps × KeepsComponent all_rules comps (component_tree names.now comp.now) }
-    ensures { (comps : Design) → ShowsEarlier earlier.old comps
-        → OnOk result (ShowsEarlier earlier.new (comps ++ component_tree names.now comp.now ∷ [])) }
-{
-    let sig = component_signature(alloc, names, comp)?;
-    let callee = Callee::make(names, sig)?;
-    let _new = add_name(&mut earlier.names, names.text(comp.name))?;
-    earlier.callees.push(callee)?;
-    Ok(())
 }

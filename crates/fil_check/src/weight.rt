@@ -12,18 +12,15 @@ ghost use Rattle.fil_ast.specs.Weight.{intervals_listed, needs_in, needs_of, tim
 ghost use Rattle.fil_ast.specs.Wires.{whole_scope};
 ghost use Rattle.fil_ast.specs.declared.tree.FilComp.{FilComp};
 ghost use Rattle.fil_sig.specs.Seen.{seen_port};
-ghost use Rattle.fil_check.specs.inside.Place.{IsPlaceIn};
-ghost use Rattle.fil_check.specs.inside.Tables.{IsPlace, ShowsEarlier};
-ghost use Rattle.fil_check.specs.inside.Times.{AreTimes, ShowsInterval, time_shown};
+ghost use Rattle.fil_place.specs.Place.{IsPlaceIn};
+ghost use Rattle.fil_place.specs.Tables.{IsPlace, ShowsEarlier};
+ghost use Rattle.fil_place.specs.Times.{AreTimes, ShowsInterval, time_shown};
 ghost use Rattle.fil_check.specs.inside.Weights.{AreWeights, IsAsked, capped, instances_weight, needs_for, weight_after};
 
-use crate::check::add_component;
-use crate::kept::tables_of;
-use crate::meaning::callee_at;
-use crate::place::Place;
-use crate::tables::{Earlier, Tables};
-use crate::timeline::times::{Interval, Offset, interval_at};
 use fil_ast::{FilComp, FilOk, Stmt};
+use fil_place::{
+    Earlier, Interval, Offset, Place, Tables, add_component, callee_at, interval_at, tables_of,
+};
 use fil_sig::SigPort;
 use hw_bits::Memory;
 use hw_names::{NameId, Names};

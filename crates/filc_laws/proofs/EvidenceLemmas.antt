@@ -15,7 +15,7 @@ use Rattle.fil_ast.specs.Timeline.{Interval, IsAvailable, ReadsArgument, Covers,
 use Rattle.fil_ast.specs.Tree.{Event, Giving, TimeAt, Statement, New, Call, Both, Connect, ValueTree}
 use Rattle.fil_check.proofs.NeededLemmas.{one_event}
 use Rattle.fil_check.proofs.RefusedLemmas.{only_one}
-use Rattle.fil_check.proofs.SharingLemmas.{AreAlike, same_use}
+use Rattle.fil_place.proofs.UseLemmas.{AreAlike, same_use}
 use Rattle.filc_laws.proofs.OrderLemmas.{neither_below}
 
 -- ---- F8

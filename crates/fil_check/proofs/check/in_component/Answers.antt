@@ -1,6 +1,6 @@
 use Rattle.std.proofs.Common.{ℕ, sym, ap, subst}
-use Rattle.fil_check.specs.inside.First.{ComponentIs}
-use Rattle.fil_check.specs.declared.rules.CompEnd.{CompEnd}
+use Rattle.fil_check.specs.inside.FirstComponent.{ComponentIs}
+use Rattle.fil_rules.specs.declared.rules.CompEnd.{CompEnd}
 use Rattle.fil_check.specs.declared.rules.FilEnd.TheVariants.{Refused}
 use Rattle.fil_check.proofs.check.in_component.Goals as goal
 

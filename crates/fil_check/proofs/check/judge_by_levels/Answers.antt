@@ -6,15 +6,16 @@ use Rattle.fil_ast.specs.Limits.{KeepsLimits}
 use Rattle.fil_ast.specs.Tree.{Design, component_tree, design_of}
 use Rattle.fil_ast.specs.Wires.{HasNoLoop}
 use Rattle.fil_ast.specs.declared.tree.FilComp.{FilComp}
-use Rattle.fil_check.specs.inside.Levels.{ShowAllLevels}
-use Rattle.fil_check.specs.declared.loops.levels.Levels.{Levels}
+use Rattle.fil_loops.specs.Levels.{ShowAllLevels}
+use Rattle.fil_loops.specs.declared.levels.Levels.{Levels}
 use Rattle.fil_check.specs.declared.rules.FilEnd.TheVariants as design
 use Rattle.fil_check.specs.First.{TellsFirst}
-use Rattle.fil_check.specs.inside.Tables.{ShowsEarlier}
-use Rattle.fil_check.specs.inside.Wired.{HaveNoLoop}
-use Rattle.fil_check.proofs.DesignLemmas.{all_keep, at_mapped, component_ends, keep_more, kept_so_far}
-use Rattle.fil_check.proofs.ItemLemmas.{passed_up}
-use Rattle.fil_check.proofs.WiredLemmas.{no_loop_more}
+use Rattle.fil_place.specs.Tables.{ShowsEarlier}
+use Rattle.fil_loops.specs.Wired.{HaveNoLoop}
+use Rattle.fil_check.proofs.DesignLemmas.{all_keep, component_ends, keep_more, kept_so_far}
+use Rattle.fil_place.proofs.GeneralLemmas.{at_mapped}
+use Rattle.fil_rules.proofs.ItemLemmas.{passed_up}
+use Rattle.fil_loops.proofs.WiredLemmas.{no_loop_more}
 use Rattle.fil_share.proofs.ListLemmas.{take_next}
 use Rattle.fil_check.proofs.check.judge_by_levels.Goals as goal
 

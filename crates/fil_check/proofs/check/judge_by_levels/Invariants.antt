@@ -1,8 +1,8 @@
 use Rattle.std.proofs.Common.{take}
 use Rattle.fil_ast.specs.Tree.{design_of}
-use Rattle.fil_check.specs.inside.Levels.{ShowAllLevels}
-use Rattle.fil_check.specs.inside.Tables.{ShowsEarlier}
-use Rattle.fil_check.specs.inside.Wired.{HaveNoLoop}
+use Rattle.fil_loops.specs.Levels.{ShowAllLevels}
+use Rattle.fil_place.specs.Tables.{ShowsEarlier}
+use Rattle.fil_loops.specs.Wired.{HaveNoLoop}
 use Rattle.fil_check.proofs.DesignLemmas.{KeepBefore}
 use Rattle.fil_check.proofs.check.judge_by_levels.Given as goal
 

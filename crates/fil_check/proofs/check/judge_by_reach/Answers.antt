@@ -5,12 +5,13 @@ use Rattle.fil_ast.specs.Limits.{KeepsLimits}
 use Rattle.fil_ast.specs.Tree.{Design, component_tree, design_of}
 use Rattle.fil_ast.specs.declared.tree.FilComp.{FilComp}
 use Rattle.fil_check.specs.First.{TellsFirst}
-use Rattle.fil_check.specs.inside.Tables.{ShowsEarlier}
+use Rattle.fil_place.specs.Tables.{ShowsEarlier}
 use Rattle.fil_check.specs.declared.rules.FilEnd.TheVariants as design
-use Rattle.fil_check.proofs.ItemLemmas.{passed_up}
-use Rattle.fil_check.specs.inside.Wired.{HaveNoLoop, IsFirstLoop, IsWired}
-use Rattle.fil_check.specs.declared.loops.Wired.{Wired}
-use Rattle.fil_check.proofs.DesignLemmas.{all_keep, at_mapped, component_ends, keep_more, kept_so_far, looped}
+use Rattle.fil_rules.proofs.ItemLemmas.{passed_up}
+use Rattle.fil_loops.specs.Wired.{HaveNoLoop, IsFirstLoop, IsWired}
+use Rattle.fil_loops.specs.declared.wires.Wired.{Wired}
+use Rattle.fil_check.proofs.DesignLemmas.{all_keep, component_ends, keep_more, kept_so_far, looped}
+use Rattle.fil_place.proofs.GeneralLemmas.{at_mapped}
 use Rattle.fil_share.proofs.ListLemmas.{take_next}
 use Rattle.fil_check.proofs.check.judge_by_reach.Goals as goal
 

@@ -1,7 +1,7 @@
 use Rattle.std.proofs.Common.{take}
 use Rattle.fil_ast.specs.Tree.{design_of}
-use Rattle.fil_check.specs.inside.Tables.{ShowsEarlier}
-use Rattle.fil_check.specs.inside.Wired.{IsWired}
+use Rattle.fil_place.specs.Tables.{ShowsEarlier}
+use Rattle.fil_loops.specs.Wired.{IsWired}
 use Rattle.fil_check.proofs.DesignLemmas.{KeepBefore}
 use Rattle.fil_check.proofs.check.judge_by_reach.Given as goal
 

@@ -7,9 +7,9 @@ use Rattle.std.proofs.lemmas.List.{length-map}
 use Rattle.std.proofs.lemmas.Slice.Zip.{zip_end, zip_turn}
 use Rattle.fil_ast.specs.Scope.{Invocation}
 use Rattle.fil_ast.specs.Weight.{needs_of}
-use Rattle.fil_check.specs.inside.Tables.{instance_of, times_of, times_shown}
+use Rattle.fil_place.specs.Tables.{instance_of, times_of, times_shown}
 use Rattle.std.specs.List.{slice_get}
-use Rattle.fil_check.specs.inside.Times.{AreTimes}
+use Rattle.fil_place.specs.Times.{AreTimes}
 use Rattle.fil_check.specs.inside.Weights.{IsAsked}
 use Rattle.fil_check.proofs.WeightLemmas.{invoked_more, shown_invocation, stands}
 use Rattle.fil_check.proofs.weight.asked_by.Goals as goal

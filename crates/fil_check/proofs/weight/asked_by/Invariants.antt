@@ -3,7 +3,7 @@ use Rattle.hw_names.specs.Name.{Text, AreDistinct}
 use Rattle.fil_ast.specs.Scope.{Scope, Invocation}
 use Rattle.fil_ast.specs.Weight.{needs_of}
 use Rattle.fil_ast.specs.declared.tree.FilComp.{FilComp}
-use Rattle.fil_check.specs.inside.Tables.{IsPlace}
+use Rattle.fil_place.specs.Tables.{IsPlace}
 use Rattle.fil_check.specs.inside.Weights.{IsAsked}
 use Rattle.fil_check.proofs.weight.asked_by.Given as goal
 

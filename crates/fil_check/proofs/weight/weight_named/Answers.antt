@@ -4,7 +4,7 @@ use Rattle.std.proofs.lemmas.Bool.Decides.{not_from_Decides}
 use Rattle.hw_names.proofs.NameLemmas.{text_of-slice_get}
 use Rattle.fil_ast.specs.Weight.{weight_of}
 use Rattle.fil_check.specs.inside.Weights.{capped}
-use Rattle.fil_check.proofs.MeaningLemmas.{got}
+use Rattle.fil_place.proofs.LookupLemmas.{got}
 use Rattle.fil_check.proofs.WeightLemmas.{nothing_named, weight_found}
 use Rattle.fil_check.proofs.weight.weight_named.Goals as goal
 

@@ -1,7 +1,7 @@
 use Rattle.std.proofs.Common.{◌≡◌, take, map, flat_map}
 use Rattle.fil_ast.specs.Scope.{instances_at}
 use Rattle.fil_ast.specs.Tree.{Design, statement_tree}
-use Rattle.fil_check.specs.inside.Tables.{ShowsEarlier}
+use Rattle.fil_place.specs.Tables.{ShowsEarlier}
 use Rattle.fil_check.specs.inside.Weights.{AreWeights, capped, instances_weight}
 use Rattle.fil_check.proofs.weight.weight_of_instances.Given as goal
 

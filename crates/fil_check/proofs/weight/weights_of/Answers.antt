@@ -6,9 +6,9 @@ use Rattle.fil_ast.specs.Tree.{Design, component_tree, design_of}
 use Rattle.fil_ast.specs.declared.tree.FilComp.{FilComp}
 use Rattle.fil_ast.specs.declared.tree.FilDesign.{FilDesign}
 use Rattle.fil_share.proofs.ListLemmas.{take_next}
-use Rattle.fil_check.specs.inside.Tables.{ShowsEarlier}
+use Rattle.fil_place.specs.Tables.{ShowsEarlier}
 use Rattle.fil_check.specs.inside.Weights.{AreWeights}
-use Rattle.fil_check.proofs.DesignLemmas.{new_names}
+use Rattle.fil_place.proofs.ComponentLemmas.{new_names}
 use Rattle.fil_check.proofs.WeightLemmas.{at_taken, read_taken, weights_more}
 use Rattle.fil_check.proofs.weight.weights_of.Goals as goal
 

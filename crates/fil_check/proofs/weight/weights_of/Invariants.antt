@@ -1,6 +1,6 @@
 use Rattle.std.proofs.Common.{take}
 use Rattle.fil_ast.specs.Tree.{design_of}
-use Rattle.fil_check.specs.inside.Tables.{ShowsEarlier}
+use Rattle.fil_place.specs.Tables.{ShowsEarlier}
 use Rattle.fil_check.specs.inside.Weights.{AreWeights}
 use Rattle.fil_check.proofs.weight.weights_of.Given as goal
 

@@ -1,9 +1,9 @@
 use Rattle.std.proofs.Common.{List, Option, ◌++◌, subst}
 use Rattle.fil_ast.specs.Timeline.{Interval, interval_at}
 use Rattle.fil_sig.specs.Seen.{seen_port}
-use Rattle.fil_check.specs.inside.Times.{ShowsInterval}
+use Rattle.fil_place.specs.Times.{ShowsInterval}
 use Rattle.fil_check.specs.inside.Weights.{IsAsked}
-use Rattle.fil_check.specs.declared.timeline.times.Interval as numbers
+use Rattle.fil_place.specs.declared.times.Interval as numbers
 use Rattle.fil_check.proofs.WeightLemmas.{need_shown}
 use Rattle.fil_check.proofs.weight.Asked.need_input.Goals as goal
 

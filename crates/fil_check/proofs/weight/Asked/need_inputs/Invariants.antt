@@ -3,7 +3,7 @@ use Rattle.hw_names.specs.Name.{Text, AreDistinct}
 use Rattle.fil_ast.specs.Timeline.{Interval}
 use Rattle.fil_ast.specs.Tree.{TimeAt}
 use Rattle.fil_sig.specs.Seen.{seen_port}
-use Rattle.fil_check.specs.inside.Times.{AreTimes}
+use Rattle.fil_place.specs.Times.{AreTimes}
 use Rattle.fil_check.specs.inside.Weights.{IsAsked, needs_for}
 use Rattle.fil_check.proofs.weight.Asked.need_inputs.Given as goal
 

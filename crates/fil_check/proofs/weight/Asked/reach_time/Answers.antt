@@ -1,7 +1,7 @@
 use Rattle.std.proofs.Common.{[], ◌∷◌, ◌++◌, map, max, ap, ◌∙◌}
 use Rattle.std.specs.List.{slice_set, slice_index_or}
 use Rattle.fil_check.specs.inside.Weights.{last_row}
-use Rattle.fil_check.proofs.TimeLemmas.{shown_parts}
+use Rattle.fil_place.proofs.TimeLemmas.{shown_parts}
 use Rattle.fil_check.proofs.WeightLemmas.{time_more, row_reached}
 use Rattle.fil_check.proofs.weight.Asked.reach_time.Goals as goal
 

@@ -2,10 +2,10 @@ use Rattle.std.proofs.Common.{◌≡◌, List, ◌++◌, length, take, get_or, s
 use Rattle.std.proofs.Math.Seq.{take-length}
 use Rattle.std.proofs.lemmas.List.{length-map}
 use Rattle.fil_ast.specs.Tree.{TimeAt}
-use Rattle.fil_check.specs.inside.Times.{known, time_shown}
+use Rattle.fil_place.specs.Times.{known, time_shown}
 use Rattle.fil_check.specs.inside.Weights.{IsAsked}
-use Rattle.fil_check.specs.declared.timeline.times.Offset.{Offset}
-use Rattle.fil_check.proofs.TimeLemmas.{time_at}
+use Rattle.fil_place.specs.declared.times.Offset.{Offset}
+use Rattle.fil_place.proofs.TimeLemmas.{time_at}
 use Rattle.fil_check.proofs.WeightLemmas.{stands, times_more}
 use Rattle.fil_check.proofs.weight.Asked.reach_times.Goals as goal
 

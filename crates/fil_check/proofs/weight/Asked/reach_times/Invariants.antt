@@ -2,7 +2,7 @@ use Rattle.std.proofs.Common.{List, ◌++◌, take}
 use Rattle.hw_names.specs.Name.{Text, AreDistinct}
 use Rattle.fil_ast.specs.Timeline.{Interval}
 use Rattle.fil_ast.specs.Tree.{TimeAt}
-use Rattle.fil_check.specs.inside.Times.{AreTimes}
+use Rattle.fil_place.specs.Times.{AreTimes}
 use Rattle.fil_check.specs.inside.Weights.{IsAsked}
 use Rattle.fil_check.proofs.weight.Asked.reach_times.Given as goal
 

@@ -1,6 +1,0 @@
-use Rattle.fil_check.proofs.CellPinLemmas.{AreInstancePortsBelow}
-use Rattle.fil_check.proofs.loops.cells.ports_by_keys.Given as goal
-
--- those of the nodes so far
-abbrev pub invariant-loop-node : goal.invariant-loop-node
-invariant-loop-node l = AreInstancePortsBelow l.ports l.node l.entries.items

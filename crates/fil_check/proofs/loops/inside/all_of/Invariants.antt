@@ -1,6 +1,0 @@
-use Rattle.std.proofs.Common.{◌≡◌, Some, map, take}
-use Rattle.fil_check.proofs.loops.inside.all_of.Given as goal
-
--- the nodes so far
-abbrev pub invariant-loop-node : goal.invariant-loop-node
-invariant-loop-node l = l.all.items ≡ map Some (take l.node-index l.nodes)

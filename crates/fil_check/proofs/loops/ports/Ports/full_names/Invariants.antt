@@ -1,6 +1,0 @@
-use Rattle.std.proofs.Common.{◌≡◌, take}
-use Rattle.fil_check.proofs.loops.ports.Ports.full_names.Given as goal
-
--- the full names so far
-abbrev pub invariant-loop-place : goal.invariant-loop-place
-invariant-loop-place l = l.names ≡ take l.place l.self.names

@@ -1,8 +1,0 @@
-use Rattle.std.proofs.Common.{subst}
-use Rattle.hw_names.specs.Name.{AreDistinct}
-use Rattle.fil_check.specs.inside.Ports.{PortList}
-use Rattle.fil_check.proofs.PortNumberLemmas.{names_distinct}
-use Rattle.fil_check.proofs.loops.ports.Ports.len.Goals as goal
-
-pub returns-clause-distinct : goal.returns-clause-distinct
-returns-clause-distinct c = subst (λ (v : PortList). AreDistinct v.names) c.self.view_is (names_distinct c.self.inside.texts.all c.are_distinct.ensures c.self.inside.set.keys c.self.invariant.0 c.self.invariant.1)

@@ -1,5 +1,0 @@
-use Rattle.fil_check.proofs.PortNumberLemmas.{different_kept}
-use Rattle.fil_check.proofs.loops.ports.place_of.Goals as goal
-
-pub returns-clause-different : goal.returns-clause-different
-returns-clause-different c = different_kept c.args.set.now.keys c.insert_full.new.self.keys c.args.key c.in_ok-place.ensures.keys

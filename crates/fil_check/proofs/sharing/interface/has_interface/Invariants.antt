@@ -1,7 +1,0 @@
-use Rattle.fil_check.proofs.EachLemmas.{EachBelow}
-use Rattle.fil_check.proofs.MarkedLemmas.{IsNoPort}
-use Rattle.fil_check.proofs.sharing.interface.has_interface.Given as goal
-
--- none of the interface ports so far is the event's
-abbrev pub invariant-loop-go : goal.invariant-loop-go
-invariant-loop-go l = EachBelow (IsNoPort l.names l.comp l.event) l.comp.gos.items l.go-index

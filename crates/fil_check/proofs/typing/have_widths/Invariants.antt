@@ -1,9 +1,0 @@
-use Rattle.std.proofs.Common.{length}
-use Rattle.fil_ast.specs.Scope.{Scope}
-use Rattle.fil_check.specs.inside.Place.{IsPlaceIn}
-use Rattle.fil_check.proofs.GivenLemmas.{WideBelow}
-use Rattle.fil_check.proofs.typing.have_widths.Given as goal
-
--- the arguments so far have the widths of their ports
-abbrev pub invariant-loop-arg : goal.invariant-loop-arg
-invariant-loop-arg l = (scope : Scope) → IsPlaceIn l.place scope → WideBelow l.place.names.now scope l.ports l.args (length l.yielded)

@@ -1,0 +1,16 @@
+pub mod CellLemmas
+pub mod CellPinLemmas
+pub mod DependLemmas
+pub mod FlatLemmas
+pub mod InstanceLemmas
+pub mod InstanceNumberLemmas
+pub mod LevelLemmas
+pub mod OrderLemmas
+pub mod OwnPortLemmas
+pub mod PartLemmas
+pub mod PortGraphLemmas
+pub mod PortNumberLemmas
+pub mod ReadingLemmas
+pub mod ThroughLemmas
+pub mod WiredLemmas
+pub mod WiringLemmas

@@ -1,0 +1,9 @@
+pub mod inside
+pub mod Callees
+pub mod Outputs
+pub mod Place
+pub mod SignatureNames
+pub mod Starts
+pub mod Tables
+pub mod Times
+pub mod Uses

@@ -1,0 +1,17 @@
+pub mod ArgumentLemmas
+pub mod AvailableLemmas
+pub mod ConnectLemmas
+pub mod HoldLemmas
+pub mod ItemLemmas
+pub mod LeastLemmas
+pub mod ListedLemmas
+pub mod MarkedLemmas
+pub mod PlaceLemmas
+pub mod ReadLemmas
+pub mod SharingLemmas
+pub mod ShortLemmas
+pub mod SignatureLemmas
+pub mod SpanLemmas
+pub mod SpanStartLemmas
+pub mod StageLemmas
+pub mod StartLemmas

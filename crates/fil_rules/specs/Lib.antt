@@ -1,0 +1,5 @@
+pub mod inside
+pub mod FirstItem
+pub mod Held
+pub mod Least
+pub mod LeastRule
