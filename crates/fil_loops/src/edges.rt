@@ -15,8 +15,8 @@ ghost use Rattle.fil_loops.specs.inside.PortGraph.{Adds, Below, HasInstances, No
 ghost use Rattle.fil_loops.specs.inside.Readings.{port_of_value, ReadsAll, ReadsArgument, ReadsAt, ReadsBy, ReadsEach, ReadsGiven, ReadsMade, ReadsValue};
 
 use crate::graph::PortGraph;
-use fil_place::{Place, callee_at, invoked_by};
 use fil_ast::{Stmt, Value};
+use fil_place::{Place, callee_at, invoked_by};
 use fil_sig::{SigPort, TimeSig, table_name};
 use hw_bits::Memory;
 use hw_prims::Prim;

@@ -9,8 +9,8 @@ ghost use Rattle.fil_loops.specs.OwnPorts.{own_port_names};
 ghost use Rattle.fil_loops.specs.inside.Reached.{port_names};
 ghost use Rattle.fil_loops.specs.Wiring.{IsInside};
 
-use fil_place::Place;
 use fil_ast::FilPort;
+use fil_place::Place;
 use fil_sig::add_name;
 use hw_bits::Memory;
 use hw_cells::{PartGraph, condense_graph};

@@ -1,8 +1,7 @@
 -- The items of a component, judged one after another.
-use Rattle.std.proofs.Common.{◌≡◌, ℕ, zero, suc, ◌+◌, ◌≤◌, List, [], ◌∷◌, ◌++◌, length, take, slice_get, flat_map, All, Some, Result, Ok, Err, IfErr, IsErrAnd, inl, inr, refl, sym, ap, subst, ◌∙◌, add-one, arith}
+use Rattle.std.proofs.Common.{◌≡◌, ℕ, zero, suc, ◌+◌, ◌≤◌, List, [], ◌∷◌, ◌++◌, length, take, slice_get, All, Some, Result, Ok, Err, IfErr, IsErrAnd, inl, inr, refl, sym, ap, subst, ◌∙◌, add-one, arith}
 use Rattle.std.proofs.lemmas.Bool.{cases_lt}
-use Rattle.std.proofs.lemmas.List.{append-nil, take_all}
-use Rattle.std.proofs.lemmas.List.Concat.{flat_map-append}
+use Rattle.std.proofs.lemmas.List.{take_all}
 use Rattle.std.proofs.lemmas.Option.{same_Some, slice_get_within}
 use Rattle.hw_names.specs.Name.{Text}
 use Rattle.fil_ast.specs.Connections.{ConnectsAll}
@@ -10,7 +9,7 @@ use Rattle.fil_ast.specs.Evidence as shown
 use Rattle.fil_ast.specs.Items.{Item, TheSignature, TheStatement, TheEnd, scope_after, scope_with}
 use Rattle.fil_ast.specs.Refusal.{ShowsBroken, ShowsAtStatement}
 use Rattle.fil_ast.specs.Rules.{Rule, F5, F6, F7, F8, F9, Keeps, KeepsItem, KeepsComponent, AtSignature, AtStatement, all_rules}
-use Rattle.fil_ast.specs.Scope.{Scope, Instance, Invocation, instances_at, invocations_at}
+use Rattle.fil_ast.specs.Scope.{Scope}
 use Rattle.fil_ast.specs.Tree.{Statement, Component, Design, component_tree}
 use Rattle.fil_ast.specs.declared.tree.FilComp.{FilComp}
 use Rattle.fil_rules.specs.FirstItem.{KeepsBefore, IsFirstItem, ItemIs, TellsItem}
@@ -25,6 +24,7 @@ use Rattle.fil_rules.specs.declared.rules.ItemEnd.TheVariants.{Broken, Memory}
 use Rattle.fil_rules.specs.declared.rules.Rule.TheVariants as code_rule
 use Rattle.fil_place.specs.declared.earlier.Earlier.{Earlier}
 use Rattle.fil_place.specs.declared.tables.Tables.{Tables}
+use Rattle.fil_place.proofs.BodyLemmas.{scope_more}
 use Rattle.fil_rules.proofs.LeastLemmas.{all_thirteen, breaks, first_four, one_more_rule}
 use Rattle.fil_share.proofs.ListLemmas.{take_next}
 

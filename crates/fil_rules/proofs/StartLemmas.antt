@@ -8,7 +8,7 @@ use Rattle.fil_ast.specs.Tree.{Design, component_tree}
 use Rattle.fil_ast.specs.declared.tree.FilComp.{FilComp}
 use Rattle.fil_rules.specs.inside.StandsAt.{StandsAt}
 use Rattle.fil_place.specs.Starts.{use_at}
-use Rattle.fil_place.specs.Tables.{Shows, listed}
+use Rattle.fil_place.specs.Tables.{Shows}
 use Rattle.fil_place.specs.declared.earlier.Earlier.{Earlier}
 use Rattle.fil_place.specs.declared.tables.Tables.{Tables}
 

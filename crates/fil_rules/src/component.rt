@@ -11,11 +11,11 @@ ghost use Rattle.fil_rules.specs.inside.StandsAt.{StandsAt};
 ghost use Rattle.fil_place.specs.Tables.{IsPlace, ShowsEarlier};
 
 use crate::connections::connects_all;
-use fil_place::{Around, Earlier, Tables};
 use crate::rules::{CompEnd, ItemEnd, Rule, breaks};
 use crate::signature::judge_signature;
 use crate::statement::judge_statement;
 use fil_ast::FilComp;
+use fil_place::{Around, Earlier, Tables};
 use hw_names::Names;
 use std::alloc::Global;
 

@@ -7,9 +7,9 @@ ghost use Rattle.fil_ast.specs.Scope.{Scope};
 ghost use Rattle.fil_ast.specs.Tree.{Connect, Statement, component_tree, value_tree};
 ghost use Rattle.fil_place.specs.Place.{IsPlaceIn};
 
-use fil_place::Place;
 use crate::timeline::available::{missing_in, output_interval};
 use fil_ast::{FilComp, Value};
+use fil_place::Place;
 use hw_names::{NameId, Names};
 
 /// F9 of a connection: it is its output's first, and its value is available throughout the output's interval.

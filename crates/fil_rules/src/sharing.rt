@@ -9,11 +9,11 @@ pub mod apart;
 pub mod in_time;
 pub mod interface;
 
-use fil_place::{Callee, Offset, Place};
 use crate::rules::{Broken, Evidence, ItemEnd, Rule, breaks};
 use crate::sharing::apart::meeting_cycle;
 use crate::sharing::in_time::first_gap;
 use crate::sharing::interface::triggers_with_interface;
+use fil_place::{Callee, Offset, Place};
 
 /// Judges an invocation of the instance with this number, a callee's, at these times by F11 to F13. It takes no memory.
 pub fn judge_sharing(

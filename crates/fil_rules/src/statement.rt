@@ -18,7 +18,10 @@ use crate::sharing::judge_sharing;
 use crate::timeline::judge_timing;
 use crate::typing::{keeps_numbers, keeps_widths};
 use fil_ast::Stmt;
-use fil_place::{Around, Callee, StatementParts, Made, Offset, Place, Tables, callee_made, callee_named, given_at, add_statement, made_at};
+use fil_place::{
+    Around, Callee, Made, Offset, Place, StatementParts, Tables, add_statement, callee_made,
+    callee_named, given_at, made_at,
+};
 use std::alloc::Global;
 
 /// The signature of what the statement makes or invokes, where it has one.

@@ -21,12 +21,12 @@ pub mod available;
 pub mod holds;
 pub mod missing;
 
-use fil_place::{Callee, Offset, Place, interval_at};
 use crate::connections::connects_once;
 use crate::rules::{Broken, Evidence, ItemEnd, Rule, breaks};
 use crate::timeline::available::missing_in;
 use crate::timeline::holds::{holds_some, keeps_delays};
 use fil_ast::{FilComp, FilPort, Stmt, Value};
+use fil_place::{Callee, Offset, Place, interval_at};
 use fil_sig::{SigPort, TimeSig};
 use hw_names::Names;
 

@@ -12,8 +12,8 @@ ghost use Rattle.fil_rules.specs.inside.Arguments.{AreWide};
 ghost use Rattle.fil_place.specs.Place.{IsPlaceIn};
 ghost use Rattle.fil_place.specs.Tables.{signature_at};
 
-use fil_place::{Callee, Place, output, value_width};
 use fil_ast::{Stmt, Time, Value};
+use fil_place::{Callee, Place, output, value_width};
 use fil_sig::{Delay, SigEvent, SigPort, TimeSig};
 use hw_bits::{Bits, MAX_WIDTH};
 use hw_names::{NameId, Names};

@@ -16,8 +16,8 @@ ghost use Rattle.fil_place.specs.Starts.{ListsUses};
 ghost use Rattle.fil_place.specs.Tables.{calls_at};
 ghost use Rattle.fil_place.specs.declared.uses.Use.{Use};
 
-use fil_place::{Offset, Place, Tables, Use, use_of};
 use crate::sharing::apart::end_of;
+use fil_place::{Offset, Place, Tables, Use, use_of};
 use fil_share::Meet;
 use fil_sig::{Delay, TimeSig};
 

@@ -10,8 +10,8 @@ ghost use Rattle.fil_rules.specs.inside.Shared.{IsInvokedIn};
 ghost use Rattle.fil_rules.specs.inside.Sharing.{IsMarkedAt, IsUsedBefore};
 ghost use Rattle.fil_place.specs.Starts.{ListsUses};
 
-use fil_place::{Offset, Place, Tables, use_of};
 use fil_ast::FilComp;
+use fil_place::{Offset, Place, Tables, use_of};
 use fil_sig::{SigEvent, TimeSig};
 use hw_names::Names;
 

@@ -12,9 +12,9 @@ ghost use Rattle.fil_place.specs.Place.{IsPlaceIn};
 ghost use Rattle.fil_rules.specs.inside.Available.{ShowsAvailable};
 ghost use Rattle.fil_place.specs.Times.{ShowsInterval};
 
-use fil_place::{Interval, Place, given_by, input, interval_at, output, result_port};
 use crate::timeline::missing::{Available, missing};
 use fil_ast::{FilPort, Value};
+use fil_place::{Interval, Place, given_by, input, interval_at, output, result_port};
 use hw_names::Names;
 
 /// The interval of a port of the component, where both of its times name events.
