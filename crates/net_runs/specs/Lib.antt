@@ -1,0 +1,2 @@
+pub mod StoppedRun
+pub mod Laws
