@@ -1,10 +1,16 @@
 -- A trace of rows is a run up to its first Conflict.
-use Rattle.std.proofs.Common.{◌≡◌, ◌⊎◌, inl, inr, ℕ, zero, suc, ◌+◌, ◌<◌, List, Some, None, refl, subst, arith}
+use Rattle.std.proofs.Common.{◌≡◌, ◌⊎◌, inl, inr, ℕ, zero, suc, ◌+◌, ◌<◌, List, Some, None, Option, refl, subst, arith}
 use Rattle.std.proofs.lemmas.Bool.{cases_lt, cases_eq}
 use Rattle.hw_names.specs.Name.{Text}
 use Rattle.hw_prims.specs.Row.{Trace}
-use Rattle.net_core.specs.Circuit.{Circuit, IsRow, HasConflict, IsReported, EndsInConflict, states_before}
-use Rattle.net_runs.specs.StoppedRun.{HasRun}
+use Rattle.net_core.specs.Circuit.{Circuit, IsRow, HasConflict, IsReported, EndsInConflict, IsRun, Stops, states_before}
+
+-- how the trace, as a run for `asked` rows, ends
+pub record Ending (c : Circuit) (trace : Trace) (asked : ℕ) (inputs : Trace) (loads : Text → List ℕ) : Type 0 where
+  pub height : ℕ
+  pub stop : Option Text
+  pub run : IsRun c asked inputs loads height trace
+  pub stops : Stops c height trace stop
 
 module _ (c : Circuit) (trace : Trace) (reported_or_not : (t : ℕ) → ((port : Text) × IsReported c t (trace t) port) ⊎ ((port : Text) → HasConflict c t (trace t) port → ⊥)) where
   -- no row before this one has a Conflict
@@ -37,11 +43,10 @@ module _ (c : Circuit) (trace : Trace) (reported_or_not : (t : ℕ) → ((port :
       | inr more ↦ inr (omega (arith, more, first.within), (t, refl, port, first.reported.has))
     ]
 
-    pub has_run : HasRun c asked inputs loads
-    has_run = elim (first_conflict asked) [
+    pub ending : Ending c trace asked inputs loads
+    ending = elim (first_conflict asked) [
       | inl (t, port, first) ↦ record {
         height = t + 1;
-        trace = trace;
         stop = Some port;
         run = record {
           rows = λ u below. rows u;
@@ -52,7 +57,6 @@ module _ (c : Circuit) (trace : Trace) (reported_or_not : (t : ℕ) → ((port :
       }
       | inr clean ↦ record {
         height = asked;
-        trace = trace;
         stop = None;
         run = record {
           rows = λ u below. rows u;

@@ -9,7 +9,7 @@ use Rattle.hw_prims.specs.declared.prim.Primitive.{Primitive}
 use Rattle.net_core.specs.Circuit.{Circuit, IsRow, IsComputed, states_before}
 use Rattle.net_runs.proofs.ConflictLemmas.{reported_or_not}
 use Rattle.net_runs.proofs.OrderlyLemmas.{IsOrderly, row_made, row_is}
-use Rattle.net_runs.proofs.StopLemmas.{has_run}
+use Rattle.net_runs.proofs.StopLemmas.{ending}
 use Rattle.net_runs.specs.StoppedRun.{HasRun}
 
 module _ (c : Circuit) (ports : List Text) (Reads : Text → Text → Type 0) (orderly : IsOrderly c ports Reads) (asked : ℕ) (inputs : Trace) (loads : Text → List ℕ) where
@@ -35,4 +35,6 @@ module _ (c : Circuit) (ports : List Text) (Reads : Text → Text → Type 0) (o
 
   -- an orderly circuit has a run
   pub orderly_has_run : HasRun c asked inputs loads
-  orderly_has_run = has_run c trace (λ t. reported_or_not c ports Reads orderly t (trace t)) asked inputs loads rows
+  orderly_has_run =
+      let e = ending c trace (λ t. reported_or_not c ports Reads orderly t (trace t)) asked inputs loads rows in
+      record { height = e.height; trace = trace; stop = e.stop; run = e.run; stops = e.stops }
