@@ -1,0 +1,4 @@
+pub mod Spans
+pub mod Paths
+pub mod Lists
+pub mod Needed
