@@ -1,0 +1,4 @@
+pub mod Below
+pub mod Same
+pub mod Renamed
+pub mod Laws

@@ -1,0 +1,6 @@
+//! Laws of parts of runs.
+#![tactic(auto)]
+
+mod laws;
+
+pub use laws::{sub_runs};
