@@ -132,7 +132,7 @@ module _ (design : Design) (top c : Component) (path : Path) (at : component_at 
         ∙ ap (λ (f : Drive). f t (row_below path row)) (sym a.drives);
   }
 
-  conflict_below : (t : ℕ) (row : Row) (port : Text) → HasConflict (cal_circuit design c part) t (row_below path row) port → HasConflict (cal_circuit design top whole) t row (full_name path port)
+  pub conflict_below : (t : ℕ) (row : Row) (port : Text) → HasConflict (cal_circuit design c part) t (row_below path row) port → HasConflict (cal_circuit design top whole) t row (full_name path port)
   conflict_below t row port conflict =
       let d = driven port conflict.drive conflict.sink in
       record { drive = d.there; sink = d.sink; clash = subst (λ (values : List ℕ). 2 ≤ length values) (sym (d.alike t row)) conflict.clash }

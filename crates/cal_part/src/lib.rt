@@ -3,4 +3,4 @@
 
 mod laws;
 
-pub use laws::{sub_runs};
+pub use laws::{bare_is_bare, scheduled_is_bare, sub_runs, sub_runs_stop};
