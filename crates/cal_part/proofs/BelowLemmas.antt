@@ -81,7 +81,7 @@ state_below (suc t) path trace cell prim opening =
 -- ---- instances
 
 -- the instance at the end of two paths
-component_at-append : (design : Design) (c : Component) (path below : Path) (d : Component) → component_at design c path ≡ Some d → component_at design c (path ++ below) ≡ component_at design d below
+pub component_at-append : (design : Design) (c : Component) (path below : Path) (d : Component) → component_at design c path ≡ Some d → component_at design c (path ++ below) ≡ component_at design d below
 component_at-append design c [] below d at = let is : c ≡ d = cc in ap (λ (x : Component). component_at design x below) is
 component_at-append design c (cell ∷ path) below d at =
     let part = component_at-step design c cell path d at in

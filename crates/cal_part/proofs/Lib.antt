@@ -1,3 +1,4 @@
 pub mod BelowLemmas
 pub mod StopLemmas
 pub mod WiredLemmas
+pub mod PlaceLemmas
