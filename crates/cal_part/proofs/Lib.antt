@@ -3,3 +3,7 @@ pub mod StopLemmas
 pub mod WiredLemmas
 pub mod PlaceLemmas
 pub mod SameLemmas
+pub mod RuleLemmas
+pub mod LoopLemmas
+pub mod FrontLemmas
+pub mod RenamedLemmas

@@ -197,7 +197,7 @@ same_inputs c d s = inputs_alike c d s.ins (same_bare c d s)
 pub same_outputs : (c d : Component) → IsSameComponent c d → outputs_in c ≡ outputs_in d
 same_outputs c d s = outputs_alike c d s.outs (same_bare c d s)
 
-and_then-itself : {X : Type 0} (o : Option X) → option_and_then (λ (x : X). Some x) o ≡ o
+pub and_then-itself : {X : Type 0} (o : Option X) → option_and_then (λ (x : X). Some x) o ≡ o
 and_then-itself None = refl
 and_then-itself (Some x) = refl
 

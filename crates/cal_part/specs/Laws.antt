@@ -13,6 +13,7 @@ use Rattle.cal_ast.specs.Wired.{IsWired}
 use Rattle.cal_ast.specs.Wires.{HasNoLoop}
 use Rattle.cal_part.specs.Below.{IsActivityBelow, IsRunBelow, IsWiredBelow, StopsBelow}
 use Rattle.cal_part.specs.Same.{IsSameBelow, HaveSameRuns}
+use Rattle.cal_part.specs.Front.{KeepsFront, IsWiredAfter}
 use Rattle.cal_part.specs.Renamed.{IsRenaming, renamed, renamed_design}
 
 -- ---- below a path
@@ -65,3 +66,11 @@ abbrev pub RenamedIsSame : Type 0
 RenamedIsSame =
     (design : Design) (rename : Text → Text) → IsRenaming design rename → CalRules design → (c : Component) → Contains design c →
     IsSameBelow design c (renamed_design rename design) (renamed rename c)
+
+-- what its components keep where others come after them
+abbrev pub FrontKeepsRules : Type 0
+FrontKeepsRules = (front more : Design) → CalRules front → KeepsFront front more
+
+-- so the whole is wired where these are
+abbrev pub FrontIsWired : Type 0
+FrontIsWired = (front more : Design) → IsWired front → IsWiredAfter front more → IsWired (front ++ more)

@@ -1,4 +1,5 @@
 pub mod Below
 pub mod Same
 pub mod Renamed
+pub mod Front
 pub mod Laws
