@@ -1,5 +1,7 @@
 //! Laws of parts of runs, and of designs that hold other designs.
 ghost use Rattle.cal_part.specs.Laws.{BareIsBare, ScheduledIsBare, SubRuns, SubRunsStop};
+ghost use Rattle.cal_part.specs.Laws.{SameBelow};
+ghost use Rattle.cal_part.specs.Laws.{FrontIsWired, FrontKeepsRules, RenamedIsPlain, RenamedIsSame, RenamedIsWired, RenamedKeepsRules};
 
 /// Below the path of an instance a run of a design is a run of the instance's component, with no Conflict but those of the whole.
 pub fn sub_runs()
@@ -19,4 +21,39 @@ pub fn bare_is_bare()
 /// Under control the parts are bare where all instances from a component down are wires alone.
 pub fn scheduled_is_bare()
     ensures { ScheduledIsBare }
+{}
+
+/// Hierarchies that are the same but for the names of their components have the same runs, with the same Conflicts.
+pub fn same_below()
+    ensures { SameBelow }
+{}
+
+/// A design whose components get other names keeps C1 to C12.
+pub fn renamed_keeps_rules()
+    ensures { RenamedKeepsRules }
+{}
+
+/// So does a design of wires alone.
+pub fn renamed_is_wired()
+    ensures { RenamedIsWired }
+{}
+
+/// Its names stay plain.
+pub fn renamed_is_plain()
+    ensures { RenamedIsPlain }
+{}
+
+/// And the hierarchy below each component stays the same.
+pub fn renamed_is_same()
+    ensures { RenamedIsSame }
+{}
+
+/// Components keep C1 to C12 and the hierarchies below them, whatever components come after them.
+pub fn front_keeps_rules()
+    ensures { FrontKeepsRules }
+{}
+
+/// So a design of wires with further ones after it is one.
+pub fn front_is_wired()
+    ensures { FrontIsWired }
 {}
