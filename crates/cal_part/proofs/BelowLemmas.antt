@@ -21,7 +21,7 @@ use Rattle.cal_part.specs.Laws.{SubRuns}
 -- ---- names
 
 -- a name at the end of two paths
-full_name-below : (path below : Path) (name : Text) → full_name (path ++ below) name ≡ full_name path (full_name below name)
+pub full_name-below : (path below : Path) (name : Text) → full_name (path ++ below) name ≡ full_name path (full_name below name)
 full_name-below [] below name = refl
 full_name-below (instance ∷ path) below name = ap (dotted instance) (full_name-below path below name)
 
@@ -58,7 +58,7 @@ test_below path x y =
 
 -- ---- values
 
-look_below : (path below : Path) (row : Row) → look (path ++ below) row ≡ look below (row_below path row)
+pub look_below : (path below : Path) (row : Row) → look (path ++ below) row ≡ look below (row_below path row)
 look_below path below row = fun_ext (λ (p : PortName). ap row (port_at-below path below p.cell p.pin))
 
 -- what assignments give a port, read in the whole and below the path

@@ -1,9 +1,12 @@
+pub mod FirstLemmas
 pub mod BelowLemmas
 pub mod StopLemmas
 pub mod WiredLemmas
+pub mod ControlLemmas
 pub mod PlaceLemmas
 pub mod SameLemmas
 pub mod RuleLemmas
 pub mod LoopLemmas
-pub mod FrontLemmas
 pub mod RenamedLemmas
+pub mod FrontLemmas
+pub mod HeldLemmas

@@ -1,22 +1,28 @@
--- The laws of parts of runs. This project's.
-use Rattle.std.specs.Prelude.{◌≡◌, ℕ, ◌++◌, List, Option, Some, take, slice_get, Contains}
+-- The laws of parts of runs, and of designs that are parts of others. This project's.
+use Rattle.std.specs.Prelude.{◌≡◌, ℕ, ◌<◌, ◌≤◌, List, ◌++◌, Option, Some, None, Contains}
 use Rattle.hw_names.specs.Name.{Text, Path}
 use Rattle.hw_prims.specs.Row.{Trace}
-use Rattle.cal_ast.specs.CalRun.{Activity, BareRun, RunWith, StoppedRunWith, bare}
+use Rattle.net_core.specs.Circuit.{Stops}
+use Rattle.cal_ast.specs.CalRun.{Activity, RunWith, StoppedRunWith, bare, cal_circuit}
 use Rattle.cal_ast.specs.Instances.{component_at}
-use Rattle.cal_ast.specs.Naming.{Unreserved}
 use Rattle.cal_ast.specs.Plain.{HasPlainTree}
-use Rattle.cal_ast.specs.Rules.{CalRules, KeepsComponent}
+use Rattle.cal_ast.specs.Rules.{CalRules}
 use Rattle.cal_ast.specs.Schedule.{Run, scheduled}
 use Rattle.cal_ast.specs.Tree.{Component, Design}
 use Rattle.cal_ast.specs.Wired.{IsWired}
-use Rattle.cal_ast.specs.Wires.{HasNoLoop}
-use Rattle.cal_part.specs.Below.{IsActivityBelow, IsRunBelow, IsWiredBelow, StopsBelow}
-use Rattle.cal_part.specs.Same.{IsSameBelow, HaveSameRuns}
+use Rattle.cal_part.specs.Below.{IsActivityBelow, IsRunBelow, IsWiredBelow, StopsBelow, rows_below, loads_below}
 use Rattle.cal_part.specs.Front.{KeepsFront, IsWiredAfter}
 use Rattle.cal_part.specs.Renamed.{IsRenaming, renamed, renamed_design}
+use Rattle.cal_part.specs.Same.{IsSameBelow, HaveSameRuns}
 
--- ---- below a path
+-- ---- parts of runs
+
+-- the first rows of a run are a run; where there are more, none of them has a Conflict
+abbrev pub FirstRowsAreRuns : Type 0
+FirstRowsAreRuns =
+    (design : Design) (top : Component) (activity : Activity) (asked : ℕ) (inputs : Trace) (loads : Text → List ℕ) (height : ℕ) (trace : Trace) →
+    RunWith design top activity asked inputs loads height trace → (rows : ℕ) → rows ≤ height →
+    RunWith design top activity rows inputs loads rows trace × (rows < height → Stops (cal_circuit design top activity) rows trace None)
 
 -- whatever acts, a run of a design is, below the path of an instance, a run of the instance's component
 abbrev pub SubRuns : Type 0
@@ -24,26 +30,36 @@ SubRuns =
     (design : Design) (top c : Component) (path : Path) → component_at design top path ≡ Some c →
     (whole part : Activity) → IsActivityBelow design c path whole part →
     (asked : ℕ) (inputs : Trace) (loads : Text → List ℕ) (height : ℕ) (trace : Trace) → RunWith design top whole asked inputs loads height trace →
-    IsRunBelow design top c path whole part loads height trace
+    IsRunBelow (cal_circuit design top whole) (cal_circuit design c part) path loads height trace
 
--- and how it stops
+-- and how it stops there
 abbrev pub SubRunsStop : Type 0
 SubRunsStop =
     (design : Design) (top c : Component) (path : Path) → component_at design top path ≡ Some c →
     (whole part : Activity) → IsActivityBelow design c path whole part →
     (asked : ℕ) (inputs : Trace) (loads : Text → List ℕ) (height : ℕ) (trace : Trace) (stop : Option Text) →
-    StoppedRunWith design top whole asked inputs loads height trace stop → StopsBelow design c path part height trace stop
+    StoppedRunWith design top whole asked inputs loads height trace stop → StopsBelow (cal_circuit design c part) path height trace stop
 
--- of a design of bare components the parts are bare
+-- where continuous assignments alone act, so they do below a path
 abbrev pub BareIsBare : Type 0
 BareIsBare = (design : Design) (c : Component) (path : Path) → IsActivityBelow design c path bare bare
 
--- under control too, where all instances from the component down are wires alone
+-- under control too, where all is wires from the component on
 abbrev pub ScheduledIsBare : Type 0
 ScheduledIsBare =
     (design : Design) (top c : Component) (path : Path) → IsWiredBelow design c →
     (asked : ℕ) (inputs : Trace) (loads : Text → List ℕ) (height : ℕ) (trace : Trace) (stop : Option Text) →
     (run : Run design top asked inputs loads height trace stop) → IsActivityBelow design c path (scheduled design run.acts run.is_done) bare
+
+-- and where control is below the path too, the run there is one under control, however it stops
+abbrev pub ControlledSubRuns : Type 0
+ControlledSubRuns =
+    (design : Design) (top c : Component) (path : Path) → component_at design top path ≡ Some c →
+    (asked : ℕ) (inputs : Trace) (loads : Text → List ℕ) (height : ℕ) (trace : Trace) (stop : Option Text) →
+    (run : Run design top asked inputs loads height trace stop) → (stop_below : Option Text) →
+    Stops (cal_circuit design c (scheduled design (λ below. run.acts (path ++ below)) (λ below. run.is_done (path ++ below))))
+        height (rows_below path trace) stop_below →
+    Run design c height (rows_below path trace) (loads_below path loads) height (rows_below path trace) stop_below
 
 -- ---- hierarchies
 
@@ -52,13 +68,14 @@ SameBelow = (design other : Design) (c d : Component) → IsSameBelow design c o
 
 -- ---- designs
 
--- what a design keeps where its components get other names
+-- a design keeps C1 to C12 where its components get other names
 abbrev pub RenamedKeepsRules : Type 0
 RenamedKeepsRules = (design : Design) (rename : Text → Text) → IsRenaming design rename → CalRules design → CalRules (renamed_design rename design)
 
 abbrev pub RenamedIsWired : Type 0
 RenamedIsWired = (design : Design) (rename : Text → Text) → IsRenaming design rename → IsWired design → IsWired (renamed_design rename design)
 
+-- names of ports and cells stay
 abbrev pub RenamedIsPlain : Type 0
 RenamedIsPlain = (design : Design) (rename : Text → Text) → HasPlainTree design → HasPlainTree (renamed_design rename design)
 
@@ -67,10 +84,27 @@ RenamedIsSame =
     (design : Design) (rename : Text → Text) → IsRenaming design rename → CalRules design → (c : Component) → Contains design c →
     IsSameBelow design c (renamed_design rename design) (renamed rename c)
 
--- what its components keep where others come after them
+-- the components of a design that keeps the rules keep them, whatever comes after
 abbrev pub FrontKeepsRules : Type 0
 FrontKeepsRules = (front more : Design) → CalRules front → KeepsFront front more
 
--- so the whole is wired where these are
+-- and with further components that keep them the whole is wired
 abbrev pub FrontIsWired : Type 0
 FrontIsWired = (front more : Design) → IsWired front → IsWiredAfter front more → IsWired (front ++ more)
+
+-- whatever comes after, below a component of a wired design all is wires
+abbrev pub FrontIsWiredBelow : Type 0
+FrontIsWiredBelow = (front more : Design) → IsWired front → (c : Component) → Contains front c → IsWiredBelow (front ++ more) c
+
+-- ---- a design that is part of another
+
+-- a design whose components got other names, with others after it: below the path of one of its components, where wires alone act, each run is one of the
+-- design as it was
+abbrev pub HeldRuns : Type 0
+HeldRuns =
+    (held more : Design) (rename : Text → Text) → IsRenaming held rename → CalRules held → (c : Component) → Contains held c →
+    (top : Component) (path : Path) → component_at (renamed_design rename held ++ more) top path ≡ Some (renamed rename c) →
+    (whole : Activity) → IsActivityBelow (renamed_design rename held ++ more) (renamed rename c) path whole bare →
+    (asked : ℕ) (inputs : Trace) (loads : Text → List ℕ) (height : ℕ) (trace : Trace) →
+    RunWith (renamed_design rename held ++ more) top whole asked inputs loads height trace →
+    IsRunBelow (cal_circuit (renamed_design rename held ++ more) top whole) (cal_circuit held c bare) path loads height trace

@@ -1,7 +1,13 @@
 //! Laws of parts of runs, and of designs that hold other designs.
-ghost use Rattle.cal_part.specs.Laws.{BareIsBare, ScheduledIsBare, SubRuns, SubRunsStop};
-ghost use Rattle.cal_part.specs.Laws.{SameBelow};
-ghost use Rattle.cal_part.specs.Laws.{FrontIsWired, FrontKeepsRules, RenamedIsPlain, RenamedIsSame, RenamedIsWired, RenamedKeepsRules};
+ghost use Rattle.cal_part.specs.Laws.{BareIsBare, ControlledSubRuns, FirstRowsAreRuns, ScheduledIsBare, SubRuns, SubRunsStop};
+ghost use Rattle.cal_part.specs.Laws.{HeldRuns, SameBelow};
+ghost use Rattle.cal_part.specs.Laws.{FrontIsWired, FrontIsWiredBelow, FrontKeepsRules};
+ghost use Rattle.cal_part.specs.Laws.{RenamedIsPlain, RenamedIsSame, RenamedIsWired, RenamedKeepsRules};
+
+/// The first rows of a run are a run.
+pub fn first_rows_are_runs()
+    ensures { FirstRowsAreRuns }
+{}
 
 /// Below the path of an instance a run of a design is a run of the instance's component, with no Conflict but those of the whole.
 pub fn sub_runs()
@@ -21,6 +27,11 @@ pub fn bare_is_bare()
 /// Under control the parts are bare where all instances from a component down are wires alone.
 pub fn scheduled_is_bare()
     ensures { ScheduledIsBare }
+{}
+
+/// And where there is control, the run there is one under control.
+pub fn controlled_sub_runs()
+    ensures { ControlledSubRuns }
 {}
 
 /// Hierarchies that are the same but for the names of their components have the same runs, with the same Conflicts.
@@ -56,4 +67,14 @@ pub fn front_keeps_rules()
 /// So a design of wires with further ones after it is one.
 pub fn front_is_wired()
     ensures { FrontIsWired }
+{}
+
+/// And below each of its components all is wires, whatever comes after.
+pub fn front_is_wired_below()
+    ensures { FrontIsWiredBelow }
+{}
+
+/// A design whose components got other names, and that others come after, runs below a path as it does by itself.
+pub fn held_runs()
+    ensures { HeldRuns }
 {}
