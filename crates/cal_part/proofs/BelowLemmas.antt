@@ -1,6 +1,6 @@
 -- A run of a design, seen below the path of an instance, is a run of the instance's component.
 use mathlib.Core.Path.{fun_ext}
-use Rattle.std.proofs.Common.{◌≡◌, inl, inr, ℕ, zero, suc, ◌+◌, List, [], ◌∷◌, ◌++◌, length, Bool, true, false, ◌&&◌, if◌then◌else◌, Option, Some, None, refl, sym, ap, ap₂, ◌∙◌, subst, append_assoc, arith}
+use Rattle.std.proofs.Common.{◌≡◌, inl, inr, ℕ, zero, suc, List, [], ◌∷◌, ◌++◌, length, Bool, true, false, ◌&&◌, if◌then◌else◌, Option, Some, None, refl, sym, ap, ap₂, ◌∙◌, subst, append_assoc}
 use Rattle.std.specs.Prelude.{◌≤◌, bytes_eq, codes, map, option_and_then}
 use Rattle.std.proofs.lemmas.Slice.Eq.{bytes_eq-Decides}
 use Rattle.hw_names.specs.Name.{Text, Path, dot, dotted, full_name, port_at}
@@ -12,10 +12,10 @@ use Rattle.hw_prims.specs.declared.prim.Primitive.{Primitive}
 use Rattle.net_core.specs.Circuit.{Drive, IsRow, HasConflict, settled, state_before, states_before}
 use Rattle.net_core.specs.Guard.{guard_holds, source_value}
 use Rattle.cal_ast.proofs.InstanceLemmas.{component_at-step}
-use Rattle.cal_ast.specs.CalRun.{Activity, RunWith, cal_circuit, look, values_for}
+use Rattle.cal_ast.specs.CalRun.{Activity, cal_circuit, look, values_for}
 use Rattle.cal_ast.specs.Instances.{component_at, port_name}
 use Rattle.cal_ast.specs.Tree.{PortName, Assignment, Component, Design}
-use Rattle.cal_part.specs.Below.{row_below, rows_below, loads_below, IsActivityBelow, IsRunBelow}
+use Rattle.cal_part.specs.Below.{row_below, rows_below, loads_below, IsActivityBelow}
 use Rattle.cal_part.specs.Laws.{SubRuns}
 
 -- ---- names
@@ -66,7 +66,7 @@ values_below : (path below : Path) (port : Text) (row : Row) (sets : List Assign
 values_below path below port row [] = refl
 values_below path below port row (a ∷ sets) =
     let name : bytes_eq (port_name (path ++ below) a.dst) (full_name path port) ≡ bytes_eq (port_name below a.dst) port =
-        ap (λ (x : Text). bytes_eq x (full_name path port)) (port_at-below path below a.dst.cell a.dst.pin) ∙ test_below path (port_name below a.dst) port in
+    ap (λ (x : Text). bytes_eq x (full_name path port)) (port_at-below path below a.dst.cell a.dst.pin) ∙ test_below path (port_name below a.dst) port in
     ap₂ (λ (test : Bool) (see : PortName → ℕ). if test && guard_holds see a.guard then source_value see a.src ∷ values_for (path ++ below) (full_name path port) row sets else values_for (path ++ below) (full_name path port) row sets) name (look_below path below row)
     ∙ ap (λ (values : List ℕ). if bytes_eq (port_name below a.dst) port && guard_holds (look below (row_below path row)) a.guard then source_value (look below (row_below path row)) a.src ∷ values else values) (values_below path below port row sets)
 

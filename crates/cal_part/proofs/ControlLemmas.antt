@@ -1,6 +1,6 @@
 -- Control, seen below the path of an instance, reads there what it reads in the whole.
 use mathlib.Core.Path.{fun_ext}
-use Rattle.std.proofs.Common.{◌≡◌, ℕ, ◌<◌, ◌==◌, ◌&&◌, List, ◌++◌, Bool, true, false, Option, Some, None, refl, sym, ap, ◌∙◌, subst}
+use Rattle.std.proofs.Common.{◌≡◌, ℕ, ◌==◌, ◌&&◌, ◌++◌, Bool, true, false, Option, Some, None, refl, sym, ap, ◌∙◌, subst}
 use Rattle.std.specs.Prelude.{◌↔◌, codes}
 use Rattle.std.specs.List.{list_any}
 use Rattle.hw_names.specs.Name.{Text, Path}
@@ -68,7 +68,7 @@ controlled_sub_runs design top c path at asked inputs loads height trace stop ru
     let acts = λ (below : Path). run.acts (path ++ below) in
     let is_done = λ (below : Path). run.is_done (path ++ below) in
     let below =
-        sub_runs design top c path at (scheduled design run.acts run.is_done) (scheduled design acts is_done) (record { sets = λ q d is t row. refl; done = λ q d is control t. refl }) asked inputs loads height trace run.run.run in
+    sub_runs design top c path at (scheduled design run.acts run.is_done) (scheduled design acts is_done) (record { sets = λ q d is t row. refl; done = λ q d is control t. refl }) asked inputs loads height trace run.run.run in
     record {
       acts = acts;
       is_done = is_done;

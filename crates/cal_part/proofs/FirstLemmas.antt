@@ -1,5 +1,5 @@
 -- The first rows of a run are a run.
-use Rattle.std.proofs.Common.{◌≡◌, inl, ℕ, ◌+◌, ◌<◌, ◌≤◌, refl, arith}
+use Rattle.std.proofs.Common.{inl, refl, arith}
 use Rattle.cal_part.specs.Laws.{FirstRowsAreRuns}
 
 pub first_rows_are_runs : FirstRowsAreRuns

@@ -1,23 +1,21 @@
 -- Components with others after them: a name that means one of them still does, so their rules and hierarchies stay.
-use Rattle.std.proofs.Common.{◌≡◌, ◌⊎◌, inl, inr, ℕ, zero, suc, ◌+◌, List, [], ◌∷◌, ◌++◌, length, take, Bool, true, false, if◌then◌else◌, Option, Some, None, refl, sym, ap, ◌∙◌, subst, arith}
-use Rattle.std.specs.Prelude.{All, Contains, bytes_eq, option_and_then, slice_get}
+use Rattle.std.proofs.Common.{◌≡◌, ◌⊎◌, inl, inr, ℕ, zero, suc, ◌+◌, [], ◌∷◌, ◌++◌, length, take, Bool, true, false, if◌then◌else◌, Option, Some, None, refl, sym, ap, ◌∙◌, subst, arith}
+use Rattle.std.specs.Prelude.{Contains, bytes_eq, option_and_then, slice_get}
 use Rattle.std.proofs.Math.Seq.{take-append-add}
 use Rattle.std.proofs.lemmas.List.{take-append-le}
 use Rattle.std.proofs.lemmas.List.Elements.{All-weaker, Contains-append_cases}
 use Rattle.std.proofs.lemmas.Option.{slice_get_within}
 use Rattle.hw_names.specs.Name.{Text, Path}
-use Rattle.hw_prims.specs.Table.{is_primitive}
 use Rattle.cal_ast.proofs.ItemLemmas.{known_cell}
 use Rattle.cal_ast.proofs.ListLemmas.{place_of, Contains-at}
 use Rattle.cal_ast.proofs.LookupLemmas.{cell_named-Some, component_named-Some, part_in-design, part_of-Some}
 use Rattle.cal_ast.specs.Instances.{component_at}
 use Rattle.cal_ast.specs.Items.{Item, TheSignature, TheCell, TheGroup, TheAssignment, TheDone, TheStatement}
 use Rattle.cal_ast.specs.Naming.{GroupNaming, Unreserved, IsKnownCell, Reaches, Itself, Over}
-use Rattle.cal_ast.specs.Ports.{cell_named, component_named, is_bare, part_in, part_of}
-use Rattle.cal_ast.specs.Rules.{Rule, C1, C2, C3, C4, CalRules, Keeps, KeepsComponent, KeepsRules, KeepsRulesUnder, HasNoLoops, all_rules}
+use Rattle.cal_ast.specs.Ports.{cell_named, component_named, part_in, part_of}
+use Rattle.cal_ast.specs.Rules.{Rule, C1, C2, C3, C4, Keeps, KeepsComponent, KeepsRules, KeepsRulesUnder, HasNoLoops, all_rules}
 use Rattle.cal_ast.specs.Tree.{CellDef, Component, Design}
 use Rattle.cal_ast.specs.Wired.{IsWired}
-use Rattle.cal_ast.specs.Wires.{HasNoLoop}
 use Rattle.cal_part.specs.Front.{KeepsFront, IsWiredAfter}
 use Rattle.cal_part.specs.Laws.{FrontIsWired, FrontKeepsRules}
 use Rattle.cal_part.specs.Same.{AreSamePlaces, IsSameBelow}

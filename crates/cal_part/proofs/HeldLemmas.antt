@@ -1,5 +1,5 @@
 -- A design that is part of another runs there as it does by itself.
-use Rattle.std.proofs.Common.{◌≡◌, ◌++◌, Some, sym, ◌∙◌}
+use Rattle.std.proofs.Common.{◌++◌, sym, ◌∙◌}
 use Rattle.std.specs.Prelude.{Contains}
 use Rattle.cal_ast.proofs.InstanceLemmas.{component_at-design}
 use Rattle.cal_ast.proofs.ListLemmas.{Contains-map}

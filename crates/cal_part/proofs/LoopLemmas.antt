@@ -1,10 +1,9 @@
 -- C12 read by read: a component has no loop where one that is the same, with the same hierarchy below it, has none.
-use Rattle.std.proofs.Common.{◌≡◌, ◌⊎◌, inl, inr, List, [], ◌∷◌, map, Option, Some, refl, sym, ap, ◌∙◌, subst}
-use Rattle.std.specs.Prelude.{Contains, codes, option_and_then}
-use Rattle.hw_names.specs.Name.{Text, Path}
+use Rattle.std.proofs.Common.{◌≡◌, inl, inr, List, [], ◌∷◌, map, Some, sym, ◌∙◌, subst}
+use Rattle.std.specs.Prelude.{Contains, codes}
+use Rattle.hw_names.specs.Name.{Text}
 use Rattle.hw_prims.specs.Table.{Pin, pin_names}
 use Rattle.cal_ast.specs.Actors.{ActorGroup}
-use Rattle.cal_ast.specs.Instances.{component_at}
 use Rattle.cal_ast.specs.Ports.{part_in}
 use Rattle.cal_ast.specs.Tree.{PortName, own, Assignment, GroupDef, Component, Design}
 use Rattle.cal_ast.specs.Wires.{IsGroupOf, IsAssignmentOf, ReadsByAssignment, IsAssignedIn, ReadsByDone, ReadsByGo, ReadsByPrimitive, CrossesCell, ReadsPort, ByAssignment, ByDone, ByGo, ByPrimitive, ByComponent, Reaches, AtOnce, Over, ReadsAlong, HasNoLoop}

@@ -1,5 +1,5 @@
 -- Hierarchies that are the same but for the names of their components: their instances, cells and ports.
-use Rattle.std.proofs.Common.{◌≡◌, ◌⊎◌, inl, inr, ℕ, List, [], ◌∷◌, ◌++◌, length, Bool, true, false, Option, Some, None, refl, sym, ap, ap₂, ◌∙◌, subst, subst₂}
+use Rattle.std.proofs.Common.{◌≡◌, ◌⊎◌, inl, inr, List, [], ◌∷◌, ◌++◌, Bool, true, false, Option, Some, None, refl, sym, ap, ap₂, ◌∙◌, subst, subst₂}
 use Rattle.std.specs.Prelude.{bytes_eq, codes, if◌then◌else◌, option_and_then, IsSome}
 use Rattle.std.specs.List.{AllZip}
 use Rattle.hw_names.specs.Name.{Text, Path}
@@ -9,7 +9,7 @@ use Rattle.hw_prims.specs.declared.prim.Primitive.{Primitive}
 use Rattle.cal_ast.specs.Instances.{component_at}
 use Rattle.cal_ast.specs.Invoking.{made_go, go_of}
 use Rattle.cal_ast.specs.Ports.{SidedPin, is_bare, is_bare_by, with_pin, inputs_in, outputs_in, cell_named, primitive_of, primitive_in, part_in, made_inputs, made_outputs, cell_inputs, cell_outputs, both_sides, ports_at, port_named, port_in}
-use Rattle.cal_ast.specs.Tree.{PortName, Assignment, GroupDef, ControlSection, CellDef, Component, Design}
+use Rattle.cal_ast.specs.Tree.{PortName, CellDef, Component, Design}
 use Rattle.cal_part.specs.Same.{IsSameCell, IsSameComponent, AreSamePlaces, IsSameBelow}
 use Rattle.cal_part.proofs.BelowLemmas.{component_at-append}
 

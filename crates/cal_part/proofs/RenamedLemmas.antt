@@ -1,5 +1,5 @@
 -- Components with other names: each cell means the same component, so rules, hierarchies and plain names stay.
-use Rattle.std.proofs.Common.{◌≡◌, ◌⊎◌, inl, inr, ℕ, List, [], ◌∷◌, ◌++◌, drop, length, map, take, Bool, true, false, if◌then◌else◌, Option, Some, None, refl, sym, ap, ap₂, ◌∙◌, subst, arith}
+use Rattle.std.proofs.Common.{◌≡◌, ◌⊎◌, inl, inr, ℕ, List, [], ◌∷◌, ◌++◌, drop, map, take, Bool, true, false, if◌then◌else◌, Option, Some, None, refl, sym, ap, ap₂, ◌∙◌, subst, arith}
 use Rattle.std.specs.Prelude.{All, Contains, IsSome, bytes_eq, flat_map, option_and_then, option_map, slice_get}
 use Rattle.std.specs.List.{AllZip}
 use Rattle.std.proofs.lemmas.List.{map-append, take-append-drop, take-map}
@@ -14,11 +14,11 @@ use Rattle.cal_ast.proofs.ListLemmas.{place_of, Contains-at, Contains-here, Cont
 use Rattle.cal_ast.proofs.LookupLemmas.{cell_named-Some, component_named-Some, part_in-design, part_of-Some}
 use Rattle.cal_ast.proofs.SideLemmas.{some_found}
 use Rattle.cal_ast.specs.Instances.{component_at}
-use Rattle.cal_ast.specs.Items.{Item, TheSignature, TheCell, TheGroup, TheAssignment, TheDone, TheStatement, each, each_after, group_items, control_statements, items_before_control, items_of}
+use Rattle.cal_ast.specs.Items.{Item, TheSignature, TheCell, TheGroup, TheAssignment, TheDone, TheStatement, each, each_after, group_items, control_statements, items_of}
 use Rattle.cal_ast.specs.Naming.{GroupNaming, Unreserved, HasNewNames, IsNewCell, IsKnownCell, Reaches, Itself, Over, cell_names, component_names}
-use Rattle.cal_ast.specs.Plain.{IsPlainCell, IsPlainComponent, HasPlainTree}
-use Rattle.cal_ast.specs.Ports.{cell_named, component_named, is_bare, part_in, part_of, primitive_of}
-use Rattle.cal_ast.specs.Rules.{Rule, C1, C2, C3, C4, CalRules, Keeps, KeepsComponent, KeepsRules, KeepsRulesUnder, HasNoLoops, all_rules}
+use Rattle.cal_ast.specs.Plain.{IsPlainCell, IsPlainComponent}
+use Rattle.cal_ast.specs.Ports.{cell_named, component_named, is_bare, part_in, part_of}
+use Rattle.cal_ast.specs.Rules.{Rule, C1, C2, C3, C4, Keeps, KeepsComponent, KeepsRulesUnder, all_rules}
 use Rattle.cal_ast.specs.Tree.{Assignment, CellDef, DoneLine, GroupDef, Statement, Component, Design}
 use Rattle.cal_ast.specs.Typing.{HasParameters}
 use Rattle.cal_ast.specs.Wires.{HasNoLoop}

@@ -1,5 +1,5 @@
 -- The rules at a place of a component see the design through the component's ports alone: a component that looks the same in another design keeps them.
-use Rattle.std.proofs.Common.{◌≡◌, List, [], ◌∷◌, ◌++◌, Bool, true, false, Option, Some, None, refl, sym, ap, ◌∙◌, subst, subst₂}
+use Rattle.std.proofs.Common.{◌≡◌, List, ◌++◌, true, false, Option, Some, None, refl, sym, ap, ◌∙◌, subst, subst₂}
 use Rattle.std.specs.Prelude.{All, IfSome, IsSome, codes, option_map}
 use Rattle.std.proofs.lemmas.List.Elements.{All-weaker}
 use Rattle.hw_names.specs.Name.{Text, AreDistinct}
@@ -9,12 +9,12 @@ use Rattle.net_core.specs.Guard.{GuardTree, GuardTrees, Reads, Compares, Negates
 use Rattle.net_core.specs.declared.net.Src.{Src}
 use Rattle.net_core.specs.declared.net.Src.TheVariants.{Port, Lit}
 use Rattle.cal_ast.specs.Controlling.{IsOnlyDone, EnablesGroup, HasCondition, IsCondition, BindsInput, BindsOutput, CanInvoke, Invokes, group_named}
-use Rattle.cal_ast.specs.Naming.{GroupNaming, Unreserved, AnyName, IsNewCell, IsNewGroup, IsKnownPort, NamesKnown, DoneNamesKnown, StatementNamesKnown, InvokeNamesKnown, BindsKnownIn, BindsKnownOut}
+use Rattle.cal_ast.specs.Naming.{GroupNaming, Unreserved, AnyName, IsNewGroup, IsKnownPort, NamesKnown, DoneNamesKnown, StatementNamesKnown, InvokeNamesKnown, BindsKnownIn, BindsKnownOut}
 use Rattle.cal_ast.specs.Ports.{SidedPin, is_bare, inputs_in, outputs_in, side_in, width_in}
-use Rattle.cal_ast.specs.Rules.{Rule, C1, C2, C3, C4, C5, C6, C7, C8, C9, C10, C11, AtGroup, AtAssignment, AtDone, AtStatement}
-use Rattle.cal_ast.specs.Sides.{IsDestination, IsSource, DrivesDestination, ReadsSources, DoneReadsSources, StatementDrives, StatementReads}
+use Rattle.cal_ast.specs.Rules.{Rule, C1, C2, C4, C5, C6, C7, C8, C9, C10, C11, AtGroup, AtAssignment, AtDone, AtStatement}
+use Rattle.cal_ast.specs.Sides.{IsDestination, IsSource, ReadsSources, DoneReadsSources, StatementDrives, StatementReads}
 use Rattle.cal_ast.specs.Statement.{IfEnable, IfCondition, IfInvoke}
-use Rattle.cal_ast.specs.Tree.{PortName, own, port_of, CellDef, Assignment, DoneLine, GroupDef, InBinding, OutBinding, Component, Design, Statement, Enable, Seq, Par, If, While, Invoke}
+use Rattle.cal_ast.specs.Tree.{PortName, own, port_of, Assignment, DoneLine, GroupDef, InBinding, OutBinding, Component, Design, Statement, Enable, Seq, Par, If, While, Invoke}
 use Rattle.cal_ast.specs.Typing.{HasWidth, HasWidths, source_width, GuardAgrees, GuardsAgree, OptionAgrees, WidthsAgree, DoneAgrees, StatementAgrees, InAgrees, OutAgrees}
 use Rattle.cal_part.proofs.PlaceLemmas.{LooksAlike, bare_alike, inputs_alike, outputs_alike}
 use Rattle.cal_part.proofs.SameLemmas.{side_alike, destination_alike}

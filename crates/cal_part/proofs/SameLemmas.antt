@@ -1,30 +1,29 @@
 -- Hierarchies that are the same but for the names of their components have the same runs.
 use mathlib.Core.Path.{fun_ext}
-use Rattle.std.proofs.Common.{◌≡◌, ◌⊎◌, inl, inr, ℕ, suc, ◌+◌, ◌<◌, List, [], ◌∷◌, ◌++◌, length, map, Bool, true, false, Option, Some, None, refl, sym, ap, ap₂, ◌∙◌, subst, arith}
-use Rattle.std.specs.Prelude.{◌↔◌, Contains, IsSome, find, flat_map, if◌then◌else◌, option_map}
+use Rattle.std.proofs.Common.{◌≡◌, inl, inr, ℕ, suc, ◌+◌, List, [], ◌∷◌, ◌++◌, length, map, Bool, true, false, Option, Some, refl, sym, ap, ap₂, ◌∙◌, subst, arith}
+use Rattle.std.specs.Prelude.{◌↔◌, Contains, find, flat_map, if◌then◌else◌, option_map}
 use Rattle.std.proofs.lemmas.List.{length-append}
 use Rattle.std.proofs.lemmas.List.Elements.{length_all_zip}
 use Rattle.hw_names.specs.Name.{Text, Path}
 use Rattle.hw_prims.specs.Row.{Row, Trace}
 use Rattle.hw_prims.specs.Table.{Pin, pin_names}
-use Rattle.hw_prims.specs.declared.prim.Primitive.{Primitive}
 use Rattle.net_core.proofs.CircuitLemmas.{IsWithin, same_runs, same_conflicts, same_stops}
-use Rattle.net_core.specs.Circuit.{Drive, HasConflict}
-use Rattle.cal_ast.specs.Actors.{Actor, ActorGroup, same_actor, own_group, invoked_group, actor_groups, group_of}
+use Rattle.net_core.specs.Circuit.{Drive}
+use Rattle.cal_ast.specs.Actors.{Actor, ActorGroup, same_actor, own_group, invoked_group, actor_groups}
 use Rattle.cal_ast.specs.CalRun.{Activity, IsAssigned, IsControlled, IsStoppedRun, bare, cal_circuit, values_for}
 use Rattle.cal_ast.specs.Instances.{component_at}
 use Rattle.cal_ast.specs.Invoking.{InvokeDef, invokes_among, invokes_in, gives_input, starts_cell, takes_output, invoke_done}
 use Rattle.cal_ast.specs.Items.{Item, TheSignature, TheCell, TheAssignment, each, each_after, group_items, items_before_control}
 use Rattle.cal_ast.specs.Keeping.{KeepsRuns}
 use Rattle.cal_ast.specs.Plan.{plan_of, section_plan}
-use Rattle.cal_ast.specs.Ports.{SidedPin, Side, is_bare, side_in}
-use Rattle.cal_ast.specs.Schedule.{Run, Follows, FollowsControl, IsIdle, go_at, is_group_done, scheduled, sets_of_actor, view_at}
+use Rattle.cal_ast.specs.Ports.{SidedPin, side_in}
+use Rattle.cal_ast.specs.Schedule.{Run, Follows, FollowsControl, go_at, is_group_done, scheduled, sets_of_actor, view_at}
 use Rattle.cal_ast.specs.Sides.{IsDestination}
 use Rattle.cal_ast.specs.Spans.{View}
 use Rattle.cal_ast.specs.Starts.{IsActing, IsDoneRow}
-use Rattle.cal_ast.specs.Tree.{PortName, Assignment, CellDef, ControlSection, GroupDef, Component, Design}
+use Rattle.cal_ast.specs.Tree.{PortName, Assignment, CellDef, GroupDef, Component, Design}
 use Rattle.cal_part.specs.Laws.{SameBelow}
-use Rattle.cal_part.specs.Same.{IsSameComponent, IsSameBelow, HaveSameRuns}
+use Rattle.cal_part.specs.Same.{IsSameComponent, IsSameBelow}
 use Rattle.cal_part.proofs.PlaceLemmas.{LooksAlike, looks_alike, same_below-sym, same_bare, same_inputs, primitives_same, same_itself, same_place, bare_alike}
 use Rattle.cal_part.proofs.WiredLemmas.{items_after_cells, invokes_past_cells}
 
@@ -45,7 +44,7 @@ pub invokes_same : (c d : Component) → IsSameComponent c d → invokes_in c �
 invokes_same c d s =
     let count : length c.cells ≡ length d.cells = length_all_zip _ c.cells d.cells s.cells in
     let rest : items_after_cells c.groups c.sets c.control ≡ items_after_cells d.groups d.sets d.control =
-        ap₂ (λ (groups : List GroupDef) (sets : List Assignment). items_after_cells groups sets c.control) s.groups s.sets ∙ ap (items_after_cells d.groups d.sets) s.control in
+    ap₂ (λ (groups : List GroupDef) (sets : List Assignment). items_after_cells groups sets c.control) s.groups s.sets ∙ ap (items_after_cells d.groups d.sets) s.control in
     invokes_past_cells c ∙ ap₂ (λ (n : ℕ) (items : List Item). invokes_among (1 + n) items) count rest ∙ sym (invokes_past_cells d)
 
 invoked_same : (design : Design) (c : Component) (other : Design) (d : Component) → LooksAlike design c other d → (i : InvokeDef) → invoked_group design c i ≡ invoked_group other d i
@@ -87,10 +86,10 @@ plans_same : (c d : Component) → IsSameComponent c d → plan_of c ≡ plan_of
 plans_same c d s =
     let count : length c.cells ≡ length d.cells = length_all_zip _ c.cells d.cells s.cells in
     let items : length (items_before_control c) ≡ length (items_before_control d) =
-        item_count c
-        ∙ ap₂ (λ (n : ℕ) (groups : List GroupDef). 1 + n + length (flat_map (λ (items : List Item). items) (each group_items groups)) + length (map TheAssignment c.sets)) count s.groups
-        ∙ ap (λ (sets : List Assignment). 1 + length d.cells + length (flat_map (λ (items : List Item). items) (each group_items d.groups)) + length (map TheAssignment sets)) s.sets
-        ∙ sym (item_count d) in
+    item_count c
+    ∙ ap₂ (λ (n : ℕ) (groups : List GroupDef). 1 + n + length (flat_map (λ (items : List Item). items) (each group_items groups)) + length (map TheAssignment c.sets)) count s.groups
+    ∙ ap (λ (sets : List Assignment). 1 + length d.cells + length (flat_map (λ (items : List Item). items) (each group_items d.groups)) + length (map TheAssignment sets)) s.sets
+    ∙ sym (item_count d) in
     ap₂ section_plan items s.control
 
 -- ---- circuits

@@ -1,13 +1,12 @@
 -- Where all instances from a component down are wires alone, what acts there is the continuous assignments, under control too.
-use Rattle.std.proofs.Common.{◌≡◌, ℕ, ◌+◌, List, [], ◌∷◌, ◌++◌, length, map, Bool, true, false, refl, sym, ap, ap₂, ◌∙◌, append_assoc, arith}
+use Rattle.std.proofs.Common.{◌≡◌, ℕ, ◌+◌, List, [], ◌∷◌, ◌++◌, length, map, true, false, refl, sym, ap, ap₂, ◌∙◌, append_assoc, arith}
 use Rattle.std.specs.Prelude.{flat_map}
 use Rattle.std.proofs.lemmas.List.{append-nil}
-use Rattle.hw_names.specs.Name.{Path}
 use Rattle.cal_ast.specs.Actors.{ActorGroup, own_group, invoked_group, actor_groups}
 use Rattle.cal_ast.specs.Invoking.{InvokeDef, invokes_among, invokes_in}
-use Rattle.cal_ast.specs.Items.{Item, TheSignature, TheCell, TheAssignment, TheStatement, each, each_after, group_items, control_statements, items_of}
+use Rattle.cal_ast.specs.Items.{Item, TheSignature, TheCell, TheAssignment, TheStatement, each, each_after, group_items, control_statements}
 use Rattle.cal_ast.specs.Ports.{is_bare, is_bare_by}
-use Rattle.cal_ast.specs.Schedule.{sets_of_actor, scheduled}
+use Rattle.cal_ast.specs.Schedule.{sets_of_actor}
 use Rattle.cal_ast.specs.Tree.{CellDef, Assignment, GroupDef, Statement, ControlSection, Absent, Empty, Body, Component, Design}
 use Rattle.cal_part.specs.Laws.{BareIsBare, ScheduledIsBare}
 

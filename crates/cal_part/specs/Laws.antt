@@ -58,7 +58,7 @@ ControlledSubRuns =
     (asked : ℕ) (inputs : Trace) (loads : Text → List ℕ) (height : ℕ) (trace : Trace) (stop : Option Text) →
     (run : Run design top asked inputs loads height trace stop) → (stop_below : Option Text) →
     Stops (cal_circuit design c (scheduled design (λ below. run.acts (path ++ below)) (λ below. run.is_done (path ++ below))))
-        height (rows_below path trace) stop_below →
+    height (rows_below path trace) stop_below →
     Run design c height (rows_below path trace) (loads_below path loads) height (rows_below path trace) stop_below
 
 -- ---- hierarchies
