@@ -13,14 +13,11 @@ use Rattle.cal_ast.specs.Tree.{Component, Design}
 use Rattle.cal_ast.specs.Wires.{HasNoLoop, shown}
 use Rattle.cal_loops.specs.FirstLoop.{TellsFirstLoop}
 use Rattle.cal_loops.specs.inside.LoopedSoFar.{TellsFirstLooped}
-use Rattle.cal_place.specs.Nesting.{ArePartsFirst, HasPart, ShowsOrder}
+use Rattle.cal_place.specs.Nesting.{ArePartsFirst, HasPart}
 use Rattle.cal_loops.specs.inside.Wiring.{IsInside, ShowsParts, TellsLoop}
 use Rattle.cal_loops.specs.declared.first_loop.Looped.{Looped}
 use Rattle.cal_loops.specs.declared.cells.inside.Inside.{Inside}
-use Rattle.cal_place.specs.declared.nesting.PartOrder.{PartOrder}
-use Rattle.cal_place.specs.declared.nesting.PartOrder.TheVariants.{Loop, Parts}
 use Rattle.cal_place.proofs.GraphLemmas.{exists_at}
-use Rattle.cal_place.proofs.PartsLemmas.{no_loop}
 
 -- ---- one component more
 

@@ -1,10 +1,8 @@
 //! What stands around an item: the design, the component, and what their names mean.
-ghost use Rattle.std.specs.Prelude.{◌≡◌, ◌<◌, ◌≤◌, List, Some, length, map, slice_get, All, IfOk};
-ghost use Rattle.hw_names.specs.Name.{Text};
-ghost use Rattle.hw_prims.specs.Table.{pin_names};
+ghost use Rattle.std.specs.Prelude.{◌≡◌, ◌<◌, Some, length, map, slice_get, All, IfOk};
 ghost use Rattle.cal_ast.specs.Naming.{cell_names, group_names};
-ghost use Rattle.cal_ast.specs.Numbers.{CellHasNumbers, GroupHasNumbers, PinHasNumber};
-ghost use Rattle.cal_ast.specs.Tree.{cell_tree, group_tree, pin_tree};
+ghost use Rattle.cal_ast.specs.Numbers.{CellHasNumbers, GroupHasNumbers};
+ghost use Rattle.cal_ast.specs.Tree.{cell_tree, group_tree};
 ghost use Rattle.cal_place.specs.FirstPlaces.{ShowsFirsts};
 
 use crate::first_places::FirstPlaces;
@@ -12,7 +10,7 @@ use crate::nesting::Nesting;
 use crate::prototype::{Prototype, go_of, primitive_pin};
 use crate::signature::{Pin, Side, Signature};
 use crate::tables::Tables;
-use cal_ast::{CalCell, CalComp, CalDesign, CalPin, CalPort, Group};
+use cal_ast::{CalCell, CalComp, CalDesign, CalPort, Group};
 use hw_bits::Memory;
 use hw_names::{NameId, Names};
 use std::alloc::Global;

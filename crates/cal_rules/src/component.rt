@@ -1,11 +1,10 @@
 //! The rules C1 to C11 of a component, item by item.
-ghost use Rattle.std.specs.Prelude.{◌≡◌, List, [], map, take, flat_map, slice_get, Some, All, IfErr, OnOk, if◌then◌else◌};
-ghost use Rattle.hw_names.specs.Name.{Text};
+ghost use Rattle.std.specs.Prelude.{◌≡◌, map, take, flat_map, slice_get, Some, All, IfErr, OnOk};
 ghost use Rattle.cal_ast.specs.Items.{TheAssignment, TheCell, TheDone, TheStatement, control_statements, each, group_items, statements_in, statements_of, unless_empty};
 ghost use Rattle.cal_ast.specs.Naming.{HasNewNames, Unreserved};
 ghost use Rattle.cal_ast.specs.Numbers.{CellHasNumbers, ControlHasNumbers, GroupHasNumbers, SetHasNumbers, StatementHasNumbers};
 ghost use Rattle.cal_ast.specs.Rules.{KeepsComponent};
-ghost use Rattle.cal_ast.specs.Tree.{Statement, assignment_tree, cell_tree, control_tree, group_tree, statement_tree};
+ghost use Rattle.cal_ast.specs.Tree.{assignment_tree, cell_tree, control_tree, group_tree, statement_tree};
 ghost use Rattle.cal_place.specs.Around.{comp_at, design_at, earlier_at, names_at};
 ghost use Rattle.cal_rules.specs.FirstItem.{TellsItem};
 ghost use Rattle.cal_rules.specs.inside.Walks.{WalksOver};

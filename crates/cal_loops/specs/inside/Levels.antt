@@ -4,11 +4,11 @@ use Rattle.hw_levels.specs.declared.cells.CellPort.{CellPort}
 use Rattle.hw_names.specs.Name.{Text}
 use Rattle.cal_ast.specs.Naming.{cell_names, component_names}
 use Rattle.cal_ast.specs.Ports.{inputs_in, part_in}
-use Rattle.cal_ast.specs.Tree.{Component, Design, PortName, own, port_of}
-use Rattle.cal_ast.specs.Wires.{CrossesCell, Reaches}
+use Rattle.cal_ast.specs.Tree.{Component, Design, own, port_of}
+use Rattle.cal_ast.specs.Wires.{Reaches}
 use Rattle.cal_place.specs.FirstPlaces.{IsFirst}
 use Rattle.cal_place.specs.Nesting.{HasPart}
-use Rattle.cal_wires.specs.Nodes.{APort, Node, key_of, ports_in}
+use Rattle.cal_wires.specs.Nodes.{APort, key_of, ports_in}
 use Rattle.cal_wires.specs.WireGraphs.{HasNumber}
 use Rattle.cal_loops.specs.declared.levels.Levels.{Levels}
 use Rattle.cal_wires.specs.declared.graph.WireGraph.{WireGraph}

@@ -1,5 +1,5 @@
 -- A walk over the items of a component, which ends at the first that breaks a rule. This project's.
-use Rattle.std.specs.Prelude.{◌≡◌, ℕ, ◌+◌, List, [], ◌∷◌, ◌++◌, length, All, Result, Ok, Err}
+use Rattle.std.specs.Prelude.{◌≡◌, ℕ, ◌+◌, List, ◌∷◌, ◌++◌, length, All, Result, Ok, Err}
 use Rattle.cal_ast.specs.Items.{Item}
 use Rattle.cal_ast.specs.Rules.{all_rules}
 use Rattle.cal_place.specs.Around.{Around, KeepsAt}
