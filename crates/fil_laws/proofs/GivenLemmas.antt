@@ -1,5 +1,5 @@
 -- What is given at a path: something where an instance stands, and one thing.
-use Rattle.std.proofs.Common.{◌≡◌, ◌⊎◌, ℕ, zero, suc, ◌<◌, Bool, true, false, cond, List, [], ◌∷◌, flat_map, map, take, get_or, slice_get, Contains, All, Option, Some, None, option_map, refl, sym, ap, ap₂, subst, ◌∙◌, inl, inr, is_some, arith}
+use Rattle.std.proofs.Common.{◌≡◌, ◌⊎◌, ℕ, suc, ◌<◌, Bool, true, false, cond, List, [], ◌∷◌, take, slice_get, Contains, Option, Some, None, option_map, refl, sym, ap, subst, ◌∙◌, inl, inr, is_some, arith}
 use Rattle.std.specs.Option.{IsSome, option_and_then}
 use Rattle.std.specs.Str.{bytes_eq}
 use Rattle.std.proofs.lemmas.Bool.{false≢true}
@@ -16,12 +16,11 @@ use Rattle.fil_ast.specs.Behaviours.{IsGiven, Itself, OfPrimitive, Below, compon
 use Rattle.fil_ast.specs.Primitives.{filament_primitive, is_filament_primitive, primitive_signature, signature_by, table_name, timing_of}
 use Rattle.fil_ast.specs.Rules.{FilRules}
 use Rattle.fil_ast.specs.Scope.{Instance, bare_signature, component_named, instance_named, instances_at, signature_in}
-use Rattle.fil_ast.specs.Signature.{Signature}
-use Rattle.fil_ast.specs.Tree.{Component, Design, Statement}
+use Rattle.fil_ast.specs.Tree.{Component, Design}
 use Rattle.fil_ast.specs.Wires.{whole_scope}
 use Rattle.fil_fsm.specs.Refines as refines
 use Rattle.fil_fsm.specs.Refines.{IsInstanceAt}
-use Rattle.fil_share.proofs.ListLemmas.{Contains-at, slice_get-take}
+use Rattle.fil_share.proofs.ListLemmas.{slice_get-take}
 use Rattle.fil_share.proofs.MakesLemmas.{makes_instances}
 use Rattle.fil_share.specs.Instances.{CanBeMade}
 use Rattle.fil_lower.proofs.DesignLemmas.{same_place}

@@ -1,5 +1,5 @@
 -- Inputs that carry a legal list.
-use Rattle.std.proofs.Common.{◌≡◌, ◌⊎◌, ℕ, zero, suc, ◌+◌, ◌<◌, ◌≤◌, ◌==◌, ◌&&◌, ◌||◌, Bool, true, false, cond, List, [], ◌∷◌, map, take, slice_get, find, Contains, Option, Some, None, refl, sym, ap, subst, ◌∙◌, inl, inr, nat_le, nat_lt, eq-eqb, eqb-true, le-leb, leb-true, lt-ltb, ltb-true, arith}
+use Rattle.std.proofs.Common.{◌≡◌, ◌⊎◌, ℕ, ◌+◌, ◌<◌, ◌≤◌, ◌==◌, ◌&&◌, ◌||◌, Bool, true, false, cond, List, [], ◌∷◌, take, slice_get, find, Contains, Option, Some, None, refl, sym, ap, subst, ◌∙◌, inl, inr, nat_le, nat_lt, eq-eqb, eqb-true, le-leb, leb-true, lt-ltb, ltb-true, arith}
 use Rattle.std.specs.List.{list_any}
 use Rattle.std.specs.Option.{option_map_or}
 use Rattle.std.specs.Str.{bytes_eq}
@@ -19,7 +19,7 @@ use Rattle.fil_driven.proofs.ListLemmas.{find_one, first_or_later, from_map, sam
 use Rattle.fil_driven.proofs.PortLemmas.{event_is, mapped_from, no_event_with}
 use Rattle.fil_laws.proofs.EventLemmas.{is_name}
 use Rattle.fil_laws.proofs.PathLemmas.{one_transaction}
-use Rattle.fil_laws.specs.Lists.{Gives, LegalListsCanBeGiven}
+use Rattle.fil_laws.specs.Lists.{LegalListsCanBeGiven}
 use Rattle.fil_laws.specs.Paths.{IsLegalList}
 
 -- ---- searches

@@ -1,5 +1,5 @@
 -- F10 to F12 hold exactly if legal transactions hold nothing twice.
-use Rattle.std.proofs.Common.{◌≡◌, ℕ, zero, suc, ◌+◌, ◌-◌, ◌<◌, ◌≤◌, List, [], ◌∷◌, ◌++◌, length, flat_map, take, drop, get_or, slice_get, All, Contains, Option, Some, None, inl, inr, refl, sym, ap, subst, ◌∙◌, arith}
+use Rattle.std.proofs.Common.{◌≡◌, ℕ, zero, suc, ◌+◌, ◌-◌, ◌<◌, ◌≤◌, List, [], ◌∷◌, ◌++◌, flat_map, take, drop, get_or, slice_get, Contains, Option, Some, None, inl, inr, refl, sym, ap, subst, ◌∙◌, arith}
 use Rattle.std.specs.Option.{IfSome, option_and_then}
 use Rattle.std.specs.Prelude.{AllPairs, max}
 use Rattle.std.proofs.lemmas.Bool.{cases_lt}
@@ -9,11 +9,10 @@ use Rattle.std.proofs.lemmas.Option.{get_or_from_slice_get, slice_get_within}
 use Rattle.hw_names.specs.Name.{Text, AreDistinct}
 use Rattle.fil_ast.proofs.HoldLemmas.{in_flat}
 use Rattle.fil_ast.proofs.UseLemmas.{parts_of}
-use Rattle.fil_ast.specs.Evidence.{Fits}
-use Rattle.fil_ast.specs.Holds.{Hold, NeverMeet, Start, holds_of}
-use Rattle.fil_ast.specs.Items.{Item, TheSignature, TheStatement, TheEnd, IsItem, scope_after}
+use Rattle.fil_ast.specs.Holds.{Hold, NeverMeet, holds_of}
+use Rattle.fil_ast.specs.Items.{Item, TheSignature, TheStatement, IsItem, scope_after}
 use Rattle.fil_ast.specs.Naming.{event_names, instance_names}
-use Rattle.fil_ast.specs.Rules.{Rule, F1, F10, F11, F12, Keeps, KeepsComponent, KeepsRules, OfInvocation}
+use Rattle.fil_ast.specs.Rules.{Rule, F1, F10, Keeps, KeepsComponent, KeepsRules, OfInvocation}
 use Rattle.fil_ast.specs.Scope.{Scope, Instance, Invocation, instance_named, instance_signature, instances_at, invocations_at, signature_in}
 use Rattle.fil_ast.specs.Sharing.{IsUseOf}
 use Rattle.fil_ast.specs.Signature.{Signature}

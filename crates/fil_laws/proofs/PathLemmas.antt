@@ -1,12 +1,11 @@
 -- What a legal list gives the instance at a path: it is legal there, and a port is valid for one transaction at a time.
-use Rattle.std.proofs.Common.{◌≡◌, ◌⊎◌, ℕ, zero, suc, ◌+◌, ◌-◌, ◌<◌, ◌≤◌, Bool, true, false, List, [], ◌∷◌, map, take, get_or, slice_get, Contains, All, Option, Some, None, option_map, refl, sym, ap, subst, ◌∙◌, inl, inr, arith}
+use Rattle.std.proofs.Common.{◌≡◌, ℕ, zero, suc, ◌+◌, ◌-◌, ◌≤◌, false, List, map, take, slice_get, Contains, Some, option_map, sym, ap, subst, ◌∙◌, inl, inr, arith}
 use Rattle.std.proofs.lemmas.List.Elements.{All-contains}
-use Rattle.std.proofs.lemmas.Option.{none-some, same_Some, slice_get-map, slice_get_within, get_or_from_slice_get}
+use Rattle.std.proofs.lemmas.Option.{none-some, same_Some, slice_get-map}
 use Rattle.hw_names.specs.Name.{Path, Text}
 use Rattle.hw_prims.specs.Filament as filament
 use Rattle.hw_prims.specs.Filament.{behaviour_of, data_outputs, delay_of, given, go_of}
 use Rattle.hw_prims.specs.Timed.{AreLegalTransactions, Behaviour, Covers, Delay, Fixed, HasDelay, NeverOverlap, TimedEvent, TimedPort, TimedSignature, Transaction, end_of}
-use Rattle.hw_prims.specs.Table.{Pin}
 use Rattle.hw_prims.specs.declared.prim.Primitive.{Primitive}
 use Rattle.hw_prims.specs.declared.prim.Primitive.TheVariants.{StdReg}
 use Rattle.fil_ast.specs.Behaviours.{IsGiven, Itself, OfPrimitive, Below, component_behaviour, inner_transactions, timed_event, timed_port, timed_signature}
@@ -29,7 +28,7 @@ use Rattle.fil_lower.proofs.TimedAsLemmas.{IsSound, component_timed, number_of, 
 use Rattle.fil_lower.proofs.TimingLemmas.{IsTiming, Plain, Register, filament_timing}
 use Rattle.fil_lower.proofs.WellLemmas.{plans_well_timed}
 use Rattle.fil_laws.proofs.PlaceLemmas.{one_place, place_of}
-use Rattle.fil_laws.specs.Paths.{GivenListsAreLegal, HoldTwice, IsDataPort, IsLegalList, NothingIsHeldTwice, PromisesAgree, RowsAreOfOneTransaction, ShareARow}
+use Rattle.fil_laws.specs.Paths.{GivenListsAreLegal, HoldTwice, IsDataPort, IsLegalList, NothingIsHeldTwice, PromisesAgree, RowsAreOfOneTransaction}
 
 -- ---- legal lists
 

@@ -1,6 +1,6 @@
 -- What transactions hold of an instance, and the transactions that it is given: the same spans in the same order.
-use Rattle.std.proofs.Common.{◌≡◌, ℕ, suc, ◌+◌, ◌<◌, ◌==◌, Bool, true, false, cond, List, [], ◌∷◌, ◌++◌, length, map, filter, flat_map, take, get_or, slice_get, All, Contains, Option, Some, None, option_map, refl, sym, ap, ap₂, subst, ◌∙◌, arith}
-use Rattle.std.specs.Option.{option_and_then, option_map_or}
+use Rattle.std.proofs.Common.{◌≡◌, ℕ, suc, ◌+◌, ◌<◌, ◌==◌, Bool, true, false, cond, List, [], ◌∷◌, ◌++◌, length, map, filter, flat_map, take, get_or, slice_get, All, Contains, Option, Some, option_map, refl, sym, ap, ap₂, ◌∙◌, arith}
+use Rattle.std.specs.Option.{option_and_then}
 use Rattle.std.specs.Str.{bytes_eq}
 use Rattle.std.proofs.lemmas.Bool.{or_parts}
 use Rattle.std.proofs.lemmas.List.{length-map, map-append}
@@ -26,7 +26,7 @@ use Rattle.fil_ast.specs.Wires.{whole_scope}
 use Rattle.fil_ast.specs.declared.tx.Tx.{Tx}
 use Rattle.fil_share.proofs.OwnLemmas.{no_event}
 use Rattle.fil_share.specs.Carried.{IsOfEvent}
-use Rattle.fil_share.specs.Inner.{inner_starts, start_by, starts_by}
+use Rattle.fil_share.specs.Inner.{inner_starts, start_by}
 use Rattle.fil_share.specs.Instances.{signature_of}
 use Rattle.fil_share.specs.Uses.{listed_start, starts_of}
 use Rattle.fil_laws.proofs.EventLemmas.{is_name, name_is, same_event}
