@@ -1,6 +1,6 @@
 -- What a netlist keeps of a Filament design: its ports, its cells, and that it carries every legal list of transactions, at every instance. Filament,
 -- PLDI 2023; the words are this project's.
-use Rattle.std.specs.Prelude.{◌≡◌, ◌⊎◌, ℕ, ◌<◌, false, List, [], ◌∷◌, ◌++◌, map, take, slice_get, Some, All, Contains}
+use Rattle.std.specs.Prelude.{◌≡◌, ◌⊎◌, ℕ, ◌<◌, false, List, [], ◌∷◌, ◌++◌, map, take, codes, slice_get, Some, All, Contains}
 use Rattle.hw_names.specs.Name.{Text, Path, dotted, full_name, IsPlainPath}
 use Rattle.hw_prims.specs.Row.{Trace}
 use Rattle.hw_prims.specs.Table.{Pin, pin}
@@ -39,9 +39,17 @@ joined [] = []
 joined (name ∷ []) = name
 joined (name ∷ next ∷ path) = dotted name (joined (next ∷ path))
 
--- one of the joined names is one that lowering makes
-abbrev pub IsMadeByLowering : Text → Type 0
-IsMadeByLowering name = (path : Path) × (segment : Text) × (name ≡ joined path) × IsPlainPath path × Contains path segment × IsGenerated segment
+-- a register of one bit that lowering adds: one of the names that its own joins by dots is one that lowering makes, and no run loads or prints it
+pub record IsMadeByLowering (line : CellLine) : Type 0 where
+  pub path : Path
+  pub segment : Text
+  pub joins : line.name ≡ joined path
+  pub plain : IsPlainPath path
+  pub among : Contains path segment
+  pub generated : IsGenerated segment
+  pub prim : line.prim ≡ codes "std_reg"
+  pub params : line.params ≡ 1 ∷ []
+  pub not_shown : line.shown ≡ false
 
 -- a primitive instance as a cell of the netlist
 abbrev pub instance_cell : Path → Text → Instance → CellLine
@@ -51,11 +59,11 @@ abbrev pub IsInstanceCell : Design → ℕ → CellLine → Type 0
 IsInstanceCell comps number line =
     (path : Path) × (i : Instance) × (table : Text) × IsInstanceAt comps i number path × (table_name i.made ≡ Some table) × (line ≡ instance_cell path table i)
 
--- each primitive instance, at each path, is a cell of its dotted name, and each other cell has a name that lowering makes
+-- each primitive instance, at each path, is a cell of its dotted name, and each other cell is a register that lowering adds
 pub record HasInstanceCells (comps : Design) (number : ℕ) (n : Netlist) : Type 0 where
   pub all : (path : Path) (i : Instance) (table : Text) → IsInstanceAt comps i number path → table_name i.made ≡ Some table →
       Contains n.cells (instance_cell path table i)
-  pub only : (line : CellLine) → Contains n.cells line → IsInstanceCell comps number line ⊎ IsMadeByLowering line.name
+  pub only : (line : CellLine) → Contains n.cells line → IsInstanceCell comps number line ⊎ IsMadeByLowering line
 
 -- the rows carry the transactions at the inputs and the outputs of the instance at the path
 abbrev pub CarriesAt : Behaviour → Path → ℕ → Trace → List Transaction → Type 0

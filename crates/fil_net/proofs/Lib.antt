@@ -9,3 +9,4 @@ pub mod WrittenLemmas
 pub mod PortLemmas
 pub mod TextLemmas
 pub mod SimplifyLemmas
+pub mod ShownLemmas

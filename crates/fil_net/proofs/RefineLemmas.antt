@@ -104,7 +104,7 @@ module _ (pair : LoweredPair) where
     -- a cell of a component that stands at the path is a primitive instance, or a register
     cell_known : (m : ℕ) (c : Component) (here : slice_get comps m ≡ Some c) (registers : Registers) (new : HasNewRegisters (lowering_with (take m comps) c registers)) (path : Path) → IsPlainPath path →
         ((inst : Text) (i : Instance) → instance_named (whole_scope (take m comps) c).instances inst ≡ Some i → IsInstanceAt comps i number (path ++ inst ∷ [])) →
-        (line : CellLine) (cell : CellDef) → IsCellOf comps rules design lowered m c here registers new cell → is_primitive cell.made ≡ true → line ≡ flat_cell path cell → IsInstanceCell comps number line ⊎ IsMadeByLowering line.name
+        (line : CellLine) (cell : CellDef) → IsCellOf comps rules design lowered m c here registers new cell → is_primitive cell.made ≡ true → line ≡ flat_cell path cell → IsInstanceCell comps number line ⊎ IsMadeByLowering line
     cell_known m c here registers new path plain_at instances line cell (OfInstance i has) primitive is =
         let made = is_instance comps rules m c here i has in
         elim made.kind [
@@ -113,9 +113,19 @@ module _ (pair : LoweredPair) where
         ]
     cell_known m c here registers new path plain_at instances line cell (OfRegister name has) primitive is =
         let of = All-contains (λ (name : Text). IsGenerated name × IsPlain name) (all_registers (lowering_with (take m comps) c registers)) name new.generated has in
-        inr (path ++ name ∷ [], name, ap (λ (l : CellLine). l.name) is ∙ joined_full path name, plain_append path name plain_at of.1, Contains-push path name, of.0)
+        inr (record {
+          path = path ++ name ∷ [];
+          segment = name;
+          joins = ap (λ (l : CellLine). l.name) is ∙ joined_full path name;
+          plain = plain_append path name plain_at of.1;
+          among = Contains-push path name;
+          generated = of.0;
+          prim = ap (λ (l : CellLine). l.prim) is;
+          params = ap (λ (l : CellLine). l.params) is;
+          not_shown = ap (λ (l : CellLine). l.shown) is ∙ not_shown path (is_memory (codes "std_reg"));
+        })
 
-    line_known : (line : CellLine) → Contains n.cells line → IsInstanceCell comps number line ⊎ IsMadeByLowering line.name
+    line_known : (line : CellLine) → Contains n.cells line → IsInstanceCell comps number line ⊎ IsMadeByLowering line
     line_known line has =
         let f = flat.cells.only line has in
         let low = low_below pair f.0 number top f.1 at_top f.3 in

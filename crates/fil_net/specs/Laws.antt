@@ -1,5 +1,6 @@
 -- That a Filament design which is lowered, flattened and simplified is a netlist that keeps what the design promises, and has a text. This project's.
-use Rattle.net_core.specs.Netlist.{Netlist, netlist_of}
+use Rattle.std.specs.Prelude.{◌≡◌, false, All}
+use Rattle.net_core.specs.Netlist.{CellLine, Netlist, netlist_of}
 use Rattle.net_core.specs.declared.net.Net.{Net}
 use Rattle.net_guard.specs.Simplified.{IsSimplified}
 use Rattle.net_text.specs.Names.{HasText}
@@ -30,3 +31,7 @@ FlattenedLoweringsHaveText =
 -- a netlist with its guards folded keeps what the design promises
 abbrev pub SimplifiedNetsRefine : Type 0
 SimplifiedNetsRefine = (comps : Design) (old new : Netlist) → IsSimplified old new → Refines comps old → Refines comps new
+
+-- a netlist that keeps what a Filament design promises has no cell that a run loads or prints
+abbrev pub RefinedNetsShowNoCell : Type 0
+RefinedNetsShowNoCell = (comps : Design) (n : Netlist) → Refines comps n → All (λ (line : CellLine). line.shown ≡ false) n.cells

@@ -4,6 +4,7 @@ ghost use Rattle.fil_net.specs.Laws.{
   FlattenedLoweringsRefine,
   FlattenedLoweringsHaveText,
   SimplifiedNetsRefine,
+  RefinedNetsShowNoCell,
 };
 
 /// Names that a text can have are plain.
@@ -24,4 +25,9 @@ pub fn flattened_lowerings_have_text()
 /// A netlist with its guards folded keeps what the design promises.
 pub fn simplified_nets_refine()
     ensures { SimplifiedNetsRefine }
+{}
+
+/// No cell of a netlist that keeps what a Filament design promises is loaded or printed by a run.
+pub fn refined_nets_show_no_cell()
+    ensures { RefinedNetsShowNoCell }
 {}

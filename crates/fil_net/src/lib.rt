@@ -21,15 +21,15 @@
 //!
 //! What the layer above uses is `net_of`: its netlist `Refines` the design, that is, it keeps N1 to N6, has the top's name and
 //! ports, and each run whose inputs carry a legal list of transactions has no Conflict, and each instance has at its outputs, in
-//! their intervals, the transactions' plain dataflow. The netlist has a text (`HasText`), and its guards are folded
-//! (`HasFoldedGuards`).
+//! their intervals, the transactions' plain dataflow. No run loads or prints a cell of such a netlist
+//! (`refined_nets_show_no_cell`). The netlist has a text (`HasText`), and its guards are folded (`HasFoldedGuards`).
 #![tactic(auto)]
 
 mod laws;
 mod net;
 
 pub use laws::{
-    flattened_lowerings_have_text, flattened_lowerings_refine, simplified_nets_refine,
-    written_designs_are_plain,
+    flattened_lowerings_have_text, flattened_lowerings_refine, refined_nets_show_no_cell,
+    simplified_nets_refine, written_designs_are_plain,
 };
 pub use net::net_of;
