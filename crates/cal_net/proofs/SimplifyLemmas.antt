@@ -1,7 +1,7 @@
 -- A netlist with its guards folded shows the same of a design.
 use Rattle.std.proofs.Common.{List, Contains, filter, sym, ap, subst, ◌∙◌}
 use Rattle.net_core.specs.Netlist.{CellLine, Netlist}
-use Rattle.net_core.specs.Rules.{PortLine, port_names}
+use Rattle.net_core.specs.Rules.{PortLine}
 use Rattle.cal_ast.specs.Keeping.{KeepsRuns, NetRuns, Refines}
 use Rattle.cal_ast.specs.Tree.{Component, Design}
 use Rattle.net_guard.proofs.LoopLemmas.{has_no_loop}
@@ -42,7 +42,9 @@ module _ (old new : Netlist) (s : IsSimplified old new) where
     at = r.at;
     refines = record {
       refines = refines_kept design r.top r.refines.refines;
-      ports = λ port is. subst (λ (ports : List PortLine). Contains (port_names ports) port) (sym (same_ports old new s)) (r.refines.ports port is);
+      ports = λ name port.
+          let has = r.refines.ports name port in
+          record { line = has.line; among = subst (λ (ports : List PortLine). Contains ports has.line) (sym (same_ports old new s)) has.among; named = has.named; wide = has.wide };
       memories = ap (filter is_shown) s.cells ∙ r.refines.memories;
       registers = λ path c at full.
           let few = r.refines.registers path c at full in

@@ -1,10 +1,11 @@
 -- What is scheduled: the top of a design, from its names and its control.
 use Rattle.std.proofs.Common.{◌≡◌, ℕ, [], Some, refl, sym, ap, subst, ◌∙◌}
-use Rattle.std.specs.Prelude.{option_map, slice_get}
+use Rattle.std.specs.Prelude.{Contains, option_map, slice_get}
 use Rattle.std.proofs.lemmas.Option.{same_Some, slice_get-map}
 use Rattle.net_core.specs.Netlist.{Netlist}
+use Rattle.net_core.specs.Rules.{PortLine, port_names, ports_of}
 use Rattle.net_core.specs.declared.stimulus.CycleList.{CycleList}
-use Rattle.cal_ast.proofs.ListLemmas.{Contains-at}
+use Rattle.cal_ast.proofs.ListLemmas.{Contains-at, Contains-map}
 use Rattle.cal_ast.specs.Instances.{port_name}
 use Rattle.cal_ast.specs.Numbers.{ComponentHasNumbers, HasNumbers}
 use Rattle.cal_ast.specs.Rules.{CalRules}
@@ -67,6 +68,8 @@ module _ (d : CalDesign) (number : ℕ) (is_top : IsTop (design_of d) number) (c
           numbers = numbered;
           comp = same;
           control_is = is.1;
-          has_ports = λ p known. refines.ports (port_name [] p) (record { path = []; c = top; at = refl; p = p; known = known; named = refl });
+          has_ports = λ p known.
+              let has = refines.ports (port_name [] p) (record { path = []; c = top; at = refl; p = p; known = known; named = refl }) in
+              subst (Contains (port_names (ports_of n))) has.named (Contains-map (λ (q : PortLine). q.name) (ports_of n) has.line has.among);
         };
       }
