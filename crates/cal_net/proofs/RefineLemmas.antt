@@ -1,5 +1,5 @@
 -- The netlist of a design of wires shows what the source of the wires does.
-use Rattle.std.proofs.Common.{◌≡◌, ◌∙◌, false}
+use Rattle.std.proofs.Common.{◌≡◌, ◌∙◌, ℕ, slice_get, Some}
 use Rattle.net_core.proofs.CircuitLemmas.{same_stops}
 use Rattle.net_core.specs.NetRun.{net_circuit}
 use Rattle.net_core.specs.Netlist.{Netlist, netlist_of}
@@ -8,16 +8,14 @@ use Rattle.cal_ast.proofs.ListLemmas.{Contains-at}
 use Rattle.cal_ast.specs.CalRun.{StoppedBareRun, bare, cal_circuit}
 use Rattle.cal_ast.specs.Keeping.{KeepsComponentShape, KeepsRuns, NetRuns}
 use Rattle.cal_ast.specs.Plain.{HasPlainTree}
-use Rattle.cal_ast.specs.Ports.{is_bare}
 use Rattle.cal_ast.specs.Tree.{Component, Design}
 use Rattle.net_flat.specs.FlatTop.{IsFlatTop}
 use Rattle.net_flat.specs.Flattened.{IsFlattened}
 use Rattle.cal_net.proofs.CellLemmas.{source_cells}
 use Rattle.cal_net.proofs.MemoryLemmas.{memories_shown}
 use Rattle.cal_net.proofs.PortLemmas.{ports_listed}
-use Rattle.cal_net.proofs.FewLemmas.{few_at}
+use Rattle.cal_net.proofs.FewLemmas.{AddsFew, few_control_registers}
 use Rattle.cal_net.proofs.ShapeLemmas.{top_kept, zip_also, zip_left}
-use Rattle.cal_state.specs.Registers.{HasFewRegisters}
 use Rattle.cal_net.specs.Laws.{FlattenedWiresRefine}
 use Rattle.cal_net.specs.Lowers.{LowersControl}
 use Rattle.cal_net.specs.Refining.{RefinesTop}
@@ -36,6 +34,7 @@ refined source wires net lowers plain flat =
     let means = lowers.means flat.place c.0 flat.top c.1 flat.at in
     let runs = from_net wires flat.top n flat.flattened in
     let among = Contains-at wires flat.place flat.top flat.at in
+    let adds_few : (k : ℕ) (e f : Component) → slice_get source k ≡ Some e → slice_get wires k ≡ Some f → AddsFew e f = λ k e f at at_wires. (lowers.registers k e f at at_wires, lowers.no_states k e f at at_wires) in
     record {
       number = flat.place;
       is_top = top_kept source wires lowers.shape flat.place flat.is_top;
@@ -54,7 +53,7 @@ refined source wires net lowers plain flat =
         };
         ports = ports_listed source wires lowers.shape lowers.wired plain c.0 flat.top c.2 among n flat.listed;
         memories = memories_shown c.0 flat.top c.2 wires n flat.listed;
-        registers = few_at source wires (zip_also KeepsComponentShape (λ c d. is_bare c ≡ false → HasFewRegisters c d) source wires lowers.shape lowers.registers) plain c.0 flat.top (c.2, lowers.registers flat.place c.0 flat.top c.1 flat.at) among n flat.flattened.cells;
+        registers = few_control_registers source wires (zip_also KeepsComponentShape AddsFew source wires lowers.shape adds_few) plain c.0 flat.top (c.2, adds_few flat.place c.0 flat.top c.1 flat.at) among n flat.flattened.cells;
       };
     }
 

@@ -79,7 +79,7 @@ cell_named-front (x ∷ cells) added name cell found = by (bytes_eq x.name name)
     by true later e = e
     by false later e = later e
 
-cell_named-cases : (cells added : List CellDef) (name : Text) (cell : CellDef) → cell_named (cells ++ added) name ≡ Some cell → (cell_named cells name ≡ Some cell) ⊎ Contains added cell
+pub cell_named-cases : (cells added : List CellDef) (name : Text) (cell : CellDef) → cell_named (cells ++ added) name ≡ Some cell → (cell_named cells name ≡ Some cell) ⊎ Contains added cell
 cell_named-cases [] added name cell found = inr (cell_named-Some added name cell found).0
 cell_named-cases (x ∷ cells) added name cell found = by (bytes_eq x.name name) (cell_named-cases cells added name cell) found
   where
@@ -102,6 +102,12 @@ module _ (R : Component → Component → Type 0) (keeps : (c d : Component) →
   paired_right None p c are found = absurd (none-some c found)
   paired_right (Some x) None c are found = absurd are
   paired_right (Some x) (Some d) c are found = (d, refl, subst (λ (z : Component). R z d) (same_Some x c found) are)
+
+  pub paired_left : (o p : Option Component) (d : Component) → ArePaired o p → p ≡ Some d → (c : Component) × (o ≡ Some c) × R c d
+  paired_left None None d are found = absurd (none-some d found)
+  paired_left None (Some y) d are found = absurd are
+  paired_left (Some c) None d are found = absurd are
+  paired_left (Some c) (Some y) d are found = (c, refl, subst (R c) (same_Some y d found) are)
 
   components_paired : (source wires : Design) → AllZip R source wires → (name : Text) → ArePaired (component_named source name) (component_named wires name)
   components_paired [] [] pairs name = tt
@@ -141,12 +147,6 @@ module _ (R : Component → Component → Type 0) (keeps : (c d : Component) →
 abbrev pub AreFound : Option Component → Option Component → Type 0
 AreFound = ArePaired KeepsComponentShape (λ c d is. is)
 
-found_left : (o p : Option Component) (d : Component) → AreFound o p → p ≡ Some d → (c : Component) × (o ≡ Some c) × KeepsComponentShape c d
-found_left None None d are found = absurd (none-some d found)
-found_left None (Some y) d are found = absurd are
-found_left (Some c) None d are found = absurd are
-found_left (Some c) (Some y) d are found = (c, refl, subst (KeepsComponentShape c) (same_Some y d found) are)
-
 -- ---- instances by their paths
 
 module _ (source wires : Design) (shape : KeepsShape source wires) where
@@ -177,7 +177,7 @@ module _ (source wires : Design) (shape : KeepsShape source wires) where
       let found = part_in-Some wires d cell part.0 part.1 in
       elim (cell_named-cases c.cells is.added cell found.0 (subst (λ (cells : List CellDef). cell_named cells cell ≡ Some found.0) is.cells found.1)) [
         | inl own ↦
-            let other = found_left (part_of source found.0) (part_of wires found.0) part.0 (parts_found found.0) found.2 in
+            let other = paired_left KeepsComponentShape (λ c d is. is) (part_of source found.0) (part_of wires found.0) part.0 (parts_found found.0) found.2 in
             elim (instance_back path other.0 part.0 f other.2 part.2) [
               | inl from ↦ inl (record {
                 e = from.e;

@@ -46,9 +46,11 @@ module _ (old new : Netlist) (s : IsSimplified old new) where
           let has = r.refines.ports name port in
           record { line = has.line; among = subst (λ (ports : List PortLine). Contains ports has.line) (sym (same_ports old new s)) has.among; named = has.named; wide = has.wide };
       memories = ap (filter is_shown) s.cells ∙ r.refines.memories;
-      registers = λ path c at full.
-          let few = r.refines.registers path c at full in
-          record { added = few.added; are = few.are; cells = λ line has stands. few.cells line (subst (λ (cells : List CellLine). Contains cells line) s.cells has) stands };
+      registers = record {
+        added = r.refines.registers.added;
+        few = r.refines.registers.few;
+        cells = λ line has. r.refines.registers.cells line (subst (λ (cells : List CellLine). Contains cells line) s.cells has);
+      };
     };
   }
 

@@ -1,8 +1,8 @@
 -- The wires of a design keep C1 to C12, its shape, plain names, and its runs.
-use Rattle.std.proofs.Common.{◌≡◌, ℕ, false, [], ◌∷◌, map, Contains, Some, refl, sym, ap, subst, ◌∙◌}
+use Rattle.std.proofs.Common.{◌≡◌, ℕ, true, false, [], ◌∷◌, map, Contains, Some, refl, sym, ap, subst, ◌∙◌}
 use Rattle.std.specs.Prelude.{option_map, slice_get}
 use Rattle.std.specs.List.{AllZip}
-use Rattle.std.proofs.lemmas.Option.{slice_get-map}
+use Rattle.std.proofs.lemmas.Option.{same_Some, slice_get-map}
 use Rattle.cal_ast.proofs.ListLemmas.{Contains-at, Contains-here, Contains-there}
 use Rattle.cal_ast.specs.CalRun.{StoppedBareRun}
 use Rattle.cal_ast.specs.Holes.{IsHoleDesign}
@@ -31,8 +31,9 @@ use Rattle.cal_state.proofs.StateHoleLemmas.{states_are_holes}
 use Rattle.cal_state.proofs.StatePlainLemmas.{states_are_plain}
 use Rattle.cal_state.proofs.StateRunLemmas.{states_keep_runs}
 use Rattle.cal_state.specs.Registers.{HasFewRegisters}
-use Rattle.cal_net.proofs.FewLemmas.{few_before}
+use Rattle.cal_net.proofs.FewLemmas.{adds_no_states, bare_cells, few_before}
 use Rattle.cal_net.proofs.PlainLemmas.{written_groups, written_plain}
+use Rattle.cal_net.proofs.ShapeLemmas.{zip_right}
 use Rattle.cal_net.specs.Laws.{AreWiresOf, WiresArePlain, WiresLowerControl}
 use Rattle.cal_net.specs.Lowers.{KeepsMeaning, LowersControl}
 
@@ -117,11 +118,20 @@ module _ (source wires : Design) (rules : CalRules source) (written : DesignIsWr
       let few = states_are_few expanded_source are.holes are.rules n (expanded source c) h.0 are.lowering before h.1 ((expanded_faces source).bare c (Contains-at source n c at) ∙ full) in
       subst (HasFewRegisters c) h.2 (record { added = few.added; cells = few.cells; are = few_before source c few.added few.are })
 
+  -- a component without control gets no cell with a state
+  no_states : (n : ℕ) (c d : Component) → slice_get source n ≡ Some c → slice_get wires n ≡ Some d → is_bare c ≡ true → AddsNoStates c d
+  no_states n c d at at_wires bare =
+      let h = replaced_at are.holes (removed are.holes are.rules) n d (subst (λ (ws : Design). slice_get ws n ≡ Some d) are.removal at_wires) in
+      let other = zip_right KeepsComponentShape source wires n c shape at in
+      let kept : KeepsComponentShape c d = subst (KeepsComponentShape c) (same_Some other.0 d (sym other.1 ∙ at_wires)) other.2 in
+      adds_no_states c d kept (sym (ap (λ (x : Component). x.cells) h.2) ∙ bare_cells source are.holes are.rules are.lowering n c h.0 at h.1 bare)
+
   lowers : LowersControl source wires
   lowers = record {
     wired = subst IsWired (sym are.removal) (removed_is_wired are.holes are.rules hole);
     shape = shape;
     registers = few_registers;
+    no_states = no_states;
     means = keeps_meaning;
   }
 
