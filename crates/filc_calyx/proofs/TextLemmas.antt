@@ -17,9 +17,9 @@ printed_net design net (Ok text) is_for has is = (net, record { is_for = is_for;
 printed_net design net (Err why) is_for has is = tt
 
 -- the same of its Verilog
-pub printed_verilog : (design : Design) (net : Netlist) (result : Result (Vec ℕ Global) Memory) → IsNetlistFor design net → IfOk result (λ (text : Vec ℕ Global). text.items ≡ verilog_text net) → IfOk result (λ (text : Vec ℕ Global). IsVerilogOf design text.items)
-printed_verilog design net (Ok text) is_for is = record { net = net; is_for = is_for; text = is }
-printed_verilog design net (Err why) is_for is = tt
+pub printed_verilog : (design : Design) (net : Netlist) (result : Result (Vec ℕ Global) Memory) → IsNetlistFor design net → HasText net → IfOk result (λ (text : Vec ℕ Global). text.items ≡ verilog_text net) → IfOk result (λ (text : Vec ℕ Global). IsVerilogOf design text.items)
+printed_verilog design net (Ok text) is_for written is = record { net = net; is_for = is_for; written = written; text = is }
+printed_verilog design net (Err why) is_for written is = tt
 
 -- what holds of the netlist holds of it once it is ready
 pub of_ready : (claim : Net → Type 0) (net : Net) (result : Result Built Memory) → claim net → IfOk result (λ (built : Built). built.net ≡ net) → IfOk result (λ (built : Built). claim built.net)

@@ -3,6 +3,7 @@ use Rattle.std.specs.Prelude.{◌≡◌}
 use Rattle.hw_names.specs.Name.{Text}
 use Rattle.net_core.specs.Netlist.{Netlist}
 use Rattle.net_guard.specs.Folded.{HasFoldedGuards}
+use Rattle.net_text.specs.Names.{HasText}
 use Rattle.net_text.specs.Reading.{Spells}
 use Rattle.ver_print.specs.Verilog.{verilog_text}
 use Rattle.cal_ast.specs.Tree.{Design}
@@ -21,8 +22,9 @@ pub record IsNetOf (design : Design) (net : Netlist) (made : Text) : Type 0 wher
 abbrev pub IsMadeOf : Design → Text → Type 0
 IsMadeOf design made = (net : Netlist) × IsNetOf design net made
 
--- the text is the Verilog of such a netlist
+-- the text is the Verilog of such a netlist, which has a text: its names are names of the netlist grammar
 pub record IsVerilogOf (design : Design) (made : Text) : Type 0 where
   pub net : Netlist
   pub is_for : IsNetlistFor design net
+  pub written : HasText net
   pub text : made ≡ verilog_text net

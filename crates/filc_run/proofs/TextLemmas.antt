@@ -18,6 +18,6 @@ printed_net design net (Ok text) refines folded has is = (net, record { refines 
 printed_net design net (Err why) refines folded has is = tt
 
 -- the same of its Verilog
-pub printed_verilog : (design : Design) (net : Netlist) (result : Result (Vec ℕ Global) Memory) → Refines design net → HasFoldedGuards net → IfOk result (λ (text : Vec ℕ Global). text.items ≡ verilog_text net) → IfOk result (λ (text : Vec ℕ Global). IsVerilogOf design text.items)
-printed_verilog design net (Ok text) refines folded is = record { net = net; refines = refines; folded = folded; text = is }
-printed_verilog design net (Err why) refines folded is = tt
+pub printed_verilog : (design : Design) (net : Netlist) (result : Result (Vec ℕ Global) Memory) → Refines design net → HasFoldedGuards net → HasText net → IfOk result (λ (text : Vec ℕ Global). text.items ≡ verilog_text net) → IfOk result (λ (text : Vec ℕ Global). IsVerilogOf design text.items)
+printed_verilog design net (Ok text) refines folded written is = record { net = net; refines = refines; folded = folded; written = written; text = is }
+printed_verilog design net (Err why) refines folded written is = tt

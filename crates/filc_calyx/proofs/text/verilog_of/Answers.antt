@@ -21,4 +21,4 @@ pub returns : goal.returns
 returns c =
     let net = netlist_of c.in_ok-net.net in
     printed_verilog (design_of c.args.design.now.design) net c.print_verilog.result
-    (record { refines = subst (λ (d : CalDesign). RefinesTop (design_of d) net) c.new.ensures c.in_ok-net.ensures.refines; folded = c.in_ok-net.ensures.folded }) c.print_verilog.ensures
+    (record { refines = subst (λ (d : CalDesign). RefinesTop (design_of d) net) c.new.ensures c.in_ok-net.ensures.refines; folded = c.in_ok-net.ensures.folded }) c.in_ok-net.ensures.text c.print_verilog.ensures

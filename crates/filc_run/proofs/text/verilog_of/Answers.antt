@@ -16,4 +16,4 @@ table_of-requires c = record { valid = c.in_ok-net.ensures.refines.valid; number
 pub returns : goal.returns
 returns c =
     printed_verilog (design_of c.args.built.now.design) (netlist_of c.in_ok-net.net) c.print_verilog.result
-    (subst (λ (d : FilDesign). Refines (design_of d) (netlist_of c.in_ok-net.net)) c.new.ensures c.in_ok-net.ensures.refines) c.in_ok-net.ensures.folded c.print_verilog.ensures
+    (subst (λ (d : FilDesign). Refines (design_of d) (netlist_of c.in_ok-net.net)) c.new.ensures c.in_ok-net.ensures.refines) c.in_ok-net.ensures.folded c.in_ok-net.ensures.text c.print_verilog.ensures
