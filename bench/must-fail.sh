@@ -13,7 +13,7 @@ trap 'rm -rf "$work"' EXIT
 git clone -q "$top" "$work/filc" && cd "$work/filc" || exit
 failed=0
 for crate; do
-    cp -r "bench/must-fail/$crate" "crates/$crate/must-fail" || exit
+    mkdir -p "crates/$crate/must-fail" && cp "bench/must-fail/$crate"/*.edit "crates/$crate/must-fail" || exit
     rt must-fail "$crate" || failed=1
 done
 exit $failed
