@@ -1,5 +1,5 @@
 -- A lowered design keeps what the Filament design promises, and its canonical text is one of it.
-use Rattle.std.proofs.Common.{◌≡◌, ◌⊎◌, ℕ, List, map, flat_map, take, slice_get, Contains, Some, Result, Ok, Err, Vec, Global, sym, ap, subst, inl, inr}
+use Rattle.std.proofs.Common.{◌≡◌, ◌⊎◌, ℕ, List, map, flat_map, take, slice_get, Contains, Some, Result, Ok, Err, Vec, Global, refl, sym, ap, subst, inl, inr}
 use Rattle.std.specs.Prelude.{IfOk}
 use Rattle.std.proofs.lemmas.List.Elements.{All-contains, Contains-append_left}
 use Rattle.hw_bits.specs.declared.memory.Memory.{Memory}
@@ -23,7 +23,7 @@ use Rattle.fil_lower.proofs.LoweredLemmas.{IsCellOf, OfInstance, OfRegister, cel
 use Rattle.fil_lower.proofs.PlainLemmas.{plain_designs}
 use Rattle.fil_parse.specs.Written.{DesignIsWritten}
 use Rattle.fil_net.proofs.PlainLemmas.{written_plain}
-use Rattle.fil_cal.specs.Lowers.{HasInstanceCells, IsLoweredText, KeepsComponent, Lowers, instance_cell}
+use Rattle.fil_cal.specs.Lowers.{HasInstanceCells, IsLoweredText, IsMadeByLowering, KeepsComponent, Lowers, instance_cell}
 use Rattle.fil_cal.proofs.WrittenLemmas.{design_written}
 
 module _ (comps : Design) (rules : FilRules comps) (design : calyx.Design) (lowered : IsLoweringOf comps design) where
@@ -33,9 +33,9 @@ module _ (comps : Design) (rules : FilRules comps) (design : calyx.Design) (lowe
     abbrev instances : List Instance
     instances = (whole_scope (take n comps) c).instances
 
-    cell_known : (cell : CellDef) → IsCellOf comps rules design lowered n c here registers new cell → Contains (map instance_cell instances) cell ⊎ IsGenerated cell.name
+    cell_known : (cell : CellDef) → IsCellOf comps rules design lowered n c here registers new cell → Contains (map instance_cell instances) cell ⊎ IsMadeByLowering cell
     cell_known cell (OfInstance i has) = inl (Contains-map instance_cell instances i has)
-    cell_known cell (OfRegister name has) = inr (All-contains (λ (x : Text). IsGenerated x × IsPlain x) (all_registers (lowering_with (take n comps) c registers)) name new.generated has).0
+    cell_known cell (OfRegister name has) = inr ((All-contains (λ (x : Text). IsGenerated x × IsPlain x) (all_registers (lowering_with (take n comps) c registers)) name new.generated has).0, refl)
 
     cells_known : HasInstanceCells instances (lowered_component (lowering_with (take n comps) c registers)).cells
     cells_known = record {

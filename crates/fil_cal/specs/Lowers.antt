@@ -15,7 +15,7 @@ use Rattle.fil_ast.specs.Primitives.{table_name}
 use Rattle.fil_ast.specs.Scope.{Instance}
 use Rattle.fil_ast.specs.Tree.{Component, Design}
 use Rattle.fil_ast.specs.Wires.{whole_scope}
-use Rattle.fil_fsm.specs.Chain.{IsGenerated}
+use Rattle.fil_fsm.specs.Chain.{IsGenerated, register}
 use Rattle.fil_fsm.specs.Refines.{CarriesLists, inputs_of, outputs_of}
 
 -- ---- the lowered design
@@ -24,10 +24,14 @@ use Rattle.fil_fsm.specs.Refines.{CarriesLists, inputs_of, outputs_of}
 abbrev pub instance_cell : Instance → CellDef
 instance_cell i = record { name = i.name; made = unwrap_or (table_name i.made) i.made; params = i.params; external = false }
 
--- each instance is a cell, and each other cell has a name that lowering makes
+-- a register of one bit that lowering adds, with one of the names that it makes; it is not external
+abbrev pub IsMadeByLowering : CellDef → Type 0
+IsMadeByLowering cell = IsGenerated cell.name × (cell ≡ register cell.name)
+
+-- each instance is a cell, and each other cell is a register that lowering adds
 pub record HasInstanceCells (instances : List Instance) (cells : List CellDef) : Type 0 where
   pub all : (i : Instance) → Contains instances i → Contains cells (instance_cell i)
-  pub only : (cell : CellDef) → Contains cells cell → Contains (map instance_cell instances) cell ⊎ IsGenerated cell.name
+  pub only : (cell : CellDef) → Contains cells cell → Contains (map instance_cell instances) cell ⊎ IsMadeByLowering cell
 
 -- component n keeps its name and its ports, interface ports first, and its instances; and as the top it carries every legal list of transactions, without a
 -- Conflict, at every path
