@@ -3,25 +3,25 @@ use Rattle.std.proofs.Common.{◌≡◌, ◌⊎◌, inl, inr, ℕ, zero, suc, �
 use Rattle.std.specs.Prelude.{Contains, bytes_eq, option_and_then, slice_get}
 use Rattle.std.proofs.Math.Seq.{take-append-add}
 use Rattle.std.proofs.lemmas.List.{take-append-le}
-use Rattle.std.proofs.lemmas.List.Elements.{All-weaker, Contains-append_cases}
+use Rattle.std.proofs.lemmas.List.Elements.{Contains-append_cases}
 use Rattle.std.proofs.lemmas.Option.{slice_get_within}
 use Rattle.hw_names.specs.Name.{Text, Path}
 use Rattle.cal_ast.proofs.ItemLemmas.{known_cell}
 use Rattle.cal_ast.proofs.ListLemmas.{place_of, Contains-at}
 use Rattle.cal_ast.proofs.LookupLemmas.{cell_named-Some, component_named-Some, part_in-design, part_of-Some}
 use Rattle.cal_ast.specs.Instances.{component_at}
-use Rattle.cal_ast.specs.Items.{Item, TheSignature, TheCell, TheGroup, TheAssignment, TheDone, TheStatement}
 use Rattle.cal_ast.specs.Naming.{GroupNaming, Unreserved, IsKnownCell, Reaches, Itself, Over}
 use Rattle.cal_ast.specs.Ports.{cell_named, component_named, part_in, part_of}
-use Rattle.cal_ast.specs.Rules.{Rule, C1, C2, C3, C4, Keeps, KeepsComponent, KeepsRules, KeepsRulesUnder, HasNoLoops, all_rules}
+use Rattle.cal_ast.specs.Rules.{KeepsComponent, KeepsRules, KeepsRulesUnder, HasNoLoops}
 use Rattle.cal_ast.specs.Tree.{CellDef, Component, Design}
 use Rattle.cal_ast.specs.Wired.{IsWired}
 use Rattle.cal_part.specs.Front.{KeepsFront, IsWiredAfter}
 use Rattle.cal_part.specs.Laws.{FrontIsWired, FrontKeepsRules}
+use Rattle.cal_part.specs.Looks.{LooksTheSame}
 use Rattle.cal_part.specs.Same.{AreSamePlaces, IsSameBelow}
+use Rattle.cal_part.proofs.LookLemmas.{looks_keep_rules}
 use Rattle.cal_part.proofs.LoopLemmas.{no_loop_same}
-use Rattle.cal_part.proofs.PlaceLemmas.{LooksAlike, looks_alike, same_places-refl}
-use Rattle.cal_part.proofs.RuleLemmas.{at_assignment, at_done, at_statement, widths_kept}
+use Rattle.cal_part.proofs.PlaceLemmas.{looks_alike, same_places-refl}
 
 component_named-front : (front more : Design) (name : Text) (c : Component) → component_named front name ≡ Some c → component_named (front ++ more) name ≡ Some c
 component_named-front [] more name c found = absurd (cc)
@@ -99,33 +99,15 @@ module _ (front more : Design) where
       λ reaches. none (reaches_before c.name part reaches (component_named-Some front cell.made part (part_of-Some front cell part made).1).0),
     )
 
-    module _ (c : Component) (in_front : Contains front c) where
-      like : LooksAlike front c (front ++ more) c
-      like = looks_alike front (front ++ more) c c (front_same c in_front)
-
-      -- each rule at each place
-      rule_kept : (earlier : Design) (item : Item) (rule : Rule) → Keeps naming front earlier c item rule → Keeps naming (front ++ more) earlier c item rule
-      rule_kept earlier TheSignature C1 h = h
-      rule_kept earlier TheSignature C4 h = widths_kept front c (front ++ more) c like h
-      rule_kept earlier TheSignature rule h = tt
-      rule_kept earlier (TheCell before cell) C1 h = h
-      rule_kept earlier (TheCell before cell) C2 h = known_cell_kept c cell h
-      rule_kept earlier (TheCell before cell) C3 h = h
-      rule_kept earlier (TheCell before cell) rule h = tt
-      rule_kept earlier (TheGroup before g) rule h = h
-      rule_kept earlier (TheAssignment a) rule h = at_assignment front c (front ++ more) c like a rule h
-      rule_kept earlier (TheDone g before line) rule h = at_done front c (front ++ more) c like g before line rule h
-      rule_kept earlier (TheStatement s) rule h = at_statement front c (front ++ more) c like s rule h
-
-      component_kept : (earlier : Design) → KeepsComponent naming front earlier c → KeepsComponent naming (front ++ more) earlier c
-      component_kept earlier all k item is = All-weaker (Keeps naming front earlier c item) (Keeps naming (front ++ more) earlier c item) (rule_kept earlier item) all_rules (all k item is)
+    looks_same : (c : Component) → Contains front c → LooksTheSame front (front ++ more) c
+    looks_same c in_front = let like = looks_alike front (front ++ more) c c (front_same c in_front) in record { ports = like.ports; starts = like.starts }
 
 pub front_keeps_rules : FrontKeepsRules
 front_keeps_rules front more rules = record {
   keeps = λ n c at.
       let within = slice_get_within front n c at in
       subst (λ (earlier : Design). KeepsComponent Unreserved (front ++ more) earlier c) (sym (take-append-le n front more (omega (arith, within))))
-      (component_kept front more Unreserved rules.keeps c (Contains-at front n c at) (take n front) (rules.keeps n c at));
+      (looks_keep_rules front (front ++ more) (take n front) (take n front) c (looks_same front more Unreserved rules.keeps c (Contains-at front n c at)) (λ new. new) (known_cell_kept front more Unreserved rules.keeps c) Unreserved (rules.keeps n c at));
   no_loop = λ c in_front.
       let n = place_of front c in_front in
       no_loop_same front (front ++ more) c c (front_same front more Unreserved rules.keeps c in_front) (rules.no_loop n.0 c n.1);

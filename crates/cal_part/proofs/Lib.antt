@@ -6,6 +6,7 @@ pub mod ControlLemmas
 pub mod PlaceLemmas
 pub mod SameLemmas
 pub mod RuleLemmas
+pub mod LookLemmas
 pub mod LoopLemmas
 pub mod RenamedLemmas
 pub mod FrontLemmas

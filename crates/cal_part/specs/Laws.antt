@@ -5,13 +5,16 @@ use Rattle.hw_prims.specs.Row.{Trace}
 use Rattle.net_core.specs.Circuit.{Stops}
 use Rattle.cal_ast.specs.CalRun.{Activity, RunWith, StoppedRunWith, bare, cal_circuit}
 use Rattle.cal_ast.specs.Instances.{component_at}
+use Rattle.cal_ast.specs.Naming.{GroupNaming, HasNewNames, IsKnownCell}
 use Rattle.cal_ast.specs.Plain.{HasPlainTree}
-use Rattle.cal_ast.specs.Rules.{CalRules}
+use Rattle.cal_ast.specs.Rules.{CalRules, KeepsComponent}
 use Rattle.cal_ast.specs.Schedule.{Run, scheduled}
-use Rattle.cal_ast.specs.Tree.{Component, Design}
+use Rattle.cal_ast.specs.Tree.{CellDef, Component, Design}
 use Rattle.cal_ast.specs.Wired.{IsWired}
+use Rattle.cal_ast.specs.Wires.{HasNoLoop}
 use Rattle.cal_part.specs.Below.{IsActivityBelow, IsRunBelow, IsWiredBelow, StopsBelow, rows_below, loads_below}
 use Rattle.cal_part.specs.Front.{KeepsFront, IsWiredAfter}
+use Rattle.cal_part.specs.Looks.{LooksTheSame, PassNoMore}
 use Rattle.cal_part.specs.Renamed.{IsRenaming, renamed, renamed_design}
 use Rattle.cal_part.specs.Same.{IsSameBelow, HaveSameRuns}
 
@@ -95,6 +98,19 @@ FrontIsWired = (front more : Design) → IsWired front → IsWiredAfter front mo
 -- whatever comes after, below a component of a wired design all is wires
 abbrev pub FrontIsWiredBelow : Type 0
 FrontIsWiredBelow = (front more : Design) → IsWired front → (c : Component) → Contains front c → IsWiredBelow (front ++ more) c
+
+-- a component keeps C1 to C11 in a design in which it looks the same, where its name is new there and cells that were known are known
+abbrev pub LooksKeepRules : Type 0
+LooksKeepRules =
+    (first second earlier earlier' : Design) (c : Component) → LooksTheSame first second c →
+    (HasNewNames earlier c → HasNewNames earlier' c) →
+    ((cell : CellDef) → IsKnownCell first c cell → IsKnownCell second c cell) →
+    (naming : GroupNaming) → KeepsComponent naming first earlier c → KeepsComponent naming second earlier' c
+
+-- and C12, where what its cells are made of passes no more on
+abbrev pub LooksKeepNoLoop : Type 0
+LooksKeepNoLoop =
+    (first second these : Design) → PassNoMore first second these → (c : Component) → Contains these c → HasNoLoop first c → HasNoLoop second c
 
 -- ---- a design that is part of another
 

@@ -1,6 +1,7 @@
 //! Laws of parts of runs, and of designs that hold other designs.
 ghost use Rattle.cal_part.specs.Laws.{BareIsBare, ControlledSubRuns, FirstRowsAreRuns, ScheduledIsBare, SubRuns, SubRunsStop};
 ghost use Rattle.cal_part.specs.Laws.{HeldRuns, SameBelow};
+ghost use Rattle.cal_part.specs.Laws.{LooksKeepNoLoop, LooksKeepRules};
 ghost use Rattle.cal_part.specs.Laws.{FrontIsWired, FrontIsWiredBelow, FrontKeepsRules};
 ghost use Rattle.cal_part.specs.Laws.{RenamedIsPlain, RenamedIsSame, RenamedIsWired, RenamedKeepsRules};
 
@@ -72,6 +73,16 @@ pub fn front_is_wired()
 /// And below each of its components all is wires, whatever comes after.
 pub fn front_is_wired_below()
     ensures { FrontIsWiredBelow }
+{}
+
+/// A component keeps C1 to C11 in a design in which it looks the same.
+pub fn looks_keep_rules()
+    ensures { LooksKeepRules }
+{}
+
+/// And C12, where what its cells are made of passes no more on.
+pub fn looks_keep_no_loop()
+    ensures { LooksKeepNoLoop }
 {}
 
 /// A design whose components got other names, and that others come after, runs below a path as it does by itself.

@@ -22,6 +22,8 @@
 //!                              `renamed_is_plain` and `renamed_is_same` say what else they keep
 //!     front_keeps_rules        components keep C1 to C12, whatever comes after them (`FrontKeepsRules`); `front_is_wired` and
 //!                              `front_is_wired_below` say so of wires
+//!     looks_keep_rules         a component keeps C1 to C11 in another design in which it looks the same (`LooksKeepRules`), and
+//!     looks_keep_no_loop       C12, where what its cells are made of passes no more on (`LooksKeepNoLoop`)
 //!     held_runs                all together: a design, renamed and with others after it, runs as it did (`HeldRuns`)
 //!
 //! What the layers above use are these laws. There is no code.
