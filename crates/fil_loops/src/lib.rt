@@ -6,11 +6,13 @@
 //! So this component has the loop `X.in`, `Y.out`, `Y.in`, `X.out`, in which each port reads the next, and the last the first:
 //!
 //! ```text
-//! comp Loop<G: 1>(@interface[G] go: 1) -> () {
+//! comp Cross<G: 2>(@interface[G] go: 1, @[G, G+2] a: 8) -> () {
 //!   X := new Not[8];
 //!   Y := new Not[8];
-//!   x := X<G>(y.out);
+//!   x := X<G>(a);
 //!   y := Y<G>(x.out);
+//!   v := Y<G+1>(a);
+//!   w := X<G+1>(v.out);
 //! }
 //! ```
 //!
