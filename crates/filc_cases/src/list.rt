@@ -32,20 +32,13 @@ pub fn run_list(rt: &HostRuntime, name: &str, transcript: &mut Transcript) -> Re
 impl<'t> Cases<'_, 't> {
     /// Does what the line says.
     fn take(&mut self, line: &'t str, transcript: &mut Transcript) -> Result<()> {
-        let line = Line::read(self.rt.alloc(), line)?;
-        if let Line::Text(piece) = line {
-            return self.push(&piece);
-        }
-        self.write_draft()?;
-        match line {
-            Line::File(name) => {
-                self.draft = Some(Draft::new(self.rt.alloc(), name));
-                Ok(())
-            }
-            Line::Title(title) => transcript.line("", title),
+        match Line::read(self.rt.alloc(), line)? {
+            Line::Text(piece) => self.push(&piece),
+            Line::File(name) => self.begin(name),
+            Line::Blank => self.repeat("", transcript),
+            Line::Title(title) => self.repeat(title, transcript),
             Line::Call(call) => self.call(&call, transcript),
             Line::Question(question) => self.ask(&question, transcript),
-            Line::Blank | Line::Text(_) => transcript.line("", ""),
         }
     }
 
@@ -57,16 +50,22 @@ impl<'t> Cases<'_, 't> {
         }
     }
 
-    /// Writes the file whose text has been read.
-    fn write_draft(&mut self) -> Result<()> {
-        match self.draft.take() {
-            Some(draft) => draft.write(self.rt),
-            None => Ok(()),
-        }
+    /// Begins a file of this name.
+    fn begin(&mut self, name: &'t str) -> Result<()> {
+        self.write_draft()?;
+        self.draft = Some(Draft::new(self.rt.alloc(), name));
+        Ok(())
+    }
+
+    /// Repeats the line in the transcript.
+    fn repeat(&mut self, line: &str, transcript: &mut Transcript) -> Result<()> {
+        self.write_draft()?;
+        transcript.line("", line)
     }
 
     /// Calls the program, and keeps the report where the call says so.
-    fn call(&self, call: &Call<'_>, transcript: &mut Transcript) -> Result<()> {
+    fn call(&mut self, call: &Call<'_>, transcript: &mut Transcript) -> Result<()> {
+        self.write_draft()?;
         transcript.line("$", call.text)?;
         let answer = ask(self.rt, &call.words)?;
         if let Some(name) = call.keep {
@@ -76,8 +75,17 @@ impl<'t> Cases<'_, 't> {
     }
 
     /// Answers the question.
-    fn ask(&self, question: &Question<'_>, transcript: &mut Transcript) -> Result<()> {
+    fn ask(&mut self, question: &Question<'_>, transcript: &mut Transcript) -> Result<()> {
+        self.write_draft()?;
         transcript.line("? ", question.text)?;
         transcript.found(&answer(self.rt, &question.asked)?)
+    }
+
+    /// Writes the file whose text has been read.
+    fn write_draft(&mut self) -> Result<()> {
+        match self.draft.take() {
+            Some(draft) => draft.write(self.rt),
+            None => Ok(()),
+        }
     }
 }
