@@ -15,7 +15,7 @@ use Rattle.cal_ast.proofs.InstanceLemmas.{component_at-step}
 use Rattle.cal_ast.specs.CalRun.{Activity, cal_circuit, look, values_for}
 use Rattle.cal_ast.specs.Instances.{component_at, port_name}
 use Rattle.cal_ast.specs.Tree.{PortName, Assignment, Component, Design}
-use Rattle.cal_part.specs.Below.{row_below, rows_below, loads_below, IsActivityBelow}
+use Rattle.cal_part.specs.RunBelow.{row_below, rows_below, loads_below, IsActivityBelow}
 use Rattle.cal_part.specs.Laws.{SubRuns}
 
 -- ---- names
@@ -29,7 +29,7 @@ full_name-dotted : (path : Path) (cell pin : Text) → full_name path (dotted ce
 full_name-dotted [] cell pin = refl
 full_name-dotted (instance ∷ path) cell pin = ap (dotted instance) (full_name-dotted path cell pin) ∙ sym (append_assoc instance (dot ∷ full_name path cell) (dot ∷ pin))
 
-port_at-below : (path below : Path) (cell : Option Text) (pin : Text) → port_at (path ++ below) cell pin ≡ full_name path (port_at below cell pin)
+pub port_at-below : (path below : Path) (cell : Option Text) (pin : Text) → port_at (path ++ below) cell pin ≡ full_name path (port_at below cell pin)
 port_at-below path below None pin = full_name-below path below pin
 port_at-below path below (Some cell) pin = ap (λ (x : Text). dotted x pin) (full_name-below path below cell) ∙ sym (full_name-dotted path (full_name below cell) pin)
 
@@ -62,7 +62,7 @@ pub look_below : (path below : Path) (row : Row) → look (path ++ below) row �
 look_below path below row = fun_ext (λ (p : PortName). ap row (port_at-below path below p.cell p.pin))
 
 -- what assignments give a port, read in the whole and below the path
-values_below : (path below : Path) (port : Text) (row : Row) (sets : List Assignment) → values_for (path ++ below) (full_name path port) row sets ≡ values_for below port (row_below path row) sets
+pub values_below : (path below : Path) (port : Text) (row : Row) (sets : List Assignment) → values_for (path ++ below) (full_name path port) row sets ≡ values_for below port (row_below path row) sets
 values_below path below port row [] = refl
 values_below path below port row (a ∷ sets) =
     let name : bytes_eq (port_name (path ++ below) a.dst) (full_name path port) ≡ bytes_eq (port_name below a.dst) port =

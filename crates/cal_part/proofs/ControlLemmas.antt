@@ -14,7 +14,7 @@ use Rattle.cal_ast.specs.Schedule.{Follows, FollowsControl, go_at, is_group_done
 use Rattle.cal_ast.specs.Spans.{View}
 use Rattle.cal_ast.specs.Starts.{IsActing, IsDoneRow}
 use Rattle.cal_ast.specs.Tree.{DoneLine, GroupDef, PortName, Component, Design}
-use Rattle.cal_part.specs.Below.{rows_below}
+use Rattle.cal_part.specs.RunBelow.{rows_below}
 use Rattle.cal_part.specs.Laws.{ControlledSubRuns}
 use Rattle.cal_part.proofs.BelowLemmas.{component_at-append, full_name-below, look_below, sub_runs}
 

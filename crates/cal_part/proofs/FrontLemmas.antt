@@ -15,11 +15,11 @@ use Rattle.cal_ast.specs.Ports.{cell_named, component_named, part_in, part_of}
 use Rattle.cal_ast.specs.Rules.{KeepsComponent, KeepsRules, KeepsRulesUnder, HasNoLoops}
 use Rattle.cal_ast.specs.Tree.{CellDef, Component, Design}
 use Rattle.cal_ast.specs.Wired.{IsWired}
-use Rattle.cal_part.specs.Front.{KeepsFront, IsWiredAfter}
+use Rattle.cal_part.specs.FrontOfDesign.{KeepsFront, IsWiredAfter}
 use Rattle.cal_part.specs.Laws.{FrontIsWired, FrontKeepsRules}
-use Rattle.cal_part.specs.Looks.{LooksTheSame}
-use Rattle.cal_part.specs.Same.{AreSamePlaces, IsSameBelow}
-use Rattle.cal_part.proofs.LookLemmas.{looks_keep_rules}
+use Rattle.cal_part.specs.SameLooks.{LooksTheSame}
+use Rattle.cal_part.specs.SameHierarchy.{AreSamePlaces, IsSameBelow}
+use Rattle.cal_part.proofs.SameLooksLemmas.{looks_keep_rules}
 use Rattle.cal_part.proofs.LoopLemmas.{no_loop_same}
 use Rattle.cal_part.proofs.PlaceLemmas.{looks_alike, same_places-refl}
 

@@ -1,12 +1,14 @@
 pub mod FirstLemmas
 pub mod BelowLemmas
 pub mod StopLemmas
+pub mod ConflictLemmas
 pub mod WiredLemmas
 pub mod ControlLemmas
 pub mod PlaceLemmas
 pub mod SameLemmas
 pub mod RuleLemmas
-pub mod LookLemmas
+pub mod WireRuleLemmas
+pub mod SameLooksLemmas
 pub mod LoopLemmas
 pub mod RenamedLemmas
 pub mod FrontLemmas

@@ -7,7 +7,7 @@ use Rattle.cal_ast.specs.Actors.{ActorGroup}
 use Rattle.cal_ast.specs.Ports.{part_in}
 use Rattle.cal_ast.specs.Tree.{PortName, own, Assignment, GroupDef, Component, Design}
 use Rattle.cal_ast.specs.Wires.{IsGroupOf, IsAssignmentOf, ReadsByAssignment, IsAssignedIn, ReadsByDone, ReadsByGo, ReadsByPrimitive, CrossesCell, ReadsPort, ByAssignment, ByDone, ByGo, ByPrimitive, ByComponent, Reaches, AtOnce, Over, ReadsAlong, HasNoLoop}
-use Rattle.cal_part.specs.Same.{IsSameBelow}
+use Rattle.cal_part.specs.SameHierarchy.{IsSameBelow}
 use Rattle.cal_part.proofs.PlaceLemmas.{and_then-itself, looks_alike, primitives_same, same_below-sym, same_inputs, same_itself, same_outputs, same_place}
 use Rattle.cal_part.proofs.RuleLemmas.{source_kept}
 use Rattle.cal_part.proofs.SameLemmas.{actors_same}

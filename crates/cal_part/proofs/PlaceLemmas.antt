@@ -10,7 +10,7 @@ use Rattle.cal_ast.specs.Instances.{component_at}
 use Rattle.cal_ast.specs.Invoking.{made_go, go_of}
 use Rattle.cal_ast.specs.Ports.{SidedPin, is_bare, is_bare_by, with_pin, inputs_in, outputs_in, cell_named, primitive_of, primitive_in, part_in, made_inputs, made_outputs, cell_inputs, cell_outputs, both_sides, ports_at, port_named, port_in}
 use Rattle.cal_ast.specs.Tree.{PortName, CellDef, Component, Design}
-use Rattle.cal_part.specs.Same.{IsSameCell, IsSameComponent, AreSamePlaces, IsSameBelow}
+use Rattle.cal_part.specs.SameHierarchy.{IsSameCell, IsSameComponent, AreSamePlaces, IsSameBelow}
 use Rattle.cal_part.proofs.BelowLemmas.{component_at-append}
 
 -- ---- the relation

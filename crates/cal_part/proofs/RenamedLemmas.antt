@@ -23,8 +23,8 @@ use Rattle.cal_ast.specs.Tree.{Assignment, CellDef, DoneLine, GroupDef, Statemen
 use Rattle.cal_ast.specs.Typing.{HasParameters}
 use Rattle.cal_ast.specs.Wires.{HasNoLoop}
 use Rattle.cal_part.specs.Laws.{RenamedIsPlain, RenamedIsSame, RenamedIsWired, RenamedKeepsRules}
-use Rattle.cal_part.specs.Renamed.{IsRenaming, renamed, renamed_cell, renamed_design}
-use Rattle.cal_part.specs.Same.{AreSamePlaces, IsSameBelow, IsSameCell, IsSameComponent}
+use Rattle.cal_part.specs.RenamedDesign.{IsRenaming, renamed, renamed_cell, renamed_design}
+use Rattle.cal_part.specs.SameHierarchy.{AreSamePlaces, IsSameBelow, IsSameCell, IsSameComponent}
 use Rattle.cal_part.proofs.LoopLemmas.{no_loop_same}
 use Rattle.cal_part.proofs.PlaceLemmas.{LooksAlike, looks_alike}
 use Rattle.cal_part.proofs.RuleLemmas.{at_assignment, at_done, at_group, at_statement, widths_kept}

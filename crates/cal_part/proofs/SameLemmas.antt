@@ -23,7 +23,7 @@ use Rattle.cal_ast.specs.Spans.{View}
 use Rattle.cal_ast.specs.Starts.{IsActing, IsDoneRow}
 use Rattle.cal_ast.specs.Tree.{PortName, Assignment, CellDef, GroupDef, Component, Design}
 use Rattle.cal_part.specs.Laws.{SameBelow}
-use Rattle.cal_part.specs.Same.{IsSameComponent, IsSameBelow}
+use Rattle.cal_part.specs.SameHierarchy.{IsSameComponent, IsSameBelow}
 use Rattle.cal_part.proofs.PlaceLemmas.{LooksAlike, looks_alike, same_below-sym, same_bare, same_inputs, primitives_same, same_itself, same_place, bare_alike}
 use Rattle.cal_part.proofs.WiredLemmas.{items_after_cells, invokes_past_cells}
 

@@ -36,7 +36,7 @@ no_sets k [] = refl
 no_sets k (a ∷ sets) = no_sets (k + 1) sets
 
 -- a bare component has no control statement
-no_statements : (control : ControlSection) (sets : List Assignment) → is_bare_by control sets ≡ true → control_statements control ≡ []
+pub no_statements : (control : ControlSection) (sets : List Assignment) → is_bare_by control sets ≡ true → control_statements control ≡ []
 no_statements Absent sets is = refl
 no_statements Empty sets is = refl
 no_statements (Body s) sets is = absurd (cc)
@@ -56,8 +56,8 @@ pub bare_is_bare : BareIsBare
 bare_is_bare design c path = record { sets = λ below d at t row. refl; done = λ below d at control t. refl }
 
 pub scheduled_is_bare : ScheduledIsBare
-scheduled_is_bare design top c path wired asked inputs loads height trace stop run = record {
+scheduled_is_bare design c path wired acts is_done = record {
   sets = λ below d at t row.
-      sym (ap (λ (actors : List ActorGroup). d.sets ++ flat_map (sets_of_actor (λ actor. run.acts (path ++ below) actor t)) actors) (no_actors design d (wired.bare below d at) (wired.no_groups below d at)) ∙ append-nil d.sets);
+      sym (ap (λ (actors : List ActorGroup). d.sets ++ flat_map (sets_of_actor (λ actor. acts (path ++ below) actor t)) actors) (no_actors design d (wired.bare below d at) (wired.no_groups below d at)) ∙ append-nil d.sets);
   done = λ below d at control t. let apart : true ≡ false = sym (wired.bare below d at) ∙ control in absurd (cc);
 }

@@ -1,22 +1,26 @@
 -- The laws of parts of runs, and of designs that are parts of others. This project's.
-use Rattle.std.specs.Prelude.{◌≡◌, ℕ, ◌<◌, ◌≤◌, List, ◌++◌, Option, Some, None, Contains}
-use Rattle.hw_names.specs.Name.{Text, Path}
-use Rattle.hw_prims.specs.Row.{Trace}
-use Rattle.net_core.specs.Circuit.{Stops}
+use Rattle.std.specs.Prelude.{◌≡◌, ℕ, ◌<◌, ◌≤◌, Bool, true, List, [], ◌++◌, Option, Some, None, Contains}
+use Rattle.hw_names.specs.Name.{Text, Path, full_name}
+use Rattle.hw_prims.specs.Row.{Row, Trace}
+use Rattle.net_core.specs.Circuit.{HasConflict, Stops}
+use Rattle.cal_ast.specs.Actors.{Actor}
 use Rattle.cal_ast.specs.CalRun.{Activity, RunWith, StoppedRunWith, bare, cal_circuit}
 use Rattle.cal_ast.specs.Instances.{component_at}
-use Rattle.cal_ast.specs.Naming.{GroupNaming, HasNewNames, IsKnownCell}
+use Rattle.cal_ast.specs.Naming.{GroupNaming, Unreserved, HasNewNames, IsKnownCell}
 use Rattle.cal_ast.specs.Plain.{HasPlainTree}
+use Rattle.cal_ast.specs.Ports.{is_bare}
 use Rattle.cal_ast.specs.Rules.{CalRules, KeepsComponent}
 use Rattle.cal_ast.specs.Schedule.{Run, scheduled}
-use Rattle.cal_ast.specs.Tree.{CellDef, Component, Design}
+use Rattle.cal_ast.specs.Tree.{PortName, CellDef, Component, Design}
 use Rattle.cal_ast.specs.Wired.{IsWired}
 use Rattle.cal_ast.specs.Wires.{HasNoLoop}
-use Rattle.cal_part.specs.Below.{IsActivityBelow, IsRunBelow, IsWiredBelow, StopsBelow, rows_below, loads_below}
-use Rattle.cal_part.specs.Front.{KeepsFront, IsWiredAfter}
-use Rattle.cal_part.specs.Looks.{LooksTheSame, PassNoMore}
-use Rattle.cal_part.specs.Renamed.{IsRenaming, renamed, renamed_design}
-use Rattle.cal_part.specs.Same.{IsSameBelow, HaveSameRuns}
+use Rattle.cal_part.specs.RunBelow.{HasConflictAt, IsActivityBelow, IsRunBelow, IsWiredBelow, StopsBelow, row_below, rows_below, loads_below}
+use Rattle.cal_part.specs.FrontOfDesign.{KeepsFront, IsWiredAfter}
+use Rattle.cal_part.specs.HeldDesign.{IsHeldAt, holding}
+use Rattle.cal_part.specs.SameLooks.{LooksTheSame, PassNoMore}
+use Rattle.cal_part.specs.RenamedDesign.{IsRenaming, renamed, renamed_design}
+use Rattle.cal_part.specs.SameHierarchy.{IsSameBelow, HaveSameRuns}
+use Rattle.cal_part.specs.WireRules.{FallsInRank, KeepsAsWires}
 
 -- ---- parts of runs
 
@@ -43,6 +47,20 @@ SubRunsStop =
     (asked : ℕ) (inputs : Trace) (loads : Text → List ℕ) (height : ℕ) (trace : Trace) (stop : Option Text) →
     StoppedRunWith design top whole asked inputs loads height trace stop → StopsBelow (cal_circuit design c part) path height trace stop
 
+-- each Conflict is one of an instance
+abbrev pub ConflictsAreOfInstances : Type 0
+ConflictsAreOfInstances =
+    (design : Design) (top : Component) (activity : Activity) (t : ℕ) (row : Row) (port : Text) → HasConflict (cal_circuit design top activity) t row port →
+    (path : Path) × HasConflictAt design top activity t row port path
+
+-- and one of an instance at a path or below it is one of the component there
+abbrev pub ConflictsBelow : Type 0
+ConflictsBelow =
+    (design : Design) (top c : Component) (path : Path) → component_at design top path ≡ Some c →
+    (whole part : Activity) → IsActivityBelow design c path whole part →
+    (t : ℕ) (row : Row) (port : Text) (below : Path) → HasConflictAt design top whole t row port (path ++ below) →
+    (name : Text) × (port ≡ full_name path name) × HasConflict (cal_circuit design c part) t (row_below path row) name
+
 -- where continuous assignments alone act, so they do below a path
 abbrev pub BareIsBare : Type 0
 BareIsBare = (design : Design) (c : Component) (path : Path) → IsActivityBelow design c path bare bare
@@ -50,9 +68,8 @@ BareIsBare = (design : Design) (c : Component) (path : Path) → IsActivityBelow
 -- under control too, where all is wires from the component on
 abbrev pub ScheduledIsBare : Type 0
 ScheduledIsBare =
-    (design : Design) (top c : Component) (path : Path) → IsWiredBelow design c →
-    (asked : ℕ) (inputs : Trace) (loads : Text → List ℕ) (height : ℕ) (trace : Trace) (stop : Option Text) →
-    (run : Run design top asked inputs loads height trace stop) → IsActivityBelow design c path (scheduled design run.acts run.is_done) bare
+    (design : Design) (c : Component) (path : Path) → IsWiredBelow design c → (acts : Path → Actor → ℕ → Bool) (is_done : Path → ℕ → Bool) →
+    IsActivityBelow design c path (scheduled design acts is_done) bare
 
 -- and where control is below the path too, the run there is one under control, however it stops
 abbrev pub ControlledSubRuns : Type 0
@@ -99,6 +116,15 @@ FrontIsWired = (front more : Design) → IsWired front → IsWiredAfter front mo
 abbrev pub FrontIsWiredBelow : Type 0
 FrontIsWiredBelow = (front more : Design) → IsWired front → (c : Component) → Contains front c → IsWiredBelow (front ++ more) c
 
+-- C1 to C11 ask no more of a component of wires alone than at its signature, its cells and its assignments
+abbrev pub WiresKeepRules : Type 0
+WiresKeepRules =
+    (design earlier : Design) (c : Component) → is_bare c ≡ true → c.groups ≡ [] → KeepsAsWires design earlier c → KeepsComponent Unreserved design earlier c
+
+-- C12 holds of a component where some rank of its ports falls
+abbrev pub RanksShowNoLoop : Type 0
+RanksShowNoLoop = (design : Design) (c : Component) (rank : PortName → ℕ) → FallsInRank design c rank → HasNoLoop design c
+
 -- a component keeps C1 to C11 in a design in which it looks the same, where its name is new there and cells that were known are known
 abbrev pub LooksKeepRules : Type 0
 LooksKeepRules =
@@ -112,15 +138,19 @@ abbrev pub LooksKeepNoLoop : Type 0
 LooksKeepNoLoop =
     (first second these : Design) → PassNoMore first second these → (c : Component) → Contains these c → HasNoLoop first c → HasNoLoop second c
 
--- ---- a design that is part of another
+-- ---- designs that are parts of others
 
--- a design whose components got other names, with others after it: below the path of one of its components, where wires alone act, each run is one of the
--- design as it was
+-- what is seen of a run below the path of a held component is a run of the held design as it was
 abbrev pub HeldRuns : Type 0
 HeldRuns =
-    (held more : Design) (rename : Text → Text) → IsRenaming held rename → CalRules held → (c : Component) → Contains held c →
-    (top : Component) (path : Path) → component_at (renamed_design rename held ++ more) top path ≡ Some (renamed rename c) →
-    (whole : Activity) → IsActivityBelow (renamed_design rename held ++ more) (renamed rename c) path whole bare →
+    (held more : Design) (rename : Text → Text) (top c : Component) (path : Path) (whole : Activity) → IsHeldAt held more rename top c path whole →
     (asked : ℕ) (inputs : Trace) (loads : Text → List ℕ) (height : ℕ) (trace : Trace) →
-    RunWith (renamed_design rename held ++ more) top whole asked inputs loads height trace →
-    IsRunBelow (cal_circuit (renamed_design rename held ++ more) top whole) (cal_circuit held c bare) path loads height trace
+    RunWith (holding held rename more) top whole asked inputs loads height trace →
+    IsRunBelow (cal_circuit (holding held rename more) top whole) (cal_circuit held c bare) path loads height trace
+
+-- and a Conflict of an instance there is one of it
+abbrev pub HeldConflicts : Type 0
+HeldConflicts =
+    (held more : Design) (rename : Text → Text) (top c : Component) (path : Path) (whole : Activity) → IsHeldAt held more rename top c path whole →
+    (t : ℕ) (row : Row) (port : Text) (below : Path) → HasConflictAt (holding held rename more) top whole t row port (path ++ below) →
+    (name : Text) × (port ≡ full_name path name) × HasConflict (cal_circuit held c bare) t (row_below path row) name

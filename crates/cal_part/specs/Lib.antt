@@ -1,6 +1,8 @@
-pub mod Below
-pub mod Same
-pub mod Renamed
-pub mod Front
-pub mod Looks
+pub mod RunBelow
+pub mod SameHierarchy
+pub mod RenamedDesign
+pub mod FrontOfDesign
+pub mod SameLooks
+pub mod WireRules
+pub mod HeldDesign
 pub mod Laws

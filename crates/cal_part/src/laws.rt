@@ -1,7 +1,7 @@
 //! Laws of parts of runs, and of designs that hold other designs.
 ghost use Rattle.cal_part.specs.Laws.{BareIsBare, ControlledSubRuns, FirstRowsAreRuns, ScheduledIsBare, SubRuns, SubRunsStop};
-ghost use Rattle.cal_part.specs.Laws.{HeldRuns, SameBelow};
-ghost use Rattle.cal_part.specs.Laws.{LooksKeepNoLoop, LooksKeepRules};
+ghost use Rattle.cal_part.specs.Laws.{ConflictsAreOfInstances, ConflictsBelow, HeldConflicts, HeldRuns, SameBelow};
+ghost use Rattle.cal_part.specs.Laws.{LooksKeepNoLoop, LooksKeepRules, RanksShowNoLoop, WiresKeepRules};
 ghost use Rattle.cal_part.specs.Laws.{FrontIsWired, FrontIsWiredBelow, FrontKeepsRules};
 ghost use Rattle.cal_part.specs.Laws.{RenamedIsPlain, RenamedIsSame, RenamedIsWired, RenamedKeepsRules};
 
@@ -20,7 +20,17 @@ pub fn sub_runs_stop()
     ensures { SubRunsStop }
 {}
 
-/// Of a design of bare components the parts are bare.
+/// Each Conflict is one of an instance.
+pub fn conflicts_are_of_instances()
+    ensures { ConflictsAreOfInstances }
+{}
+
+/// And one of an instance at a path or below it is one of the component there.
+pub fn conflicts_below()
+    ensures { ConflictsBelow }
+{}
+
+/// Where continuous assignments alone act, so they do below a path.
 pub fn bare_is_bare()
     ensures { BareIsBare }
 {}
@@ -75,6 +85,16 @@ pub fn front_is_wired_below()
     ensures { FrontIsWiredBelow }
 {}
 
+/// C1 to C11 ask no more of a component of wires alone than at its signature, its cells and its assignments.
+pub fn wires_keep_rules()
+    ensures { WiresKeepRules }
+{}
+
+/// C12 holds of a component where some rank of its ports falls.
+pub fn ranks_show_no_loop()
+    ensures { RanksShowNoLoop }
+{}
+
 /// A component keeps C1 to C11 in a design in which it looks the same.
 pub fn looks_keep_rules()
     ensures { LooksKeepRules }
@@ -88,4 +108,9 @@ pub fn looks_keep_no_loop()
 /// A design whose components got other names, and that others come after, runs below a path as it does by itself.
 pub fn held_runs()
     ensures { HeldRuns }
+{}
+
+/// And each Conflict of an instance there is one of it.
+pub fn held_conflicts()
+    ensures { HeldConflicts }
 {}

@@ -1,13 +1,14 @@
 -- A run of a design, seen below the path of an instance: each port and each cell by its name there. Calyx, ASPLOS 2021; the words are this project's.
-use Rattle.std.specs.Prelude.{◌≡◌, ℕ, ◌+◌, true, false, List, [], ◌++◌, Option, Some, None}
+use Rattle.std.specs.Prelude.{◌≡◌, ℕ, ◌+◌, ◌≤◌, true, false, List, [], ◌++◌, length, Option, Some, None}
 use Rattle.hw_names.specs.Name.{Text, Path, full_name}
 use Rattle.hw_prims.specs.Row.{Row, Trace}
 use Rattle.hw_prims.specs.declared.prim.Primitive.{Primitive}
 use Rattle.net_core.specs.Circuit.{Circuit, HasConflict, IsRun, Stops, states_before}
-use Rattle.cal_ast.specs.CalRun.{Activity}
-use Rattle.cal_ast.specs.Instances.{component_at}
+use Rattle.cal_ast.specs.CalRun.{Activity, values_for}
+use Rattle.cal_ast.specs.Instances.{component_at, port_name}
 use Rattle.cal_ast.specs.Ports.{is_bare}
-use Rattle.cal_ast.specs.Tree.{Component, Design}
+use Rattle.cal_ast.specs.Sides.{IsDestination}
+use Rattle.cal_ast.specs.Tree.{PortName, Component, Design}
 
 -- ---- names
 
@@ -38,6 +39,15 @@ pub record StopsBelow (part : Circuit) (path : Path) (height : ℕ) (trace : Tra
   pub none : stop ≡ None → Stops part height (rows_below path trace) None
   pub some : (t : ℕ) (port : Text) → t + 1 ≡ height → stop ≡ Some (full_name path port) → HasConflict part t (row_below path (trace t)) port →
       Stops part height (rows_below path trace) (Some port)
+
+-- a Conflict of the instance at a path: two or more of the assignments that act there drive the port in row t
+pub record HasConflictAt (design : Design) (top : Component) (activity : Activity) (t : ℕ) (row : Row) (port : Text) (path : Path) : Type 0 where
+  pub c : Component
+  pub at : component_at design top path ≡ Some c
+  pub p : PortName
+  pub sink : IsDestination design c p
+  pub named : port_name path p ≡ port
+  pub clash : 2 ≤ length (values_for path port row (activity.sets path c t row))
 
 -- ---- what acts
 

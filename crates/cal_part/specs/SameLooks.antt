@@ -15,8 +15,8 @@ pub record LooksTheSame (first second : Design) (c : Component) : Type 0 where
 abbrev pub PassesNothing : Design → Component → Type 0
 PassesNothing design c = (output input : Text) → Reaches design c (own output) (own input) → ⊥
 
--- these components stand in both designs and look the same; and a cell that the second makes of a component is made of it in the first too, and that is one of
--- these, or passes nothing on
+-- these components stand in both designs and look the same; where the second makes a cell of one of them of a component, either the first makes it of the same
+-- one, which is one of these too, or that component passes nothing on
 pub record PassNoMore (first second these : Design) : Type 0 where
   pub looks : (c : Component) → Contains these c → LooksTheSame first second c
   pub parts : (c part : Component) (cell : Text) → Contains these c → part_in second c cell ≡ Some part →

@@ -9,7 +9,7 @@ use Rattle.cal_ast.specs.Rules.{Rule, C1, C2, C3, C4, Keeps, all_rules}
 use Rattle.cal_ast.specs.Tree.{PortName, own, Assignment, CellDef, GroupDef, Component, Design}
 use Rattle.cal_ast.specs.Wires.{IsGroupOf, IsAssignmentOf, IsAssignedIn, ReadsPort, ByAssignment, ByDone, ByGo, ByPrimitive, ByComponent, Reaches, AtOnce, Over, ReadsAlong}
 use Rattle.cal_part.specs.Laws.{LooksKeepNoLoop, LooksKeepRules}
-use Rattle.cal_part.specs.Looks.{LooksTheSame, PassNoMore}
+use Rattle.cal_part.specs.SameLooks.{LooksTheSame, PassNoMore}
 use Rattle.cal_part.proofs.PlaceLemmas.{LooksAlike}
 use Rattle.cal_part.proofs.RuleLemmas.{at_assignment, at_done, at_statement, widths_kept}
 use Rattle.cal_part.proofs.SameLemmas.{actors_alike, side_alike}
