@@ -6,7 +6,7 @@ use Rattle.hw_grammar.specs.declared.end.ReadEnd.{ReadEnd}
 use Rattle.hw_grammar.specs.Reading.{Answer, Fails, after, many}
 use Rattle.cal_parse.specs.Grammar.{is_some_true}
 use Rattle.cal_parse.specs.inside.Reading.{attribute_at, attributes_at, angle_entry_at, more_entries_at}
-use Rattle.cal_parse.proofs.Steps.{mapped_ok, mapped_fails}
+use Rattle.hw_grammar.proofs.Steps.{mapped_ok, mapped_fails}
 
 or_last : (a b c : Bool) → ((a || b) || c) ≡ (a || (b || c))
 or_last true b c = refl

@@ -14,7 +14,7 @@ use Rattle.cal_ast.specs.Tree.{PortName, Statement, MoreStatements, ControlSecti
 use Rattle.cal_ast.specs.Tree as tree
 use Rattle.cal_parse.specs.Grammar.{statements_from, seq_from, par_from, branch_from, if_from, while_from, control_from}
 use Rattle.cal_parse.specs.inside.Reading.{attributes_at, enable_at, block_by, branch_by, maybe_else_by, condition_at, branches_by, if_by, while_by, invoke_at, plain_statement_by, statement_by, statement_to}
-use Rattle.cal_parse.proofs.Steps.{then_ok, then_fails, then_missing, mapped_ok, mapped_fails, after_ok, after_fails, after_missing}
+use Rattle.hw_grammar.proofs.Steps.{then_ok, then_fails, then_missing, mapped_ok, mapped_fails, after_ok, after_fails, after_missing}
 
 abbrev trees : List Text → List Control → List Statement
 trees names statements = map (statement_tree names) statements

@@ -34,7 +34,7 @@ use Rattle.cal_ast.specs.Numbers.{PortHasNumbers, SourceHasNumbers, GuardHasNumb
 use Rattle.cal_parse.specs.declared.parse.CalTextEnd.{CalTextEnd}
 use Rattle.cal_parse.specs.Grammar.{IsFile}
 use Rattle.cal_parse.specs.Spelling.{SpellsDesign}
-use Rattle.cal_parse.specs.Written.{IsCalName, NameIsWritten, PortIsWritten, SourceIsWritten, GuardIsWritten, GuardsAreWritten, WhenIsWritten, PinIsWritten, InputIsWritten, CellIsWritten, AssignmentIsWritten, DoneIsWritten, GroupIsWritten, InIsWritten, OutIsWritten, StatementIsWritten, StatementsAreWritten, ControlIsWritten, ComponentIsWritten, DesignIsWritten}
+use Rattle.cal_ast.specs.Written.{IsCalName, NameIsWritten, PortIsWritten, SourceIsWritten, GuardIsWritten, GuardsAreWritten, WhenIsWritten, PinIsWritten, InputIsWritten, CellIsWritten, AssignmentIsWritten, DoneIsWritten, GroupIsWritten, InIsWritten, OutIsWritten, StatementIsWritten, StatementsAreWritten, ControlIsWritten, ComponentIsWritten, DesignIsWritten}
 use Rattle.cal_parse.proofs.Exactness.{file-exact}
 use Rattle.cal_parse.proofs.Passages.{passes-file}
 

@@ -13,13 +13,14 @@ use Rattle.hw_grammar.proofs.Carried.{any_number-exact}
 use Rattle.hw_grammar.proofs.Closed.{any_word-exact, closed-exact, between-exact}
 use Rattle.hw_grammar.proofs.Specials.{special-exact}
 use Rattle.hw_grammar.proofs.Upto.{Upto, upto, upto-then, upto-mapped, upto-either, upto-after, upto-many, upto-less}
-use Rattle.hw_grammar.proofs.Limit.{Within, within-self, Limit, limit-const, limit-mapped, limit-then, limit-either, limit-after, limit-many, upto-same, upto-nothing, law-wider, after-law, limit-law}
+use Rattle.hw_grammar.proofs.Limit.{Within, Limit, limit-const, limit-mapped, limit-then, limit-either, limit-after, limit-many, upto-same, upto-nothing, law-wider, after-law, limit-law}
+use Rattle.hw_grammar.proofs.Parts.{upto-between, between-law, limit-between, first_then, pair-limit}
 use Rattle.hw_grammar.proofs.Whole.{Judged, judge}
 use Rattle.cal_ast.specs.Tree.{PortName, Assignment, DoneLine, InBinding, OutBinding, Statement}
 use Rattle.cal_ast.specs.Tree as tree
 use Rattle.cal_parse.specs.Grammar.{port_from, Source, Guard, is_external, is_some_true, either_from, meant_from, MeantPin, pin_from, inputs_from, outputs_from, cell_from, assignment_from, done_from, GroupLine, AssignmentLine, LineOfDone, lines_from, group_from, Wire, GroupWire, AssignmentWire, wires_from, in_from, out_from, seq_from, par_from, branch_from, if_from, while_from, invoke_from, control_from, component_from, design_from, Past, IsPort, IsAttribute, AreAttributes, IsAngleEntry, AreAngleEntries, IsAngle, MaybeAngle, IsPin, AreInputs, AreOutputs, AreParameters, IsCell, IsSetting, IsAssignment, IsDoneMark, IsDoneLine, IsGroupLine, AreGroupLines, MaybeComb, IsGroup, IsWire, IsInBinding, IsOutBinding, BlockOf, BranchOf, IsEnable, MaybeWith, MaybeElse, IsCondition, IfOf, WhileOf, AreInBindings, AreOutBindings, IsInvoke, StatementOf, StatementTo, IsStatement, MaybeControl, MaybeOutputs, AreCells, AreWires, IsComponentBody, IsComponent, IsImport, AreImports, IsFile}
 use Rattle.cal_parse.specs.inside.Reading.{attribute_at, attributes_at, angle_entry_at, more_entries_at, entries_at, angle_at, maybe_angle_at, pin_at, pin_set, inputs_at, outputs_at, listed_numbers_at, parameters_at, cell_at, assignment_at, done_mark_at, done_by, assignment_by, dotted_at, named_line_at, of_name, line_at, lines_at, maybe_comb_at, group_at, wire_at, wire_set, wire_list_at, wires_at, in_binding_at, out_binding_at, in_bindings_at, out_bindings_at, statement_set, block_by, branch_by, enable_at, maybe_with_at, maybe_else_by, condition_at, branches_by, if_by, while_by, invoke_at, plain_statement_by, statement_by, statement_to, maybe_control_at, maybe_outputs_at, cells_at, component_body_at, component_set, component_at, import_at, imports_at, components_at, file_at}
-use Rattle.cal_parse.proofs.Parts.{past-exact, upto-between, between-law, limit-between}
+use Rattle.cal_parse.proofs.Parts.{past-exact}
 use Rattle.cal_parse.proofs.Guards.{port-exact, source-exact}
 use Rattle.cal_parse.proofs.Settings.{setting-exact}
 
@@ -243,18 +244,6 @@ module _ (names : List Text) where
   of-limit S L x =
       limit-mapped (λ d. Then AreAttributes (PlainStatement (S d))) (Then AreAttributes (PlainStatement L)) (λ (x : Bool × Statement). x.1)
       (limit-then (λ d. AreAttributes) AreAttributes (λ d. PlainStatement (S d)) (PlainStatement L) (limit-const AreAttributes) (plain-limit S L x))
-
-  -- S at depth 0, T at all others
-  abbrev first_then : Lang Statement → Lang Statement → ℕ → Lang Statement
-  first_then S T zero = S
-  first_then S T (suc d) = T
-
-  pair-limit : (S T : Lang Statement) → Within S T → Limit (first_then S T) T
-  pair-limit S T h = record {
-    up = λ d. elim d as (λ d. Within (first_then S T d) T) [ zero ↦ h | suc d ↦ within-self T ];
-    down = λ w a m l. (1, l);
-    grows = λ d. elim d as (λ d. Within (first_then S T d) (first_then S T (suc d))) [ zero ↦ h | suc d ↦ within-self T ];
-  }
 
   within-of : (S T : Lang Statement) → Within S T → Within (StatementOf names S) (StatementOf names T)
   within-of S T h = (of-limit (first_then S T) T (pair-limit S T h)).up 0

@@ -18,7 +18,7 @@ use Rattle.cal_ast.specs.declared.tree.CalPort.{CalPort}
 use Rattle.cal_ast.specs.Tree.{PortName, port_tree}
 use Rattle.cal_parse.specs.Grammar.{Source, read_from, negated_from, all_from, any_from}
 use Rattle.cal_parse.specs.inside.Reading.{source_at, test_at, is_not, negated, negations_from, operand_by, negated_by, unit_by, conjunction_by, guard_by, guard_to}
-use Rattle.cal_parse.proofs.Steps.{then_ok, then_fails, mapped_ok, mapped_fails, after_ok, after_fails, after_missing, separated_missing, separated_is}
+use Rattle.hw_grammar.proofs.Steps.{then_ok, then_fails, mapped_ok, mapped_fails, after_ok, after_fails, after_missing, separated_missing, separated_is}
 
 abbrev Tree : Type 0
 Tree = GuardTree PortName

@@ -10,11 +10,11 @@ use Rattle.hw_grammar.proofs.Carried.{any_literal-exact}
 use Rattle.hw_grammar.proofs.Closed.{any_word-exact}
 use Rattle.hw_grammar.proofs.Upto.{Upto, upto, upto-then, upto-mapped, upto-either, upto-after, upto-separated, upto-less}
 use Rattle.hw_grammar.proofs.Limit.{Within, within-mapped, within-either, within-after, within-separated, within-self, Limit, limit-const, limit-mapped, limit-either, limit-after, limit-separated, upto-wider, upto-same, upto-nothing, law-wider, separated-law, after-law, limit-law}
+use Rattle.hw_grammar.proofs.Parts.{upto-between, between-law, within-between, limit-between}
 use Rattle.net_core.specs.declared.net.Cmp.TheVariants.{Eq, Neq, Lt, Gt, Le, Ge}
 use Rattle.net_core.specs.Guard.{Reads, Negates}
 use Rattle.cal_parse.specs.Grammar.{port_from, port_source, literal_from, Guard, read_from, negated_from, test_from, all_from, any_from, IsPort, IsSource, IsOperator, IsTest, TightOf, UnitOf, ConjunctionOf, GuardOf, TightTo, GuardTo, IsTight, IsGuard}
 use Rattle.cal_parse.specs.inside.Reading.{port_at, source_at, operators, operator_at, test_at, negated, negations_from, operand_by, negated_by, unit_by, conjunction_by, guard_by, guard_to, guard_at}
-use Rattle.cal_parse.proofs.Parts.{upto-between, between-law, within-between, limit-between}
 
 pub operator-exact : Exact IsOperator operator_at operators false []
 unfolding operator_at

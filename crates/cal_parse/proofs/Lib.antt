@@ -1,4 +1,3 @@
-pub mod Steps
 pub mod GuardLaws
 pub mod SettingLaws
 pub mod ControlLaws

@@ -7,7 +7,7 @@ use Rattle.hw_grammar.specs.Reading.{Fails, many}
 use Rattle.cal_ast.specs.Tree.{Assignment, DoneLine, GroupDef}
 use Rattle.cal_parse.specs.Grammar.{GroupLine, AssignmentLine, LineOfDone, assignments_in, dones_in, lines_from, Wire, GroupWire, AssignmentWire, groups_in, sets_in, wires_from}
 use Rattle.cal_parse.specs.inside.Reading.{pin_set, line_at, lines_at, wire_set, wire_at, wire_list_at}
-use Rattle.cal_parse.proofs.Steps.{mapped_ok, mapped_fails}
+use Rattle.hw_grammar.proofs.Steps.{mapped_ok, mapped_fails}
 
 assignments_in_push : (xs : List GroupLine) (x : GroupLine) → assignments_in (xs ++ x ∷ []) ≡ assignments_in xs ++ assignments_in (x ∷ [])
 assignments_in_push [] x = refl

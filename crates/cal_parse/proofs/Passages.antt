@@ -23,7 +23,7 @@ use Rattle.net_core.specs.Guard.{guards_of}
 use Rattle.cal_ast.specs.Tree.{PortName, CellDef, Assignment, DoneLine, GroupDef, InBinding, OutBinding, Statement, ControlSection, Design}
 use Rattle.cal_ast.specs.Tree as tree
 use Rattle.cal_parse.specs.Grammar.{port_from, Source, port_source, literal_from, Guard, read_from, negated_from, test_from, all_from, any_from, is_external, is_some_true, either_from, meant_from, MeantPin, pin_from, is_dropped, inputs_from, outputs_from, cell_from, assignment_from, done_from, GroupLine, AssignmentLine, LineOfDone, assignments_in, dones_in, lines_from, group_from, Wire, GroupWire, AssignmentWire, groups_in, sets_in, wires_from, in_from, out_from, statements_from, seq_from, par_from, branch_from, if_from, while_from, invoke_from, control_from, component_from, design_from, IsPort, IsSource, IsOperator, IsTest, TightTo, GuardTo, IsGuard, IsAttribute, AreAttributes, IsAngleEntry, AreAngleEntries, IsAngle, MaybeAngle, IsPin, AreInputs, AreOutputs, AreParameters, IsCell, IsSetting, IsAssignment, IsDoneMark, IsDoneLine, IsGroupLine, AreGroupLines, IsGroup, IsWire, IsInBinding, IsOutBinding, IsEnable, IsCondition, IsInvoke, StatementTo, IsStatement, MaybeControl, MaybeOutputs, AreCells, AreWires, IsComponentBody, IsComponent, IsImport, AreImports, IsFile}
-use Rattle.cal_parse.specs.Written.{IsCalName, NameIsWritten, PortIsWritten, SourceIsWritten, GuardIsWritten, GuardsAreWritten, WhenIsWritten, PinIsWritten, InputIsWritten, CellIsWritten, AssignmentIsWritten, DoneIsWritten, GroupIsWritten, InIsWritten, OutIsWritten, StatementIsWritten, StatementsAreWritten, ControlIsWritten, ComponentIsWritten, DesignIsWritten}
+use Rattle.cal_ast.specs.Written.{IsCalName, NameIsWritten, PortIsWritten, SourceIsWritten, GuardIsWritten, GuardsAreWritten, WhenIsWritten, PinIsWritten, InputIsWritten, CellIsWritten, AssignmentIsWritten, DoneIsWritten, GroupIsWritten, InIsWritten, OutIsWritten, StatementIsWritten, StatementsAreWritten, ControlIsWritten, ComponentIsWritten, DesignIsWritten}
 
 abbrev AnyBool : Bool → Type 0
 AnyBool x = Unit {0}

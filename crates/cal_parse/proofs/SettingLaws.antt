@@ -7,7 +7,7 @@ use Rattle.hw_grammar.specs.Sort.{has}
 use Rattle.hw_grammar.specs.Reading.{Reader, Answer, Fails, ◌>>=◌, then_by, mapped}
 use Rattle.cal_parse.specs.Grammar.{Source, Guard}
 use Rattle.cal_parse.specs.inside.Reading.{guard_to, guard_at, guard_marks, asked_by, behind_by, setting_at}
-use Rattle.cal_parse.proofs.Steps.{bind_fails, mapped_fails}
+use Rattle.hw_grammar.proofs.Steps.{bind_fails, mapped_fails}
 
 abbrev Setting : Type 0
 Setting = Option Guard × Source

@@ -44,7 +44,7 @@ abbrev pub port_source : PortName → Source
 port_source port = Port port
 
 abbrev pub literal_from : ℕ × ℕ → Source
-literal_from x = Lit x.0 x.1
+literal_from (width, value) = Lit width value
 
 -- source = port | LITERAL
 abbrev pub IsSource : List Text → Lang Source
@@ -149,7 +149,7 @@ IsAngleEntry = Mapped (λ x. x.0) (Then (Closed (IsAttributeWord sorts.Text) Equ
 
 -- whether the first or one of the others is true
 abbrev pub either_from : Bool × Bool → Bool
-either_from x = x.0 || x.1
+either_from (first, later) = first || later
 
 -- STRING "=" NUMBER {"," STRING "=" NUMBER}
 abbrev pub AreAngleEntries : Lang Bool
@@ -173,7 +173,7 @@ abbrev pub MeantPin : Type 0
 MeantPin = Special × Pin
 
 abbrev pub pin_from : (Text × Special) × ℕ → MeantPin
-pin_from x = (x.0.1, record { name = x.0.0; width = x.1 })
+pin_from ((name, meant), width) = (meant, record { name = name; width = width })
 
 -- attrs NAME ":" NUMBER
 abbrev pub IsPin : List Text → Lang MeantPin
@@ -191,7 +191,7 @@ is_dropped _ = false
 
 abbrev pub inputs_from : List MeantPin → List Pin
 inputs_from [] = []
-inputs_from (x ∷ pins) = cond (is_dropped x.0) (inputs_from pins) (x.1 ∷ inputs_from pins)
+inputs_from ((meant, pin) ∷ pins) = cond (is_dropped meant) (inputs_from pins) (pin ∷ inputs_from pins)
 
 -- "(" [pins] ")" of inputs
 abbrev pub AreInputs : List Text → Lang (List Pin)
@@ -210,7 +210,7 @@ AreParameters = Between LeftParen (Either (Separated Comma AnyNumber) (Empty [])
 
 -- `@external` and `<"external"=N>` say the same of a cell
 abbrev pub cell_from : Bool × (Text × (Bool × (Text × List ℕ))) → CellDef
-cell_from x = record { name = x.1.0; made = x.1.1.1.0; params = x.1.1.1.1; external = x.0 || x.1.1.0 }
+cell_from (external, (name, (in_angle, (made, params)))) = record { name = name; made = made; params = params; external = external || in_angle }
 
 -- cell = attrs NAME [angle] "=" NAME "(" [NUMBER {"," NUMBER}] ")" ";"
 abbrev pub IsCell : List Text → Lang CellDef
@@ -224,7 +224,7 @@ abbrev pub IsSetting : List Text → Lang (Option Guard × Source)
 IsSetting names = Then (Optional (Closed (IsGuard names) Question)) (Closed (IsSource names) Semicolon)
 
 abbrev pub assignment_from : PortName × (Option Guard × Source) → Assignment
-assignment_from x = record { dst = x.0; guard = x.1.0; src = x.1.1 }
+assignment_from (dst, (guard, src)) = record { dst = dst; guard = guard; src = src }
 
 -- assign = port "=" [guard "?"] source ";"
 abbrev pub IsAssignment : List Text → Lang Assignment
@@ -235,7 +235,7 @@ abbrev pub IsDoneMark : Lang (Unit {0})
 IsDoneMark = Between LeftBracket (Mapped (λ _. tt) (OneSpecial Done)) RightBracket
 
 abbrev pub done_from : Text × (Option Guard × Source) → DoneLine
-done_from x = record { group = x.0; guard = x.1.0; src = x.1.1 }
+done_from (group, (guard, src)) = record { group = group; guard = guard; src = src }
 
 -- done = NAME "[" "done" "]" "=" [guard "?"] source ";"
 abbrev pub IsDoneLine : List Text → Lang DoneLine
@@ -273,7 +273,7 @@ abbrev pub MaybeComb : Lang Bool
 MaybeComb = Either (Mapped (λ _. true) (One Comb)) (Empty false)
 
 abbrev pub group_from : Bool × (Text × (List Assignment × List DoneLine)) → GroupDef
-group_from x = record { name = x.1.0; comb = x.0; sets = x.1.1.0; dones = x.1.1.1 }
+group_from (comb, (name, (sets, dones))) = record { name = name; comb = comb; sets = sets; dones = dones }
 
 -- group = ["comb"] "group" NAME [angle] "{" {attrs (assign | done)} "}"
 abbrev pub IsGroup : List Text → Lang GroupDef
@@ -306,14 +306,14 @@ wires_from wires = (groups_in wires, sets_in wires)
 -- ---- control
 
 abbrev pub in_from : Text × Source → InBinding
-in_from x = record { pin = x.0; src = x.1 }
+in_from (pin, src) = record { pin = pin; src = src }
 
 -- ib = NAME "=" source
 abbrev pub IsInBinding : List Text → Lang InBinding
 IsInBinding names = Mapped in_from (Then (Closed (AnyWord names) Equals) (IsSource names))
 
 abbrev pub out_from : Text × PortName → OutBinding
-out_from x = record { pin = x.0; dst = x.1 }
+out_from (pin, dst) = record { pin = pin; dst = dst }
 
 -- ob = NAME "=" port
 abbrev pub IsOutBinding : List Text → Lang OutBinding
@@ -359,7 +359,7 @@ abbrev pub IsCondition : List Text → Lang (PortName × Option Text)
 IsCondition names = Then (IsPort names) (MaybeWith names)
 
 abbrev pub if_from : (PortName × Option Text) × (Statement × Statement) → Statement
-if_from x = tree.If x.0.0 x.0.1 x.1.0 x.1.1
+if_from ((port, by), (s, t)) = tree.If port by s t
 
 -- "if" port ["with" NAME] block ["else" block]
 abbrev pub IfOf : List Text → Lang Statement → Lang Statement
@@ -367,14 +367,14 @@ IfOf names IsStatement =
     Mapped if_from (After If (Then (IsCondition names) (Then (BranchOf IsStatement) (MaybeElse IsStatement))))
 
 abbrev pub while_from : (PortName × Option Text) × Statement → Statement
-while_from x = tree.While x.0.0 x.0.1 x.1
+while_from ((port, by), s) = tree.While port by s
 
 -- "while" port ["with" NAME] block
 abbrev pub WhileOf : List Text → Lang Statement → Lang Statement
 WhileOf names IsStatement = Mapped while_from (After While (Then (IsCondition names) (BranchOf IsStatement)))
 
 abbrev pub invoke_from : Text × (List InBinding × List OutBinding) → Statement
-invoke_from x = tree.Invoke x.0 x.1.0 x.1.1
+invoke_from (cell, (ins, outs)) = tree.Invoke cell ins outs
 
 -- "(" [ib {"," ib} [","]] ")"
 abbrev pub AreInBindings : List Text → Lang (List InBinding)
@@ -433,20 +433,16 @@ AreCells names = After Cells (Between LeftBrace (Many (IsCell names)) RightBrace
 abbrev pub AreWires : List Text → Lang (List GroupDef × List Assignment)
 AreWires names = After Wires (Between LeftBrace (Mapped wires_from (Many (IsWire names))) RightBrace)
 
-abbrev pub component_from : Text × (List Pin × (List Pin × (List CellDef × ((List GroupDef × List Assignment) × ControlSection)))) → tree.Component
-component_from x =
-    record {
-      name = x.0;
-      ins = x.1.0;
-      outs = x.1.1.0;
-      cells = x.1.1.1.0;
-      groups = x.1.1.1.1.0.0;
-      sets = x.1.1.1.1.0.1;
-      control = x.1.1.1.1.1;
-    }
+-- the cells, the groups and the continuous assignments, and the control of a component
+abbrev pub BodyParts : Type 0
+BodyParts = List CellDef × ((List GroupDef × List Assignment) × ControlSection)
+
+abbrev pub component_from : Text × (List Pin × (List Pin × BodyParts)) → tree.Component
+component_from (name, (ins, (outs, (cells, ((groups, sets), control))))) =
+    record { name = name; ins = ins; outs = outs; cells = cells; groups = groups; sets = sets; control = control }
 
 -- "{" "cells" "{" {cell} "}" "wires" "{" {attrs (group | assign)} "}" ["control" "{" {stmt} "}"] "}"
-abbrev pub IsComponentBody : List Text → Lang (List CellDef × ((List GroupDef × List Assignment) × ControlSection))
+abbrev pub IsComponentBody : List Text → Lang BodyParts
 IsComponentBody names = Between LeftBrace (Then (AreCells names) (Then (AreWires names) (MaybeControl names))) RightBrace
 
 -- comp = attrs "component" NAME [angle] "(" [pins] ")" ["->" "(" [pins] ")"] "{"
@@ -466,7 +462,7 @@ abbrev pub AreImports : Lang (Unit {0})
 AreImports = Mapped (λ _. tt) (Many IsImport)
 
 abbrev pub design_from : tree.Component × List tree.Component → Design
-design_from x = x.0 ∷ x.1
+design_from (first, others) = first ∷ others
 
 -- file = {"import" STRING ";"} comp {comp}
 abbrev pub IsFile : List Text → Lang Design

@@ -1,4 +1,3 @@
 pub mod inside
 pub mod Grammar
 pub mod Spelling
-pub mod Written

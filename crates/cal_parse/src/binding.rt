@@ -1,9 +1,9 @@
 //! Bindings of invokes, from terminals.
 ghost use Rattle.std.specs.Prelude.{◌≡◌, [], ◌∷◌, List, map};
 ghost use Rattle.cal_ast.specs.Tree.{in_tree, out_tree};
-ghost use Rattle.cal_parse.specs.inside.Reading.{GivesNamed, in_binding_at, out_binding_at, in_bindings_at, out_bindings_at};
+ghost use Rattle.cal_parse.specs.inside.Reading.{in_binding_at, out_binding_at, in_bindings_at, out_bindings_at};
 ghost use Rattle.hw_grammar.specs.declared.sort.Sort.TheVariants as Sort;
-ghost use Rattle.hw_grammar.specs.Reading.{with_front, list_tail, listed};
+ghost use Rattle.hw_grammar.specs.Reading.{GivesNamed, with_front, list_tail, listed};
 
 use crate::port::{read_port, read_source};
 use cal_ast::{InBind, OutBind};

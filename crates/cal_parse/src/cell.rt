@@ -1,9 +1,9 @@
 //! Cells, from terminals.
 ghost use Rattle.std.specs.Prelude.{◌≡◌, [], ◌∷◌, List, map};
 ghost use Rattle.cal_ast.specs.Tree.{cell_tree};
-ghost use Rattle.cal_parse.specs.inside.Reading.{GivesNamed, pin_set, more_number_at, listed_numbers_at, parameters_at, cell_at, cells_at};
+ghost use Rattle.cal_parse.specs.inside.Reading.{pin_set, more_number_at, listed_numbers_at, parameters_at, cell_at, cells_at};
 ghost use Rattle.hw_grammar.specs.declared.sort.Sort.TheVariants as Sort;
-ghost use Rattle.hw_grammar.specs.Reading.{Gives, with_front, many};
+ghost use Rattle.hw_grammar.specs.Reading.{Gives, GivesNamed, with_front, many};
 
 use crate::attribute::{angle_or_none, read_attributes};
 use crate::pin::starts_named;

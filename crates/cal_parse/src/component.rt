@@ -1,9 +1,9 @@
 //! Components and whole files, from terminals.
 ghost use Rattle.std.specs.Prelude.{◌≡◌, [], ◌∷◌, List, map};
 ghost use Rattle.cal_ast.specs.Tree.{assignment_tree, cell_tree, group_tree, control_tree, component_tree};
-ghost use Rattle.cal_parse.specs.inside.Reading.{GivesNamed, component_body_at, component_set, component_at, import_at, imports_at, components_at, file_at};
+ghost use Rattle.cal_parse.specs.inside.Reading.{component_body_at, component_set, component_at, import_at, imports_at, components_at, file_at};
 ghost use Rattle.hw_grammar.specs.declared.sort.Sort.TheVariants as Sort;
-ghost use Rattle.hw_grammar.specs.Reading.{Gives, with_front, many, whole};
+ghost use Rattle.hw_grammar.specs.Reading.{Gives, GivesNamed, with_front, many, whole};
 ghost use Rattle.hw_grammar.specs.Sort.{has};
 
 use crate::attribute::{angle_or_none, read_attributes};

@@ -2,9 +2,9 @@
 ghost use Rattle.std.specs.Prelude.{◌≡◌, [], ◌∷◌, List, map, option_map};
 ghost use Rattle.cal_ast.specs.Tree.{port_tree, statement_tree, control_tree};
 ghost use Rattle.cal_parse.specs.Grammar.{branch_from, control_from};
-ghost use Rattle.cal_parse.specs.inside.Reading.{GivesNamed, statement_set, enable_at, maybe_with_at, maybe_else_by, condition_at, branches_by, if_by, while_by, invoke_at, block_by, branch_by, plain_statement_by, statement_to, maybe_control_at};
+ghost use Rattle.cal_parse.specs.inside.Reading.{statement_set, enable_at, maybe_with_at, maybe_else_by, condition_at, branches_by, if_by, while_by, invoke_at, block_by, branch_by, plain_statement_by, statement_to, maybe_control_at};
 ghost use Rattle.hw_grammar.specs.declared.sort.Sort.TheVariants as Sort;
-ghost use Rattle.hw_grammar.specs.Reading.{many};
+ghost use Rattle.hw_grammar.specs.Reading.{GivesNamed, many};
 ghost use Rattle.hw_grammar.specs.Sort.{has};
 ghost use Rattle.hw_names.specs.Name.{Text, text_of};
 

@@ -3,9 +3,9 @@ ghost use Rattle.std.specs.Prelude.{◌≡◌, [], ◌∷◌, ◌++◌, List, ma
 ghost use Rattle.cal_ast.specs.Tree.{port_tree, assignment_tree, done_tree, group_tree};
 ghost use Rattle.cal_parse.specs.Grammar.{port_from, assignments_in, dones_in, groups_in, sets_in};
 ghost use Rattle.cal_parse.specs.inside.Lines.{line_tree, wire_tree};
-ghost use Rattle.cal_parse.specs.inside.Reading.{GivesNamed, pin_set, wire_set, done_mark_at, dotted_at, named_line_at, line_at, lines_at, maybe_comb_at, group_at, wire_at, wire_list_at, wires_at};
+ghost use Rattle.cal_parse.specs.inside.Reading.{pin_set, wire_set, done_mark_at, dotted_at, named_line_at, line_at, lines_at, maybe_comb_at, group_at, wire_at, wire_list_at, wires_at};
 ghost use Rattle.hw_grammar.specs.declared.sort.Sort.TheVariants as Sort;
-ghost use Rattle.hw_grammar.specs.Reading.{Gives, mapped};
+ghost use Rattle.hw_grammar.specs.Reading.{Gives, GivesNamed, mapped};
 ghost use Rattle.hw_grammar.specs.Sort.{has};
 ghost use Rattle.hw_names.specs.Name.{Text, text_of};
 

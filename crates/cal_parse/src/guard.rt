@@ -3,9 +3,9 @@ ghost use Rattle.std.specs.Prelude.{◌≡◌, List, [], ◌∷◌, map, length,
 ghost use Rattle.std.specs.List.{prefix_len};
 ghost use Rattle.cal_ast.specs.Tree.{port_tree};
 ghost use Rattle.cal_parse.specs.Grammar.{any_from, all_from};
-ghost use Rattle.cal_parse.specs.inside.Reading.{GivesNamed, operators, operator_at, test_at, operand_by, negated_by, unit_by, conjunction_by, guard_to, is_not, negated};
+ghost use Rattle.cal_parse.specs.inside.Reading.{operators, operator_at, test_at, operand_by, negated_by, unit_by, conjunction_by, guard_to, is_not, negated};
 ghost use Rattle.hw_grammar.specs.declared.sort.Sort.TheVariants as Sort;
-ghost use Rattle.hw_grammar.specs.Reading.{Gives, with_front, after, between, many};
+ghost use Rattle.hw_grammar.specs.Reading.{Gives, GivesNamed, with_front, after, between, many};
 ghost use Rattle.hw_grammar.specs.Sort.{has};
 ghost use Rattle.hw_names.specs.Name.{Text};
 ghost use Rattle.net_core.specs.Guard.{guard_tree};

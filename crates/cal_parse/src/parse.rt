@@ -5,7 +5,7 @@ ghost use Rattle.cal_ast.specs.Tree.{Design, design_of};
 ghost use Rattle.cal_parse.specs.inside.Reading.{file_at};
 ghost use Rattle.cal_parse.specs.inside.Refusal.{IsRefusedFrom};
 ghost use Rattle.cal_parse.specs.Spelling.{SpellsDesign, KeepsNesting, GrammarEnds, EndsBy, left_out};
-ghost use Rattle.cal_parse.specs.Written.{DesignIsWritten};
+ghost use Rattle.cal_ast.specs.Written.{DesignIsWritten};
 ghost use Rattle.hw_grammar.specs.Reading.{Gives, whole};
 ghost use Rattle.hw_grammar.specs.Sort.{has};
 ghost use Rattle.hw_lex.specs.declared.token.Dialect.TheVariants.{Cal};

@@ -3,9 +3,9 @@ ghost use Rattle.std.specs.Prelude.{◌≡◌, [], ◌∷◌, List, map, IfOk};
 ghost use Rattle.cal_ast.specs.Tree.{pin_tree};
 ghost use Rattle.cal_parse.specs.Grammar.{is_dropped, inputs_from, outputs_from};
 ghost use Rattle.cal_parse.specs.inside.Pins.{meant_tree};
-ghost use Rattle.cal_parse.specs.inside.Reading.{GivesNamed, pin_at, pin_set, inputs_at, outputs_at, maybe_outputs_at};
+ghost use Rattle.cal_parse.specs.inside.Reading.{pin_at, pin_set, inputs_at, outputs_at, maybe_outputs_at};
 ghost use Rattle.hw_grammar.specs.declared.sort.Sort.TheVariants as Sort;
-ghost use Rattle.hw_grammar.specs.Reading.{with_front, list_tail, listed};
+ghost use Rattle.hw_grammar.specs.Reading.{GivesNamed, with_front, list_tail, listed};
 ghost use Rattle.hw_grammar.specs.Sort.{has};
 ghost use Rattle.hw_names.specs.Name.{Text};
 

@@ -1,7 +1,8 @@
 //! Ports and sources, from terminals.
 ghost use Rattle.cal_ast.specs.Tree.{port_tree};
-ghost use Rattle.cal_parse.specs.inside.Reading.{GivesNamed, port_at, source_at};
+ghost use Rattle.cal_parse.specs.inside.Reading.{port_at, source_at};
 ghost use Rattle.net_core.specs.Guard.{source_tree};
+ghost use Rattle.hw_grammar.specs.Reading.{GivesNamed};
 
 use cal_ast::CalPort;
 use hw_grammar::{ReadEnd, Sort, Terminal, read_name, read_one, starts};

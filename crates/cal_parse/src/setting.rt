@@ -1,8 +1,9 @@
 //! Assignments, from terminals.
 ghost use Rattle.std.specs.Prelude.{◌≡◌, [], ◌∷◌, List, Option, Some, None};
 ghost use Rattle.cal_ast.specs.Tree.{port_tree, assignment_tree};
-ghost use Rattle.cal_parse.specs.inside.Reading.{GivesNamed, asked_by, behind_by, setting_at, assignment_at};
+ghost use Rattle.cal_parse.specs.inside.Reading.{asked_by, behind_by, setting_at, assignment_at};
 ghost use Rattle.net_core.specs.Guard.{source_tree, guard_tree, guard_option};
+ghost use Rattle.hw_grammar.specs.Reading.{GivesNamed};
 
 use crate::guard::read_guard;
 use crate::port::{read_port, read_source};

@@ -16,7 +16,7 @@ use Rattle.hw_grammar.proofs.Decimals.{fragment_name}
 use Rattle.cal_ast.specs.Tree.{PortName, InBinding, OutBinding, Statement, Statements, NoStatements, MoreStatements, ControlSection}
 use Rattle.cal_ast.specs.Tree as tree
 use Rattle.cal_parse.specs.Grammar.{Past, Source, AreAttributes, IsPort, IsSource, IsInBinding, IsOutBinding, BlockOf, statements_from, seq_from, par_from, branch_from, IsEnable, MaybeWith, BranchOf, MaybeElse, IsCondition, IfOf, WhileOf, AreInBindings, AreOutBindings, IsInvoke, StatementTo, IsStatement, control_from, MaybeControl}
-use Rattle.cal_parse.specs.Written.{NameIsWritten, PortIsWritten, InIsWritten, OutIsWritten, StatementIsWritten, StatementsAreWritten, ControlIsWritten}
+use Rattle.cal_ast.specs.Written.{NameIsWritten, PortIsWritten, InIsWritten, OutIsWritten, StatementIsWritten, StatementsAreWritten, ControlIsWritten}
 use Rattle.cal_print.specs.Layout.{joined, line_text, deeper, block_text, port_text, source_text, in_text, out_text, with_text, invoke_text, is_empty_seq, statement_text, statements_text, control_text}
 use Rattle.cal_print.proofs.Marks.{Langs, respelled, closed_mark, closed_semicolon, closed_equals, parenthesized, line_shown, braced, block_shown, listed, deeper_blank}
 use Rattle.cal_print.proofs.GuardsShown.{port_shown, source_shown, by_suc}

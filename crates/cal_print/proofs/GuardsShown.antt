@@ -25,7 +25,7 @@ use Rattle.net_core.specs.declared.net.Cmp.TheVariants.{Eq, Neq, Lt, Gt, Le, Ge}
 use Rattle.net_core.specs.Guard.{Reads, Compares, Negates, AllOf, AnyOf, GuardTrees, NoGuards, MoreGuards, guards_of}
 use Rattle.cal_ast.specs.Tree.{PortName}
 use Rattle.cal_parse.specs.Grammar.{port_from, Source, port_source, literal_from, Guard, all_from, any_from, Compared, IsPort, IsSource, IsOperator, TightTo, GuardTo, UnitOf, ConjunctionOf, IsGuard}
-use Rattle.cal_parse.specs.Written.{IsCalName, NameIsWritten, PortIsWritten, SourceIsWritten, HasTwoGuards, GuardIsWritten, GuardsAreWritten}
+use Rattle.cal_ast.specs.Written.{IsCalName, NameIsWritten, PortIsWritten, SourceIsWritten, HasTwoGuards, GuardIsWritten, GuardsAreWritten}
 use Rattle.cal_print.specs.Layout.{cell_part, port_text, source_text, operator_text, is_list, is_compound, enclosed, guard_text, guards_text, more_text}
 use Rattle.cal_print.proofs.Marks.{Langs, respelled, after_mark, parenthesized}
 

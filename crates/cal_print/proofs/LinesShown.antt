@@ -27,7 +27,7 @@ use Rattle.hw_grammar.proofs.Decimals.{fragment_name, fragment_number}
 use Rattle.hw_prims.specs.Table.{Pin}
 use Rattle.cal_ast.specs.Tree.{PortName, CellDef, Assignment, DoneLine, GroupDef}
 use Rattle.cal_parse.specs.Grammar.{Past, Source, Guard, AreAttributes, MaybeAngle, is_external, meant_from, MeantPin, pin_from, IsPin, is_dropped, inputs_from, AreInputs, outputs_from, AreOutputs, AreParameters, cell_from, IsCell, IsPort, IsSource, IsGuard, IsSetting, IsAssignment, IsDoneMark, IsDoneLine, GroupLine, AssignmentLine, LineOfDone, IsGroupLine, assignments_in, dones_in, lines_from, AreGroupLines, MaybeComb, IsGroup, Wire, GroupWire, AssignmentWire, IsWire, groups_in, sets_in, wires_from, AreCells, AreWires}
-use Rattle.cal_parse.specs.Written.{IsCalName, WhenIsWritten, SourceIsWritten, PinIsWritten, InputIsWritten, CellIsWritten, AssignmentIsWritten, DoneIsWritten, GroupIsWritten}
+use Rattle.cal_ast.specs.Written.{IsCalName, WhenIsWritten, SourceIsWritten, PinIsWritten, InputIsWritten, CellIsWritten, AssignmentIsWritten, DoneIsWritten, GroupIsWritten}
 use Rattle.cal_print.specs.Layout.{joined, line_text, deeper, block_text, port_text, source_text, guard_text, pin_text, cell_text, when_text, assignment_text, done_text, assignments_text, dones_text, group_head, group_text, cells_text, wires_text}
 use Rattle.cal_print.proofs.Marks.{Langs, respelled, closed_mark, closed_semicolon, closed_equals, after_equals, parenthesized, line_shown, braced, block_shown, separated, listed, deeper_blank}
 use Rattle.cal_print.proofs.GuardsShown.{port_shown, source_shown, is_guard_shown}

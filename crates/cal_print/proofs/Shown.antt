@@ -14,7 +14,7 @@ use Rattle.hw_prims.specs.Table.{Pin}
 use Rattle.cal_ast.specs.Tree.{CellDef, GroupDef, Assignment, ControlSection, Component, Design}
 use Rattle.cal_parse.specs.Grammar.{Past, AreInputs, AreOutputs, MaybeOutputs, MaybeAngle, AreCells, AreWires, MaybeControl, IsComponentBody, component_from, IsComponent, IsFile}
 use Rattle.cal_parse.specs.Spelling.{SpellsDesign}
-use Rattle.cal_parse.specs.Written.{PinIsWritten, ComponentIsWritten, DesignIsWritten}
+use Rattle.cal_ast.specs.Written.{PinIsWritten, ComponentIsWritten, DesignIsWritten}
 use Rattle.cal_print.specs.Layout.{joined, pin_text, cells_text, wires_text, control_text, component_head, component_text, design_text}
 use Rattle.cal_print.proofs.Marks.{Langs, respelled, braced, block_shown}
 use Rattle.cal_print.proofs.LinesShown.{without_attributes, without_angle, inputs_shown, outputs_shown, cells_shown, wires_shown}

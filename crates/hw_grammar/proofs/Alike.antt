@@ -7,7 +7,7 @@ use Rattle.std.proofs.lemmas.Bool.{false≢true}
 use Rattle.std.proofs.lemmas.Option.{get_or_from_slice_get}
 use Rattle.hw_names.specs.Name.{Text, text_of}
 use Rattle.hw_lex.specs.declared.token.Dialect.{Dialect}
-use Rattle.hw_lex.specs.declared.token.Dialect.TheVariants.{Fil, Cal}
+use Rattle.hw_lex.specs.declared.token.Dialect.TheVariants.{Fil, Filp, Cal}
 use Rattle.hw_lex.specs.declared.token.Kind.{Kind}
 use Rattle.hw_lex.specs.declared.token.Kind.TheVariants as kinds
 use Rattle.hw_lex.specs.declared.token.Token.{Token}
@@ -47,6 +47,7 @@ row_none (row ∷ table) word h e =
 
 no_keyword : (dialect : Dialect) (word : Text) → unwrap_or (entry_of (keywords dialect) word) sorts.Name ≡ sorts.Name → entry_of (keywords dialect) word ≡ None
 no_keyword Fil word h = row_none (keywords Fil) word refl h
+no_keyword Filp word h = row_none (keywords Filp) word refl h
 no_keyword Cal word h = row_none (keywords Cal) word refl h
 
 name_of : (dialect : Dialect) (kind : Kind) (word : Text) → IsWord dialect kind word → sort_of dialect kind word ≡ sorts.Name → IsNameOf dialect word

@@ -8,7 +8,7 @@ use Rattle.std.proofs.lemmas.List.{length-append}
 use Rattle.std.proofs.lemmas.Fmt.{decimal_by_steps_wide}
 use Rattle.hw_names.specs.Name.{Text}
 use Rattle.hw_lex.specs.declared.token.Dialect.{Dialect}
-use Rattle.hw_lex.specs.declared.token.Dialect.TheVariants.{Fil, Cal}
+use Rattle.hw_lex.specs.declared.token.Dialect.TheVariants.{Fil, Filp, Cal}
 use Rattle.hw_lex.specs.declared.token.Kind.TheVariants as kinds
 use Rattle.hw_lex.specs.declared.number.Base.{Base}
 use Rattle.hw_lex.specs.declared.number.Base.TheVariants.{Decimal}
@@ -79,6 +79,7 @@ or_right false b h = h
 
 digit_in_name : (dialect : Dialect) (byte : ℕ) → is_digit Decimal byte ≡ true → is_name_byte dialect byte ≡ true
 digit_in_name Fil byte h = or_right (is_letter byte) (is_between 48 57 byte) h
+digit_in_name Filp byte h = or_right (is_letter byte) (is_between 48 57 byte) h
 digit_in_name Cal byte h = or_left (is_letter byte || is_between 48 57 byte) (eqb byte 36) (or_right (is_letter byte) (is_between 48 57 byte) h)
 
 digit_loose : (dialect : Dialect) (byte : ℕ) → is_digit Decimal byte ≡ true → is_loose dialect byte ≡ true

@@ -4,6 +4,8 @@ pub mod Whole
 pub mod Loop
 pub mod Upto
 pub mod Limit
+pub mod Parts
+pub mod Steps
 pub mod Show
 pub mod By
 pub mod Examples
@@ -16,6 +18,7 @@ pub mod Carried
 pub mod Closed
 pub mod Passing
 pub mod Alike
+pub mod Carrying
 pub mod Specials
 pub mod Fragments
 pub mod Decimals

@@ -1,11 +1,11 @@
--- Each mark of either language has a sort.
+-- Each mark of each language has a sort.
 use Rattle.std.proofs.Common.{◌≡◌, ℕ, true, ◌&&◌, eqb, List, [], ◌∷◌, refl, sym, subst, is_some}
 use Rattle.std.specs.Prelude.{slice_index}
 use Rattle.std.specs.List.{list_all, list_any}
 use Rattle.std.proofs.lemmas.Bool.{eqb-true}
 use Rattle.hw_names.specs.Name.{Text}
 use Rattle.hw_lex.specs.declared.token.Dialect.{Dialect}
-use Rattle.hw_lex.specs.declared.token.Dialect.TheVariants.{Fil, Cal}
+use Rattle.hw_lex.specs.declared.token.Dialect.TheVariants.{Fil, Filp, Cal}
 use Rattle.hw_lex.specs.Byte.{single_marks, double_marks, is_single_mark}
 use Rattle.hw_lex.specs.Word.{is_mark}
 use Rattle.hw_lex.proofs.Fronts.{and_true, any_of}
@@ -14,6 +14,9 @@ use Rattle.hw_grammar.specs.Terminals.{marks, entry_of}
 single_known : (dialect : Dialect) (byte : ℕ) → is_single_mark dialect byte ≡ true → is_some (entry_of marks (byte ∷ [])) ≡ true
 single_known Fil byte h =
     let m = any_of (λ m. eqb m byte) (λ m. is_some (entry_of marks (m ∷ []))) (single_marks Fil) h refl in
+    subst (λ (x : ℕ). is_some (entry_of marks (x ∷ [])) ≡ true) (eqb-true m.0 byte m.1) m.2
+single_known Filp byte h =
+    let m = any_of (λ m. eqb m byte) (λ m. is_some (entry_of marks (m ∷ []))) (single_marks Filp) h refl in
     subst (λ (x : ℕ). is_some (entry_of marks (x ∷ [])) ≡ true) (eqb-true m.0 byte m.1) m.2
 single_known Cal byte h =
     let m = any_of (λ m. eqb m byte) (λ m. is_some (entry_of marks (m ∷ []))) (single_marks Cal) h refl in
@@ -32,5 +35,6 @@ pub mark_known : (dialect : Dialect) (word : Text) → is_mark dialect word ≡ 
 mark_known dialect [] h = absurd cc
 mark_known dialect (first ∷ []) h = single_known dialect first h
 mark_known Fil (first ∷ second ∷ []) h = pair_known first second (double_marks Fil) h refl
+mark_known Filp (first ∷ second ∷ []) h = pair_known first second (double_marks Filp) h refl
 mark_known Cal (first ∷ second ∷ []) h = pair_known first second (double_marks Cal) h refl
 mark_known dialect (first ∷ second ∷ third ∷ word) h = absurd cc

@@ -5,16 +5,18 @@ use Rattle.std.proofs.lemmas.Bool.{false≢true}
 use Rattle.std.proofs.lemmas.List.Sums.{AllPass-from_list_all}
 use Rattle.hw_names.specs.Name.{Text, dot, IsPlain}
 use Rattle.hw_lex.specs.declared.token.Dialect.{Dialect}
-use Rattle.hw_lex.specs.declared.token.Dialect.TheVariants.{Fil, Cal}
+use Rattle.hw_lex.specs.declared.token.Dialect.TheVariants.{Fil, Filp, Cal}
 use Rattle.hw_lex.specs.Byte.{is_letter, is_name_byte}
 use Rattle.hw_lex.specs.Word.{IsName}
 
 letter_in_name : (dialect : Dialect) (byte : ℕ) → is_letter byte ≡ true → is_name_byte dialect byte ≡ true
 letter_in_name Fil byte h = rw h refl
+letter_in_name Filp byte h = rw h refl
 letter_in_name Cal byte h = rw h refl
 
 dot_not_in_name : (dialect : Dialect) → is_name_byte dialect dot ≡ true → ⊥
 dot_not_in_name Fil h = false≢true h
+dot_not_in_name Filp h = false≢true h
 dot_not_in_name Cal h = false≢true h
 
 pub name_plain : (dialect : Dialect) (word : Text) → IsName dialect word → IsPlain word

@@ -113,3 +113,7 @@ Fails (ends.Refused bad) read = read ≡ Err (bad.now)
 abbrev pub Gives : {X Y : Type 0} → (X → Y) → Result X ReadEnd → Result Y (List Terminal) → Type 0
 Gives view (Ok x) read = read ≡ Ok (view x)
 Gives view (Err e) read = Fails e read
+
+-- what a function returned is what reading gives, with whatever names
+abbrev pub GivesNamed : {X Y : Type 0} → (List Text → X → Y) → Result X ReadEnd → (List Text → Result Y (List Terminal)) → Type 0
+GivesNamed view result read = (names : List Text) → Gives (view names) result (read names)

@@ -1,23 +1,23 @@
 -- Tokens as terminals. The words of the languages are those of Filament (PLDI 2023) and Calyx (ASPLOS 2021) in this
--- project's profile; terminals are this project's own.
+-- project's profile; those of Filament with parameters, and terminals, are this project's own.
 use Rattle.std.specs.Prelude.{◌≡◌, ℕ, ◌++◌, List, [], ◌∷◌, Option, Some, codes, slice_get, unwrap_or, MatchBool}
 use Rattle.std.specs.Map.{lookup}
 use Rattle.std.specs.Str.{bytes_eq}
 use Rattle.hw_names.specs.Name.{Text}
 use Rattle.hw_names.specs.declared.names.NameId.{NameId}
 use Rattle.hw_lex.specs.declared.token.Dialect.{Dialect}
-use Rattle.hw_lex.specs.declared.token.Dialect.TheVariants.{Fil, Cal}
+use Rattle.hw_lex.specs.declared.token.Dialect.TheVariants.{Fil, Filp, Cal}
 use Rattle.hw_lex.specs.declared.token.Kind.{Kind}
 use Rattle.hw_lex.specs.declared.token.Kind.TheVariants as kinds
 use Rattle.hw_lex.specs.declared.token.Token.{Token}
 use Rattle.hw_lex.specs.Number.{number_of, width_of, value_of}
 use Rattle.hw_lex.specs.Cut.{token_text}
 use Rattle.hw_grammar.specs.declared.sort.Sort.{Sort}
-use Rattle.hw_grammar.specs.declared.sort.Sort.TheVariants.{Name, Number, Literal, Comp, New, Interface, Import, Component, Cells, Wires, Control, Group, Comb}
-use Rattle.hw_grammar.specs.declared.sort.Sort.TheVariants.{Seq, Par, If, Else, While, With, Invoke, Static, Ref, Repeat, Primitive, Extern, Metadata, At}
+use Rattle.hw_grammar.specs.declared.sort.Sort.TheVariants.{Name, Number, Literal, Comp, New, Interface, Import, For, In, Lit, If, Else, Component}
+use Rattle.hw_grammar.specs.declared.sort.Sort.TheVariants.{Cells, Wires, Control, Group, Comb, Seq, Par, While, With, Invoke, Static, Ref, Repeat, Primitive, Extern, Metadata, At}
 use Rattle.hw_grammar.specs.declared.sort.Sort.TheVariants.{LeftBracket, RightBracket, LeftParen, RightParen, LeftAngle, RightAngle, LeftBrace, RightBrace}
-use Rattle.hw_grammar.specs.declared.sort.Sort.TheVariants.{Comma, Colon, ColonEquals, Semicolon, Equals, Plus, Dot, Arrow, Question, Not, And, Or}
-use Rattle.hw_grammar.specs.declared.sort.Sort.TheVariants.{EqualsEquals, NotEquals, AtMost, AtLeast}
+use Rattle.hw_grammar.specs.declared.sort.Sort.TheVariants.{Comma, Colon, ColonEquals, Semicolon, Equals, Plus, Minus, Star, Hash, Dot, DotDot, Arrow}
+use Rattle.hw_grammar.specs.declared.sort.Sort.TheVariants.{Question, Not, And, Or, EqualsEquals, NotEquals, AtMost, AtLeast}
 use Rattle.hw_grammar.specs.declared.sort.Sort.TheVariants as sorts
 use Rattle.hw_grammar.specs.declared.terminal.Special.{Special}
 use Rattle.hw_grammar.specs.declared.terminal.Special.TheVariants.{External, Clock, Reset, Done, Plain}
@@ -27,6 +27,9 @@ use Rattle.hw_grammar.specs.Sort.{same_sort}
 -- the words that are no names
 abbrev pub keywords : Dialect → List (Text × Sort)
 keywords Fil = (codes "comp", Comp) ∷ (codes "new", New) ∷ (codes "import", Import) ∷ (codes "interface", Interface) ∷ []
+keywords Filp =
+    (codes "comp", Comp) ∷ (codes "new", New) ∷ (codes "import", Import) ∷ (codes "interface", Interface) ∷ (codes "for", For) ∷ (codes "in", In)
+    ∷ (codes "if", If) ∷ (codes "else", Else) ∷ (codes "lit", Lit) ∷ []
 keywords Cal =
     (codes "component", Component) ∷ (codes "cells", Cells) ∷ (codes "wires", Wires) ∷ (codes "control", Control) ∷ (codes "group", Group)
     ∷ (codes "comb", Comb)
@@ -35,20 +38,21 @@ keywords Cal =
     ∷ (codes "import", Import) ∷ (codes "static", Static) ∷ (codes "ref", Ref) ∷ (codes "repeat", Repeat) ∷ (codes "primitive", Primitive)
     ∷ (codes "extern", Extern) ∷ (codes "metadata", Metadata) ∷ []
 
--- the marks of both languages
+-- the marks of all languages
 abbrev pub marks : List (Text × Sort)
 marks =
     (codes "@", At) ∷ (codes "[", LeftBracket) ∷ (codes "]", RightBracket) ∷ (codes "(", LeftParen) ∷ (codes ")", RightParen)
     ∷ (codes "<", LeftAngle) ∷ (codes ">", RightAngle) ∷ (codes "{", LeftBrace) ∷ (codes "}", RightBrace)
     ∷ (codes ",", Comma) ∷ (codes ":", Colon) ∷ (codes ":=", ColonEquals) ∷ (codes ";", Semicolon) ∷ (codes "=", Equals)
-    ∷ (codes "+", Plus) ∷ (codes ".", Dot) ∷ (codes "->", Arrow) ∷ (codes "?", Question) ∷ (codes "!", Not) ∷ (codes "&", And) ∷ (codes "|", Or)
+    ∷ (codes "+", Plus) ∷ (codes "-", Minus) ∷ (codes "*", Star) ∷ (codes "#", Hash) ∷ (codes ".", Dot) ∷ (codes "..", DotDot) ∷ (codes "->", Arrow)
+    ∷ (codes "?", Question) ∷ (codes "!", Not) ∷ (codes "&", And) ∷ (codes "|", Or)
     ∷ (codes "==", EqualsEquals) ∷ (codes "!=", NotEquals) ∷ (codes "<=", AtMost) ∷ (codes ">=", AtLeast) ∷ []
 
 -- what a table says of a word
 abbrev pub entry_of : {A : Type 0} → List (Text × A) → Text → Option A
 entry_of table word = lookup (λ text. bytes_eq text word) table
 
--- the sort of a token; each mark of either language is in the table
+-- the sort of a token; each mark of each language is in the table
 abbrev pub sort_of : Dialect → Kind → Text → Sort
 sort_of dialect kinds.Name word = unwrap_or (entry_of (keywords dialect) word) Name
 sort_of dialect kinds.Number word = Number

@@ -11,8 +11,15 @@ pub enum Sort {
     Comp,
     New,
     Interface,
-    // a keyword of both
+    // a keyword of all languages
     Import,
+    // keywords of Filament with parameters
+    For,
+    In,
+    Lit,
+    // keywords of Filament with parameters and of Calyx
+    If,
+    Else,
     // keywords of Calyx
     Component,
     Cells,
@@ -22,8 +29,6 @@ pub enum Sort {
     Comb,
     Seq,
     Par,
-    If,
-    Else,
     While,
     With,
     Invoke,
@@ -49,7 +54,11 @@ pub enum Sort {
     Semicolon,
     Equals,
     Plus,
+    Minus,
+    Star,
+    Hash,
     Dot,
+    DotDot,
     Arrow,
     Question,
     Not,

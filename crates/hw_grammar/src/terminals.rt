@@ -1,6 +1,7 @@
 //! From tokens to terminals.
 ghost use Rattle.std.specs.Prelude.{◌≡◌, ◌<◌, length, map, slice_get, unwrap_or, IfOk, Some};
 ghost use Rattle.hw_names.specs.Name.{KeepsTexts, HasPlainNames};
+ghost use Rattle.hw_lex.specs.declared.token.Dialect.TheVariants.{Fil, Filp, Cal};
 ghost use Rattle.hw_lex.specs.declared.token.Kind.TheVariants as Kind;
 ghost use Rattle.hw_lex.specs.declared.token.Token.{Token};
 ghost use Rattle.hw_lex.specs.Word.{IsName};
@@ -29,45 +30,80 @@ fn entry_of<T: Copy>(table: &[(&str, T)], word: &[u8]) -> Option<T>
     None
 }
 
+/// The sort of a keyword of Filament.
+fn filament_keyword(word: &[u8]) -> Option<Sort>
+    ensures { result ≡ entry_of (keywords Fil) word.now }
+{
+    entry_of(
+        &[
+            ("comp", Sort::Comp),
+            ("new", Sort::New),
+            ("import", Sort::Import),
+            ("interface", Sort::Interface),
+        ],
+        word,
+    )
+}
+
+/// The sort of a keyword of Filament with parameters.
+fn parameter_keyword(word: &[u8]) -> Option<Sort>
+    ensures { result ≡ entry_of (keywords Filp) word.now }
+{
+    entry_of(
+        &[
+            ("comp", Sort::Comp),
+            ("new", Sort::New),
+            ("import", Sort::Import),
+            ("interface", Sort::Interface),
+            ("for", Sort::For),
+            ("in", Sort::In),
+            ("if", Sort::If),
+            ("else", Sort::Else),
+            ("lit", Sort::Lit),
+        ],
+        word,
+    )
+}
+
+/// The sort of a keyword of Calyx.
+fn calyx_keyword(word: &[u8]) -> Option<Sort>
+    ensures { result ≡ entry_of (keywords Cal) word.now }
+{
+    entry_of(
+        &[
+            ("component", Sort::Component),
+            ("cells", Sort::Cells),
+            ("wires", Sort::Wires),
+            ("control", Sort::Control),
+            ("group", Sort::Group),
+            ("comb", Sort::Comb),
+            ("seq", Sort::Seq),
+            ("par", Sort::Par),
+            ("if", Sort::If),
+            ("else", Sort::Else),
+            ("while", Sort::While),
+            ("with", Sort::With),
+            ("invoke", Sort::Invoke),
+            ("import", Sort::Import),
+            ("static", Sort::Static),
+            ("ref", Sort::Ref),
+            ("repeat", Sort::Repeat),
+            ("primitive", Sort::Primitive),
+            ("extern", Sort::Extern),
+            ("metadata", Sort::Metadata),
+        ],
+        word,
+    )
+}
+
 /// The sort of a keyword.
 fn keyword(dialect: Dialect, word: &[u8]) -> Option<Sort>
     ensures { result ≡ entry_of (keywords dialect) word.now }
 {
     match dialect {
-        Dialect::Fil => entry_of(
-            &[
-                ("comp", Sort::Comp),
-                ("new", Sort::New),
-                ("import", Sort::Import),
-                ("interface", Sort::Interface),
-            ],
-            word,
-        ),
-        Dialect::Cal => entry_of(
-            &[
-                ("component", Sort::Component),
-                ("cells", Sort::Cells),
-                ("wires", Sort::Wires),
-                ("control", Sort::Control),
-                ("group", Sort::Group),
-                ("comb", Sort::Comb),
-                ("seq", Sort::Seq),
-                ("par", Sort::Par),
-                ("if", Sort::If),
-                ("else", Sort::Else),
-                ("while", Sort::While),
-                ("with", Sort::With),
-                ("invoke", Sort::Invoke),
-                ("import", Sort::Import),
-                ("static", Sort::Static),
-                ("ref", Sort::Ref),
-                ("repeat", Sort::Repeat),
-                ("primitive", Sort::Primitive),
-                ("extern", Sort::Extern),
-                ("metadata", Sort::Metadata),
-            ],
-            word,
-        ),
+        Dialect::Fil => filament_keyword(word),
+        Dialect::Filp => parameter_keyword(word),
+        Dialect::Cal => calyx_keyword(word),
     }
 }
 
@@ -92,7 +128,11 @@ fn mark(word: &[u8]) -> Sort
             (";", Sort::Semicolon),
             ("=", Sort::Equals),
             ("+", Sort::Plus),
+            ("-", Sort::Minus),
+            ("*", Sort::Star),
+            ("#", Sort::Hash),
             (".", Sort::Dot),
+            ("..", Sort::DotDot),
             ("->", Sort::Arrow),
             ("?", Sort::Question),
             ("!", Sort::Not),

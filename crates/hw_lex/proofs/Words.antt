@@ -7,7 +7,7 @@ use Rattle.std.proofs.lemmas.List.{take-append-drop, length-append, length-take}
 use Rattle.std.proofs.lemmas.List.Folds.{length-prefix_len}
 use Rattle.std.proofs.Math.Seq.{drop-append_seam, take-append_seam}
 use Rattle.hw_lex.specs.declared.token.Dialect.{Dialect}
-use Rattle.hw_lex.specs.declared.token.Dialect.TheVariants.{Fil, Cal}
+use Rattle.hw_lex.specs.declared.token.Dialect.TheVariants.{Fil, Filp, Cal}
 use Rattle.hw_lex.specs.declared.token.Kind.{Kind}
 use Rattle.hw_lex.specs.declared.token.Kind.TheVariants.{Name, Number, Literal, Text, Mark}
 use Rattle.hw_lex.specs.declared.number.Base.{Base}
@@ -42,6 +42,9 @@ single_other : (dialect : Dialect) (byte : ℕ) → is_single_mark dialect byte 
 single_other Fil byte h =
     let m = any_of (λ m. eqb m byte) is_other (single_marks Fil) h refl in
     subst (λ (x : ℕ). is_other x ≡ true) (eqb-true m.0 byte m.1) m.2
+single_other Filp byte h =
+    let m = any_of (λ m. eqb m byte) is_other (single_marks Filp) h refl in
+    subst (λ (x : ℕ). is_other x ≡ true) (eqb-true m.0 byte m.1) m.2
 single_other Cal byte h =
     let m = any_of (λ m. eqb m byte) is_other (single_marks Cal) h refl in
     subst (λ (x : ℕ). is_other x ≡ true) (eqb-true m.0 byte m.1) m.2
@@ -52,6 +55,10 @@ is_pair first second mark = eqb first (slice_index mark 0) && eqb second (slice_
 double_other : (dialect : Dialect) (first second : ℕ) → is_double_mark dialect first second ≡ true → is_other first ≡ true
 double_other Fil first second h =
     let m = any_of (is_pair first second) (λ m. is_other (slice_index m 0)) (double_marks Fil) h refl in
+    let t = and_true (eqb first (slice_index m.0 0)) (eqb second (slice_index m.0 1)) m.1 in
+    subst (λ (x : ℕ). is_other x ≡ true) (sym (eqb-true first (slice_index m.0 0) t.0)) m.2
+double_other Filp first second h =
+    let m = any_of (is_pair first second) (λ m. is_other (slice_index m 0)) (double_marks Filp) h refl in
     let t = and_true (eqb first (slice_index m.0 0)) (eqb second (slice_index m.0 1)) m.1 in
     subst (λ (x : ℕ). is_other x ≡ true) (sym (eqb-true first (slice_index m.0 0) t.0)) m.2
 double_other Cal first second h =
@@ -138,6 +145,7 @@ first_of dialect kind byte bytes (c ∷ front) more e w =
 
 digit_in_name : (dialect : Dialect) (byte : ℕ) → is_digit Decimal byte ≡ true → is_name_byte dialect byte ≡ true
 digit_in_name Fil byte h = rw h (elim (is_letter byte) as (λ v. (v || true) ≡ true) [ true ↦ refl | false ↦ refl ])
+digit_in_name Filp byte h = rw h (elim (is_letter byte) as (λ v. (v || true) ≡ true) [ true ↦ refl | false ↦ refl ])
 digit_in_name Cal byte h = rw h (elim (is_letter byte) as (λ v. ((v || true) || eqb byte 36) ≡ true) [ true ↦ refl | false ↦ refl ])
 
 name_longest : (dialect : Dialect) (byte : ℕ) (bytes : List ℕ) → is_letter byte ≡ true → (other : Kind) (front more : List ℕ) → byte ∷ bytes ≡ front ++ more → IsWord dialect other front → BeginsAs other byte → length front ≤ prefix_len (is_name_byte dialect) bytes + 1

@@ -16,7 +16,7 @@ pub fn is_name_byte(dialect: Dialect, byte: u8) -> bool
     ensures { result ≡ is_name_byte dialect byte }
 {
     match dialect {
-        Dialect::Fil => is_letter(byte) || matches!(byte, b'0'..=b'9'),
+        Dialect::Fil | Dialect::Filp => is_letter(byte) || matches!(byte, b'0'..=b'9'),
         Dialect::Cal => is_letter(byte) || matches!(byte, b'0'..=b'9' | b'$'),
     }
 }
@@ -34,6 +34,7 @@ pub fn is_single_mark(dialect: Dialect, byte: u8) -> bool
 {
     match dialect {
         Dialect::Fil => b"@[]()<>{},:;=+.".contains(&byte),
+        Dialect::Filp => b"@[]()<>{},:;=+.#*-".contains(&byte),
         Dialect::Cal => b"@[]()<>{},:;=.?!&|".contains(&byte),
     }
 }
@@ -44,6 +45,10 @@ pub fn is_double_mark(dialect: Dialect, first: u8, second: u8) -> bool
 {
     match dialect {
         Dialect::Fil => matches!((first, second), (b':', b'=') | (b'-', b'>')),
+        Dialect::Filp => matches!(
+            (first, second),
+            (b':' | b'=', b'=') | (b'-', b'>') | (b'.', b'.')
+        ),
         Dialect::Cal => matches!(
             (first, second),
             (b'=' | b'!' | b'<' | b'>', b'=') | (b'-', b'>')

@@ -1,4 +1,4 @@
-//! Tokens of Filament and Calyx texts.
+//! Tokens of Filament and Calyx texts, and of Filament with parameters.
 //!
 //! In: the bytes of a text, and its language (`Dialect`). Out: its tokens in their order, each with its kind and the bytes where
 //! it stands (`Tokens`), or the first byte at which no token, blank or comment starts.
@@ -7,7 +7,7 @@
 //!
 //! A token is the longest that stands at its place; blanks and comments only part tokens. The languages differ in their marks,
 //! and in that a name of Calyx may have `$` after its first byte. `a ! b` is refused in Filament, at byte 2, and has three tokens
-//! in Calyx. A number or literal of `2^128` or more is refused, since it is no token.
+//! in Calyx; `1..n` has three tokens with parameters, and four without. A number or literal of `2^128` or more is refused, since it is no token.
 //!
 //! `Tokens` also gives the value of a number, the width and the value of a literal, and how deep brackets and `!` nest
 //! (`nesting`); `nesting_of_bytes` gives that depth of a netlist's text, in which each byte counts as a token.

@@ -5,6 +5,8 @@
 pub enum Dialect {
     /// Filament.
     Fil,
+    /// Filament with parameters.
+    Filp,
     /// Calyx.
     Cal,
 }

@@ -2,7 +2,7 @@
 use hw_lex::{Dialect, Kind, LexEnd, Literal, Span, Token, lex};
 use std::test::Fail;
 
-const CUT: [(Dialect, &str, &[&str]); 5] = [
+const CUT: [(Dialect, &str, &[&str]); 7] = [
     (
         Dialect::Fil,
         " p := M<G+1>(a, 8'd1); // one\r\n",
@@ -14,6 +14,15 @@ const CUT: [(Dialect, &str, &[&str]); 5] = [
         Dialect::Fil,
         "a==12abc/*x**/->\"/*\"",
         &["a", "=", "=", "12", "abc", "->", "\"/*\""],
+    ),
+    (Dialect::Fil, "1..n", &["1", ".", ".", "n"]),
+    (
+        Dialect::Filp,
+        "v#(i-1).o 1..n==2*k:==->-",
+        &[
+            "v", "#", "(", "i", "-", "1", ")", ".", "o", "1", "..", "n", "==", "2", "*", "k", ":=",
+            "=", "->", "-",
+        ],
     ),
     (
         Dialect::Cal,
@@ -37,10 +46,11 @@ fn cuts_texts_into_tokens(rt: HostRuntime) -> Result<(), Fail> {
     Ok(())
 }
 
-const FAULTS: [(Dialect, &str, usize); 10] = [
+const FAULTS: [(Dialect, &str, usize); 11] = [
     (Dialect::Fil, "a ! b", 2),
     (Dialect::Fil, "a - b", 2),
     (Dialect::Fil, "x$", 1),
+    (Dialect::Filp, "a/b$", 1),
     (Dialect::Cal, "a + b", 2),
     (Dialect::Fil, "8'd", 1),
     (Dialect::Cal, " 8'q1", 2),

@@ -1,5 +1,5 @@
 -- Reading Calyx on lists: what the functions of the reader give. That each is exact for its rule of Grammar is proved in proofs/.
-use Rattle.std.specs.Prelude.{ℕ, zero, suc, Bool, true, false, cond, List, [], ◌∷◌, length, Option, Some, None, Result, Err}
+use Rattle.std.specs.Prelude.{ℕ, zero, suc, Bool, true, false, cond, List, [], ◌∷◌, length, Option, Some, None, Err}
 use Rattle.hw_names.specs.Name.{Text}
 use Rattle.hw_grammar.specs.declared.sort.Sort.{Sort}
 use Rattle.hw_grammar.specs.declared.sort.Sort.TheVariants.{Name, Number, Literal, Import, Component, Cells, Wires, Control, Group, Comb, Seq, Par, If}
@@ -9,9 +9,8 @@ use Rattle.hw_grammar.specs.declared.sort.Sort.TheVariants.{And, Or, EqualsEqual
 use Rattle.hw_grammar.specs.declared.sort.Sort.TheVariants as sorts
 use Rattle.hw_grammar.specs.declared.terminal.Special.TheVariants.{Done}
 use Rattle.hw_grammar.specs.declared.terminal.Terminal.{Terminal}
-use Rattle.hw_grammar.specs.declared.end.ReadEnd.{ReadEnd}
 use Rattle.hw_grammar.specs.Sort.{same_sort, has}
-use Rattle.hw_grammar.specs.Reading.{Gives, Reader, one, one_special, empty, mapped, any_word, any_number, any_literal, then, then_by, either, optional}
+use Rattle.hw_grammar.specs.Reading.{Reader, one, one_special, empty, mapped, any_word, any_number, any_literal, then, then_by, either, optional}
 use Rattle.hw_grammar.specs.Reading.{after, closed, between, many, separated, listed}
 use Rattle.hw_prims.specs.Table.{Pin}
 use Rattle.net_core.specs.declared.net.Cmp.{Cmp}
@@ -24,10 +23,6 @@ use Rattle.cal_parse.specs.Grammar.{is_external, is_some_true, either_from, mean
 use Rattle.cal_parse.specs.Grammar.{assignment_from, done_from, GroupLine, AssignmentLine, LineOfDone, lines_from, group_from, Wire, GroupWire}
 use Rattle.cal_parse.specs.Grammar.{AssignmentWire, wires_from, in_from, out_from, seq_from, par_from, branch_from, if_from, while_from, invoke_from}
 use Rattle.cal_parse.specs.Grammar.{control_from, component_from, design_from}
-
--- what a function returned is what reading gives, with whatever names
-abbrev pub GivesNamed : {X Y : Type 0} → (List Text → X → Y) → Result X ReadEnd → (List Text → Result Y (List Terminal)) → Type 0
-GivesNamed view result read = (names : List Text) → Gives (view names) result (read names)
 
 -- p, whose value is dropped, then q
 abbrev pub past : {A B : Type 0} → Reader A → Reader B → Reader B

@@ -4,7 +4,7 @@ use Rattle.hw_grammar.specs.declared.sort.Sort.TheVariants.{Comma}
 use Rattle.hw_grammar.specs.Reading.{after}
 use Rattle.hw_grammar.proofs.Loop.{goes_on, stops, fails, ends, runs_out}
 use Rattle.cal_parse.specs.inside.Reading.{angle_entry_at}
-use Rattle.cal_parse.proofs.Steps.{after_ok, after_fails, unchanged}
+use Rattle.hw_grammar.proofs.Steps.{after_ok, after_fails, unchanged}
 use Rattle.cal_parse.proofs.Attributes.{push_true, more_entries_ok, more_entries_fails, more_entries_refused}
 use Rattle.cal_parse.proofs.attribute.more_entries.Goals as goal
 

@@ -9,7 +9,7 @@ use Rattle.hw_grammar.proofs.Loop.{goes_on, stops, fails, ends, runs_out}
 use Rattle.cal_ast.specs.Tree.{Statement, statement_tree}
 use Rattle.cal_parse.specs.Grammar.{seq_from, par_from, branch_from, if_from, while_from}
 use Rattle.cal_parse.specs.inside.Reading.{statement_set, attributes_at, block_by, branch_by, maybe_else_by, condition_at, branches_by, if_by, while_by, plain_statement_by, statement_by, statement_to}
-use Rattle.cal_parse.proofs.Steps.{then_ok, then_fails, then_missing, mapped_ok, mapped_fails, either_first, either_second, after_ok, after_fails, after_missing, between_ok, between_fails, between_open}
+use Rattle.hw_grammar.proofs.Steps.{then_ok, then_fails, then_missing, mapped_ok, mapped_fails, either_first, either_second, after_ok, after_fails, after_missing, between_ok, between_fails, between_open}
 use Rattle.cal_parse.proofs.ControlLaws.{seq_tree, par_tree, plain_enable, plain_seq, plain_par, plain_if, plain_while, plain_invoke, else_none, statement_ok, statement_missing, statement_fails}
 use Rattle.cal_parse.proofs.control.+statements.Goals as goal
 

@@ -4,7 +4,7 @@ use Rattle.hw_grammar.proofs.Loop.{goes_on, stops, fails, ends, runs_out}
 use Rattle.cal_ast.specs.Tree.{assignment_tree, done_tree}
 use Rattle.cal_parse.specs.inside.Lines.{line_tree}
 use Rattle.cal_parse.specs.inside.Reading.{pin_set, line_at}
-use Rattle.cal_parse.proofs.Steps.{unchanged}
+use Rattle.hw_grammar.proofs.Steps.{unchanged}
 use Rattle.cal_parse.proofs.LineLists.{assignments_in-push, dones_in-push, lines_ok, lines_refused, lines_fails}
 use Rattle.cal_parse.proofs.group.read_lines.Goals as goal
 

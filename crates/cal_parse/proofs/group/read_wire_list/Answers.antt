@@ -4,7 +4,7 @@ use Rattle.hw_grammar.proofs.Loop.{goes_on, stops, fails, ends, runs_out}
 use Rattle.cal_ast.specs.Tree.{group_tree, assignment_tree}
 use Rattle.cal_parse.specs.inside.Lines.{wire_tree}
 use Rattle.cal_parse.specs.inside.Reading.{wire_set, wire_at}
-use Rattle.cal_parse.proofs.Steps.{unchanged}
+use Rattle.hw_grammar.proofs.Steps.{unchanged}
 use Rattle.cal_parse.proofs.LineLists.{groups_in-push, sets_in-push, wire_list_ok, wire_list_refused, wire_list_fails}
 use Rattle.cal_parse.proofs.group.read_wire_list.Goals as goal
 

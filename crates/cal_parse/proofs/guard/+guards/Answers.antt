@@ -8,7 +8,7 @@ use Rattle.hw_grammar.proofs.Loop.{goes_on, stops, fails, ends, runs_out}
 use Rattle.net_core.specs.Guard.{guard_tree}
 use Rattle.cal_ast.specs.Tree.{port_tree}
 use Rattle.cal_parse.specs.inside.Reading.{unit_by, conjunction_by, guard_to}
-use Rattle.cal_parse.proofs.Steps.{after_ok, after_fails, between_fails, between_open, alone}
+use Rattle.hw_grammar.proofs.Steps.{after_ok, after_fails, between_fails, between_open, alone}
 use Rattle.cal_parse.proofs.GuardLaws.{operand_parentheses, operand_source, operand_fails, unit_negated, unit_parentheses, unit_test, negated_ok, negated_missing, negated_fails, conjunction_ok, conjunction_missing, conjunction_fails, guard_ok, guard_missing, guard_fails}
 use Rattle.cal_parse.proofs.guard.+guards.Goals as goal
 

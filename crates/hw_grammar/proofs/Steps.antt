@@ -65,14 +65,22 @@ list_step : {A : Type 0} (x : A) (r : Result (List A × List Terminal) (List Ter
 list_step x (Ok y) = refl
 list_step x (Err bad) = refl
 
+-- p, then q any number of times
+module _ {A : Type 0} (set : List Sort) (p q : Reader A) (ts : List Terminal) where
+  pub first_missing : (e : ReadEnd) → Fails e (p ts) → Fails e (mapped (λ (x : A × List A). x.0 ∷ x.1) (then p (many set q)) ts)
+  first_missing e h =
+      mapped_fails (λ (x : A × List A). x.0 ∷ x.1) (then p (many set q)) ts e
+      (bind_fails (λ (x : A × List Terminal). (many set q x.1 >>= λ (y : List A × List Terminal). Ok ((x.0, y.0), y.1))) (p ts) e h)
+
+  pub first_is : (x : A) (mid : List Terminal) → p ts ≡ Ok (x, mid) → mapped (λ (x : A × List A). x.0 ∷ x.1) (then p (many set q)) ts ≡ with_front (x ∷ []) (many set q mid)
+  first_is x mid h = rw h (list_step x (many set q mid))
+
 module _ {A : Type 0} (s : Sort) (p : Reader A) (ts : List Terminal) where
   pub separated_missing : (e : ReadEnd) → Fails e (p ts) → Fails e (separated s p ts)
-  separated_missing e h =
-      mapped_fails (λ (x : A × List A). x.0 ∷ x.1) (then p (many (s ∷ []) (after s p))) ts e
-      (bind_fails (λ (x : A × List Terminal). (many (s ∷ []) (after s p) x.1 >>= λ (y : List A × List Terminal). Ok ((x.0, y.0), y.1))) (p ts) e h)
+  separated_missing e h = first_missing (s ∷ []) p (after s p) ts e h
 
   pub separated_is : (x : A) (mid : List Terminal) → p ts ≡ Ok (x, mid) → separated s p ts ≡ with_front (x ∷ []) (many (s ∷ []) (after s p) mid)
-  separated_is x mid h = rw h (list_step x (many (s ∷ []) (after s p) mid))
+  separated_is x mid h = first_is (s ∷ []) p (after s p) ts x mid h
 
 -- ---- vectors
 
