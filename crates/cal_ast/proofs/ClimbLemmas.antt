@@ -7,7 +7,7 @@ use Rattle.cal_ast.proofs.InstanceLemmas.{component_at-below}
 use Rattle.cal_ast.specs.Instances.{component_at}
 use Rattle.cal_ast.specs.Ports.{inputs_in, outputs_in, part_in}
 use Rattle.cal_ast.specs.Tree.{PortName, own, port_of, Component, Design}
-use Rattle.cal_ast.specs.Wires.{ReadsPort, ByComponent, Reaches, AtOnce, Over}
+use Rattle.cal_ast.specs.Wires.{ReadsPort, ByComponent, Reaches, Straight, Over}
 
 -- the path of the component whose own port this is, and the port's name there: a port of a cell is the own port of what the cell is made of
 abbrev pub Place : Type 0
@@ -56,7 +56,7 @@ last_same (s ∷ p) (r ∷ q) x y e =
 module _ (design : Design) where
   -- one read more
   pub reach_more : (c : Component) (port between other : PortName) → ReadsPort design c port between → Onward design c between other → Reaches design c port other
-  reach_more c port between other reads (inl same) = AtOnce c port other (subst (ReadsPort design c port) same reads)
+  reach_more c port between other reads (inl same) = Straight c port other (subst (ReadsPort design c port) same reads)
   reach_more c port between other reads (inr rest) = Over c port between other reads rest
 
   -- one read more, within the instance

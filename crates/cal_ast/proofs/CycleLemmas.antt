@@ -5,7 +5,7 @@ use Rattle.std.proofs.lemmas.List.Kept.{AllPairs-cons}
 use Rattle.std.proofs.lemmas.Slice.Eq.{bytes_eq-Decides}
 use Rattle.hw_names.specs.Name.{Text}
 use Rattle.cal_ast.specs.Tree.{PortName, Component, Design}
-use Rattle.cal_ast.specs.Wires.{ReadsPort, Reaches, AtOnce, Over, ReadsAlong, HasNoLoop}
+use Rattle.cal_ast.specs.Wires.{ReadsPort, Reaches, Straight, Over, ReadsAlong, HasNoLoop}
 
 -- whether two names are one
 abbrev Same : {X : Type 0} → X → X → Type 0
@@ -100,7 +100,7 @@ module _ (design : Design) (c : Component) where
       ]
 
 trail : (design : Design) (c : Component) (first back : PortName) → HasNoLoop design c → Reaches design c first back → Trail design c first back
-trail design c first back clear (AtOnce d port other reads) = record { others = []; along = reads; differ = (All-nil (IsOther port), tt) }
+trail design c first back clear (Straight d port other reads) = record { others = []; along = reads; differ = (All-nil (IsOther port), tt) }
 trail design c first back clear (Over d port next other reads rest) = step_before design d port next other clear reads (trail design d next other clear rest)
 
 pub reaches_no_itself : (design : Design) (c : Component) (port : PortName) → HasNoLoop design c → Reaches design c port port → ⊥

@@ -12,3 +12,4 @@ pub mod PathLoopLemmas
 pub mod PlainLemmas
 pub mod SideLemmas
 pub mod WalkLemmas
+pub mod WrittenLists

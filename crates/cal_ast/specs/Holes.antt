@@ -23,6 +23,9 @@ pub record ActivityRule : Type 0 where
 abbrev pub rule_tree : List Text → ActRule → ActivityRule
 rule_tree names r = record { comp = r.comp; group = text_of names r.group; when = guard_tree (port_tree names) r.when }
 
+abbrev pub rule_trees : List Text → List ActRule → List ActivityRule
+rule_trees names rules = map (rule_tree names) rules
+
 -- the rule is of this group of the component
 abbrev pub is_rule_of : Option Component → Component → Text → ActivityRule → Bool
 is_rule_of None c group rule = false

@@ -40,6 +40,13 @@ pub record KeepsComponentShape (source answer : Component) : Type 0 where
 abbrev pub KeepsShape : Design → Design → Type 0
 KeepsShape source answer = AllZip KeepsComponentShape source answer
 
+-- the answer has the name, the ports and the cells of the source, and no others
+pub record KeepsCells (source answer : Component) : Type 0 where
+  pub name : answer.name ≡ source.name
+  pub ins : answer.ins ≡ source.ins
+  pub outs : answer.outs ≡ source.outs
+  pub cells : answer.cells ≡ source.cells
+
 -- a cell of a primitive without a state
 abbrev pub IsStatelessCell : CellDef → Type 0
 IsStatelessCell cell = (prim : Primitive) × (primitive_of cell ≡ Some prim) × (is_stateless prim ≡ true)

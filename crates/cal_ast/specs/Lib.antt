@@ -25,5 +25,7 @@ pub mod NoInvoke
 pub mod Holes
 pub mod Wired
 pub mod Plain
+pub mod Written
 pub mod Keeping
+pub mod Registers
 pub mod Laws

@@ -48,15 +48,15 @@ IsNewCell c before cell = (¬ Contains (cell_names before) cell.name) × IsUnres
 abbrev pub IsNewGroup : GroupNaming → Component → List GroupDef → GroupDef → Type 0
 IsNewGroup naming c before g = (¬ Contains (group_names before) g.name) × MayName naming c g.name
 
--- the component has the name, or a cell of one that reaches it
-pub data Reaches (design : Design) (name : Text) : Component → Type 0 where
-  Itself : (c : Component) → c.name ≡ name → Reaches design name c
-  Over : (c part : Component) (cell : CellDef) → Contains c.cells cell → part_of design cell ≡ Some part → Reaches design name part →
-      Reaches design name c
+-- the component has the name, or a cell of one that involves it
+pub data Involves (design : Design) (name : Text) : Component → Type 0 where
+  Itself : (c : Component) → c.name ≡ name → Involves design name c
+  Over : (c part : Component) (cell : CellDef) → Contains c.cells cell → part_of design cell ≡ Some part → Involves design name part →
+      Involves design name c
 
--- C2 at a cell: it is a primitive's, or a component's from which its own component can't be reached
+-- C2 at a cell: it is a primitive's, or a component's that does not involve its own component
 abbrev pub IsKnownCell : Design → Component → CellDef → Type 0
-IsKnownCell design c cell = (is_primitive cell.made ≡ true) ⊎ ((part : Component) × (part_of design cell ≡ Some part) × ¬ Reaches design c.name part)
+IsKnownCell design c cell = (is_primitive cell.made ≡ true) ⊎ ((part : Component) × (part_of design cell ≡ Some part) × ¬ Involves design c.name part)
 
 abbrev pub IsKnownPort : Design → Component → PortName → Type 0
 IsKnownPort design c p = IsSome (port_in design c p)

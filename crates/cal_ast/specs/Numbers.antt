@@ -6,6 +6,7 @@ use Rattle.net_core.specs.declared.net.Guard.{Row_of-Guard, end_of-Guard, more_o
 use Rattle.net_core.specs.declared.net.Guard as code
 use Rattle.net_core.specs.declared.net.Src.{Src}
 use Rattle.net_core.specs.declared.net.Src.TheVariants.{Port, Lit}
+use Rattle.cal_ast.specs.declared.lowered.ActRule.{ActRule}
 use Rattle.cal_ast.specs.declared.tree.CalPort.{CalPort}
 use Rattle.cal_ast.specs.declared.tree.CalPin.{CalPin}
 use Rattle.cal_ast.specs.declared.tree.CalCell.{CalCell}
@@ -97,3 +98,7 @@ pub record ComponentHasNumbers (names : List Text) (c : CalComp) : Type 0 where
 
 abbrev pub HasNumbers : CalDesign → Type 0
 HasNumbers d = All (ComponentHasNumbers d.names) d.comps.items
+
+-- each name of a rule by which a group acts
+abbrev pub RuleHasNumbers : List Text → ActRule → Type 0
+RuleHasNumbers names r = IsNumberOf names r.group × GuardHasNumbers names r.when

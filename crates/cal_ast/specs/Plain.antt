@@ -2,7 +2,7 @@
 use Rattle.std.specs.Prelude.{All, IfSome}
 use Rattle.hw_names.specs.Name.{IsPlain}
 use Rattle.hw_prims.specs.Table.{Pin}
-use Rattle.cal_ast.specs.Tree.{PortName, CellDef, Component, Design}
+use Rattle.cal_ast.specs.Tree.{PortName, CellDef, GroupDef, Component, Design}
 
 abbrev pub IsPlainPort : PortName → Type 0
 IsPlainPort p = IfSome p.cell IsPlain × IsPlain p.pin
@@ -21,3 +21,14 @@ pub record IsPlainComponent (c : Component) : Type 0 where
 
 abbrev pub HasPlainTree : Design → Type 0
 HasPlainTree design = All IsPlainComponent design
+
+-- ---- groups, whose names become parts of names that lowering makes
+
+abbrev pub IsPlainGroup : GroupDef → Type 0
+IsPlainGroup g = IsPlain g.name
+
+abbrev pub AreGroupsPlain : Component → Type 0
+AreGroupsPlain c = All IsPlainGroup c.groups
+
+abbrev pub HasPlainGroups : Design → Type 0
+HasPlainGroups design = All AreGroupsPlain design

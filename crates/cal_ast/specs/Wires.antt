@@ -97,9 +97,9 @@ mutual
     ByComponent : (c part : Component) (port other : PortName) (output input : Text) → CrossesCell design c part port other output input →
         Reaches design part (own output) (own input) → ReadsPort design c port other
 
-  -- the port reads the other, at once or over ports between
+  -- the port reads the other, straight or over ports between
   pub data Reaches (design : Design) : Component → PortName → PortName → Type 0 where
-    AtOnce : (c : Component) (port other : PortName) → ReadsPort design c port other → Reaches design c port other
+    Straight : (c : Component) (port other : PortName) → ReadsPort design c port other → Reaches design c port other
     Over : (c : Component) (port between other : PortName) → ReadsPort design c port between → Reaches design c between other →
         Reaches design c port other
 

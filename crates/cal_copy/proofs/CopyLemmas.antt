@@ -23,7 +23,7 @@ use Rattle.cal_ast.specs.declared.tree.CalCell.{CalCell}
 use Rattle.cal_ast.specs.declared.tree.CalPort.{CalPort}
 use Rattle.cal_ast.specs.declared.tree.DoneSet.{DoneSet}
 use Rattle.cal_ast.specs.declared.tree.Group.{Group}
-use Rattle.cal_copy.specs.Copies.{IsCopy, IsGuardCopy, IsWhenCopy, IsSetCopy, IsDoneCopy, IsGroupCopy, IsCellCopy, port_guard}
+use Rattle.cal_copy.specs.inside.Copies.{IsCopy, IsGuardCopy, IsWhenCopy, IsSetCopy, IsDoneCopy, IsGroupCopy, IsCellCopy, port_guard}
 use Rattle.cal_copy.specs.inside.Negations.{negations}
 
 -- ---- parts of lists, and names

@@ -1,2 +1,3 @@
--- What only the functions inside the crate are specified by.
+-- What only the functions and the proofs of this crate and of those that lower designs speak of.
 pub mod Negations
+pub mod Copies

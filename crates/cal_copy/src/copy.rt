@@ -3,7 +3,7 @@ ghost use Rattle.std.specs.Prelude.{◌≡◌, List, IfOk};
 ghost use Rattle.std.specs.List.{AllZip};
 ghost use Rattle.hw_names.specs.Name.{Text};
 ghost use Rattle.cal_ast.specs.Numbers.{GuardHasNumbers};
-ghost use Rattle.cal_copy.specs.Copies.{IsCellCopy, IsDoneCopy, IsGroupCopy, IsGuardCopy, IsSetCopy, IsWhenCopy, port_guard};
+ghost use Rattle.cal_copy.specs.inside.Copies.{IsCellCopy, IsDoneCopy, IsGroupCopy, IsGuardCopy, IsSetCopy, IsWhenCopy, port_guard};
 ghost use Rattle.cal_copy.specs.inside.Negations.{negations};
 
 use cal_ast::{Assign, CalCell, CalPort, DoneSet, Group};

@@ -1,11 +1,11 @@
 -- What acts in a row, told by how far control has come before it and by the row itself; and that what is driven then follows from what is read.
-use Rattle.std.proofs.Common.{◌≡◌, inl, inr, ℕ, ◌==◌, List, [], ◌∷◌, Bool, true, false, Option, Some, None, refl, sym, ap, ap₂, ◌∙◌}
+use Rattle.std.proofs.Common.{◌≡◌, inl, inr, ℕ, ◌==◌, Bool, true, false, Option, Some, None, refl, sym, ap, ap₂, ◌∙◌}
 use Rattle.std.specs.Prelude.{Contains, codes, if◌then◌else◌}
 use Rattle.hw_names.specs.Name.{Text, Path, full_name}
 use Rattle.hw_prims.specs.Row.{Row}
 use Rattle.net_core.specs.Circuit.{Circuit, Drive}
 use Rattle.cal_ast.specs.Actors.{Actor, group_of}
-use Rattle.cal_ast.specs.CalRun.{Activity, IsAssigned, IsControlled, cal_circuit}
+use Rattle.cal_ast.specs.CalRun.{Activity, cal_circuit}
 use Rattle.cal_ast.specs.FlatWires.{FlatReads}
 use Rattle.cal_ast.specs.Instances.{component_at}
 use Rattle.cal_ast.specs.Plan.{plan_of}

@@ -1,6 +1,6 @@
 -- A design has a run: its rows one after another, with its control walked forward beside them.
-use Rattle.std.proofs.Common.{◌≡◌, ◌⊎◌, inl, inr, ℕ, zero, suc, ◌≤◌, ◌<◌, ◌==◌, List, [], ◌∷◌, length, Bool, true, false, Option, Some, None, refl, sym, ap, ap₂, ◌∙◌, subst}
-use Rattle.std.specs.Prelude.{Contains, codes, if◌then◌else◌, ◌↔◌}
+use Rattle.std.proofs.Common.{◌≡◌, ◌⊎◌, inl, inr, ℕ, zero, suc, ◌≤◌, ◌==◌, List, [], ◌∷◌, length, Bool, true, false, Option, Some, None, refl, sym, ap, ◌∙◌, subst}
+use Rattle.std.specs.Prelude.{Contains, codes, if◌then◌else◌}
 use Rattle.hw_names.specs.Name.{Text, Path, dotted, full_name}
 use Rattle.hw_prims.specs.Meaning.{next_state, opening_state}
 use Rattle.hw_prims.specs.Row.{Row, Trace, values_at}
@@ -9,14 +9,14 @@ use Rattle.hw_prims.specs.Table.{inputs_of, pin_names}
 use Rattle.hw_prims.specs.declared.prim.Primitive.{Primitive}
 use Rattle.net_core.specs.Circuit.{Circuit, Drive, settled, IsRow, IsComputed, HasConflict, IsReported, states_before}
 use Rattle.cal_ast.specs.Actors.{Actor, group_of}
-use Rattle.cal_ast.specs.CalRun.{Activity, look, values_for, cal_circuit}
-use Rattle.cal_ast.specs.Instances.{component_at, IsPrimitiveCell}
+use Rattle.cal_ast.specs.CalRun.{look, values_for, cal_circuit}
+use Rattle.cal_ast.specs.Instances.{component_at}
 use Rattle.cal_ast.specs.Keeping.{EndsAs, Outcome}
 use Rattle.cal_ast.specs.Plain.{HasPlainTree}
 use Rattle.cal_ast.specs.Plan.{plan_of}
 use Rattle.cal_ast.specs.Ports.{is_bare}
 use Rattle.cal_ast.specs.Rules.{CalRules}
-use Rattle.cal_ast.specs.Schedule.{FollowsControl, IsIdle, Follows, Run, view_at, go_at, is_group_done, scheduled}
+use Rattle.cal_ast.specs.Schedule.{FollowsControl, IsIdle, Run, view_at, go_at, is_group_done, scheduled}
 use Rattle.cal_ast.specs.Tree.{Component, Design}
 use Rattle.cal_walk.proofs.StageLemmas.{walking_is_the_schedule}
 use Rattle.cal_walk.specs.Left.{Sight}

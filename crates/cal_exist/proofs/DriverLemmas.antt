@@ -1,11 +1,9 @@
 -- What drives each port of a design: one thing alone, told by its full name.
 use Rattle.std.proofs.Common.{◌≡◌, ◌⊎◌, inl, inr, ℕ, List, [], ◌∷◌, ◌++◌, Bool, true, false, not, ◌&&◌, Option, Some, None, refl, sym, ap, ap₂, ◌∙◌, subst}
 use Rattle.std.specs.Prelude.{Contains, bytes_eq, codes, is_some, slice_get, if◌then◌else◌}
-use Rattle.std.proofs.lemmas.List.Elements.{All-contains}
 use Rattle.std.proofs.lemmas.Option.{same_Some, slice_get-get_or, slice_get_within, get_or_from_slice_get}
 use Rattle.hw_names.proofs.NameLemmas.{full_name-append, plain_append, same_number}
-use Rattle.hw_names.specs.Name.{Text, Path, dotted, full_name, port_at, IsPlain, IsPlainPath}
-use Rattle.hw_prims.specs.Row.{Row}
+use Rattle.hw_names.specs.Name.{Text, Path, dotted, full_name, port_at}
 use Rattle.hw_prims.specs.Table.{Pin, pin_names, outputs_of}
 use Rattle.hw_prims.specs.declared.prim.Primitive.{Primitive}
 use Rattle.net_core.specs.Circuit.{Drive}
@@ -13,7 +11,7 @@ use Rattle.cal_ast.proofs.InstanceLemmas.{component_at-below}
 use Rattle.cal_ast.proofs.LookupLemmas.{cell_inputs-part, primitive_or_part}
 use Rattle.cal_ast.proofs.PlainLemmas.{known_ports_are_plain}
 use Rattle.cal_ast.proofs.SideLemmas.{destination_pin, input_first, some_found}
-use Rattle.cal_ast.specs.CalRun.{values_for, IsAssigned, IsControlled}
+use Rattle.cal_ast.specs.CalRun.{values_for}
 use Rattle.cal_ast.specs.Instances.{component_at, IsPrimitiveCell}
 use Rattle.cal_ast.specs.Naming.{Unreserved, IsKnownPort}
 use Rattle.cal_ast.specs.Plain.{IsPlainPort, HasPlainTree}
@@ -28,7 +26,7 @@ use Rattle.cal_runs.proofs.RoleLemmas as told
 use Rattle.net_runs.proofs.OrderlyLemmas.{Role, Given, Driven, Computed, Alike}
 use Rattle.cal_exist.proofs.ActivityLemmas.{activity, circuit, done_in}
 use Rattle.cal_exist.proofs.PartLemmas.{Parts, End, parts, end_of, end_of-append}
-use Rattle.cal_exist.proofs.PortLemmas.{done_output, outputs_apart, output_side, here, plain_here, done_side, input_not_done, parts_name, port_or_not}
+use Rattle.cal_exist.proofs.PortLemmas.{outputs_apart, output_side, here, plain_here, done_side, input_not_done, parts_name, port_or_not}
 
 -- the inputs of the top, the assignments of an instance, its control, or a primitive's cell and its output
 data Driver : Type 0 where

@@ -1,5 +1,5 @@
 -- A design, with what control lets act in a row, is an orderly circuit.
-use Rattle.std.proofs.Common.{◌≡◌, inl, inr, ℕ, List, Bool, true, Some, refl, ap, ◌∙◌, subst}
+use Rattle.std.proofs.Common.{◌≡◌, List, true, refl, ap, subst}
 use Rattle.std.specs.Prelude.{Contains}
 use Rattle.hw_graph.proofs.MemberLemmas.{In, in_of}
 use Rattle.hw_names.specs.Name.{Text, Path, dotted}
@@ -7,7 +7,7 @@ use Rattle.hw_prims.specs.Meaning.{is_through}
 use Rattle.hw_prims.specs.Table.{inputs_of, outputs_of, pin_names}
 use Rattle.hw_prims.specs.declared.prim.Primitive.{Primitive}
 use Rattle.cal_ast.proofs.PathLoopLemmas.{no_loop_over_paths}
-use Rattle.cal_ast.specs.FlatWires.{FlatReads, FlatReaches, FlatAtOnce, FlatOver}
+use Rattle.cal_ast.specs.FlatWires.{FlatReaches, FlatAtOnce, FlatOver}
 use Rattle.cal_ast.specs.Instances.{IsPrimitiveCell}
 use Rattle.cal_ast.specs.Naming.{Unreserved}
 use Rattle.cal_ast.specs.Plain.{HasPlainTree}

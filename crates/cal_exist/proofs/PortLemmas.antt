@@ -1,12 +1,12 @@
 -- Which names are ports of a design, and that outputs and inputs are apart.
-use Rattle.std.proofs.Common.{◌≡◌, ◌≢◌, ◌⊎◌, inl, inr, ℕ, zero, suc, List, [], ◌∷◌, ◌++◌, Bool, true, false, not, ◌&&◌, ◌||◌, Option, Some, None, refl, sym, ap, ap₂, ◌∙◌, subst, arith}
+use Rattle.std.proofs.Common.{◌≡◌, ◌≢◌, ◌⊎◌, inl, inr, suc, List, [], ◌∷◌, ◌++◌, Bool, true, false, not, ◌&&◌, ◌||◌, Option, Some, None, refl, sym, ap, ◌∙◌, subst, arith}
 use Rattle.std.specs.Prelude.{Contains, bytes_eq, codes, is_some, if◌then◌else◌}
 use Rattle.std.proofs.lemmas.List.{map-append}
-use Rattle.std.proofs.lemmas.List.Elements.{All-contains, Contains-append_right}
+use Rattle.std.proofs.lemmas.List.Elements.{Contains-append_right}
 use Rattle.std.proofs.lemmas.Option.{same_Some}
 use Rattle.std.proofs.lemmas.Slice.Eq.{bytes_eq-Decides}
 use Rattle.hw_names.proofs.NameLemmas.{full_name-append, plain_append}
-use Rattle.hw_names.specs.Name.{Text, Path, dotted, full_name, port_at, IsPlain, IsPlainPath, AreDistinct}
+use Rattle.hw_names.specs.Name.{Text, Path, full_name, port_at, IsPlain, IsPlainPath, AreDistinct}
 use Rattle.hw_prims.proofs.PortNameLemmas.{has_names, pins_differ}
 use Rattle.hw_prims.specs.Table.{Pin, pin, pin_names, inputs_of, outputs_of}
 use Rattle.hw_prims.specs.declared.prim.Primitive.{Primitive}
@@ -16,7 +16,7 @@ use Rattle.cal_ast.proofs.ListLemmas.{AllPairs-across, Contains-here, Contains-t
 use Rattle.cal_ast.proofs.LookupLemmas.{cell_inputs-primitive, cell_outputs-primitive, primitive_in-Some}
 use Rattle.cal_ast.proofs.PlainLemmas.{known_ports_are_plain}
 use Rattle.cal_ast.proofs.SideLemmas.{output_first}
-use Rattle.cal_ast.specs.Instances.{component_at, port_name}
+use Rattle.cal_ast.specs.Instances.{component_at}
 use Rattle.cal_ast.specs.Naming.{Unreserved, IsKnownPort}
 use Rattle.cal_ast.specs.Plain.{HasPlainTree}
 use Rattle.cal_ast.specs.Ports.{Output, is_bare, has_pin, with_pin, inputs_in, outputs_in, primitive_in, cell_inputs, cell_outputs, port_in, side_in}

@@ -19,8 +19,8 @@ use Rattle.cal_ast.specs.declared.tree.CalDesign.{CalDesign}
 use Rattle.cal_ast.specs.declared.tree.CalPin.{CalPin}
 use Rattle.cal_ast.specs.declared.tree.Group.{Group}
 use Rattle.cal_copy.proofs.CopyLemmas.{copies_number, copies_tree, take_next}
-use Rattle.cal_copy.specs.Copies.{IsCellCopy, IsGroupCopy, IsSetCopy}
-use Rattle.cal_group.specs.Expanded.{expanded, expanded_section, invoke_groups, invoke_name}
+use Rattle.cal_copy.specs.inside.Copies.{IsCellCopy, IsGroupCopy, IsSetCopy}
+use Rattle.cal_group.specs.inside.Expanded.{expanded, expanded_section, invoke_groups, invoke_name}
 use Rattle.cal_group.specs.inside.Expansion.{AddsGroups, IsLater}
 use Rattle.cal_group.proofs.CountLemmas.{invokes_after}
 use Rattle.cal_group.proofs.ExpandingLemmas.{later_before}

@@ -13,7 +13,7 @@ use Rattle.cal_ast.specs.Statement.{IfEnable, IfCondition}
 use Rattle.cal_ast.specs.Tree.{Statement, Enable, Seq, Par, If, While, Invoke, Statements, NoStatements, MoreStatements, ControlSection, Absent, Empty, Body}
 use Rattle.cal_group.proofs.InvokeNames.{moved, renamed}
 use Rattle.cal_group.proofs.RenamedLemmas.{with_actors, all_with_actors}
-use Rattle.cal_group.specs.Expanded.{invoke_name, expanded_at, expanded_from, expanded_section}
+use Rattle.cal_group.specs.inside.Expanded.{invoke_name, expanded_at, expanded_from, expanded_section}
 
 -- ---- an empty branch
 

@@ -13,7 +13,7 @@ use Rattle.cal_ast.specs.Invoking.{invokes_in}
 use Rattle.cal_ast.specs.Ports.{inputs_in, outputs_in, primitive_in, part_in}
 use Rattle.cal_ast.specs.Rules.{HasNoLoops}
 use Rattle.cal_ast.specs.Tree.{PortName, own, GroupDef, Component, Design}
-use Rattle.cal_ast.specs.Wires.{IsGroupOf, ReadsByAssignment, ReadsByDone, ReadsByGo, ReadsByPrimitive, CrossesCell, ReadsPort, ByAssignment, ByDone, ByGo, ByPrimitive, ByComponent, Reaches, AtOnce, Over, ReadsAlong, HasNoLoop}
+use Rattle.cal_ast.specs.Wires.{IsGroupOf, ReadsByAssignment, ReadsByDone, ReadsByGo, ReadsByPrimitive, CrossesCell, ReadsPort, ByAssignment, ByDone, ByGo, ByPrimitive, ByComponent, Reaches, Straight, Over, ReadsAlong, HasNoLoop}
 use Rattle.cal_group.proofs.MappedLemmas.{KeepsFaces, part_in-mapped, primitive_in-mapped, inputs_same, outputs_same}
 
 -- the design `image` has, for each component of the design, one with the same cells and ports
@@ -102,7 +102,7 @@ module _ (design first other : Design) (f g : Component → Component) (one : Is
         ByComponent (g c) (g b.0) p q output input (crosses c part b.0 p q output input has_part b.2 crossing b.1) (reaches part (own output) (own input) there b.0 has_part b.2)
 
     reaches : (d : Component) (port to : PortName) → Reaches first d port to → (c : Component) → Contains design c → f c ≡ d → Reaches other (g c) port to
-    reaches d port to (AtOnce x p q r) c has same = AtOnce (g c) p q (reads x p q r c has same)
+    reaches d port to (Straight x p q r) c has same = Straight (g c) p q (reads x p q r c has same)
     reaches d port to (Over x p between q r rest) c has same = Over (g c) p between q (reads x p between r c has same) (reaches x between q rest c has same)
 
   along : (c : Component) → Contains design c → (ports : List PortName) (back : PortName) → ReadsAlong first (f c) ports back → ReadsAlong other (g c) ports back

@@ -30,8 +30,8 @@ use Rattle.cal_group.proofs.ItemCases.{header_item, statement_case}
 use Rattle.cal_group.proofs.MappedLemmas.{KeepsFaces, instance_after, runs_before}
 use Rattle.cal_group.proofs.RenamedLemmas.{with_actors, unnamed, plan_itself, acting_renamed, done_row_renamed}
 use Rattle.cal_group.proofs.RuleOfLemmas.{at_item}
-use Rattle.cal_group.specs.Expanded.{expanded, expanded_section, expanded_design}
-use Rattle.cal_group.specs.Laws.{ExpandedKeepsRuns}
+use Rattle.cal_group.specs.inside.Expanded.{expanded, expanded_section, expanded_design}
+use Rattle.cal_group.specs.inside.Laws.{ExpandedKeepsRuns}
 
 bare_section : (k : ℕ) (control : ControlSection) (sets : List Assignment) → is_bare_by (expanded_section k control) sets ≡ is_bare_by control sets
 bare_section k Absent sets = refl

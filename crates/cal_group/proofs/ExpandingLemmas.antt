@@ -23,7 +23,7 @@ use Rattle.cal_ast.specs.declared.tree.Group.{Group}
 use Rattle.cal_ast.specs.declared.tree.InBind.{InBind}
 use Rattle.cal_ast.specs.declared.tree.OutBind.{OutBind}
 use Rattle.cal_copy.proofs.CopyLemmas.{take_next}
-use Rattle.cal_group.specs.Expanded.{invoke_name, expanded_from}
+use Rattle.cal_group.specs.inside.Expanded.{invoke_name, expanded_from}
 use Rattle.cal_group.specs.inside.Expansion.{AddsGroups, AreExpansions, AreNamed, CanStart, HasCells, IsExpansion, IsInvokedGroup, IsLater, counted, groups_of_invokes, statements_listed}
 use Rattle.cal_group.specs.declared.expand.Call.{Call}
 use Rattle.cal_group.specs.declared.expand.CellTable.{CellTable}

@@ -12,7 +12,7 @@ use Rattle.cal_ast.specs.Naming.{IsReserved}
 use Rattle.cal_ast.specs.Schedule.{is_group_done, sets_of_actor}
 use Rattle.cal_ast.specs.Tree.{Assignment, GroupDef, Component, Design}
 use Rattle.cal_group.proofs.InvokeNames.{is_reserved, moved, renamed, not_reserved, reserved_from_test, invoke_reserved, unmoved, invoke_unmoved, invoke_once}
-use Rattle.cal_group.specs.Expanded.{invoke_name, invoke_groups, expanded, expanded_design}
+use Rattle.cal_group.specs.inside.Expanded.{invoke_name, invoke_groups, expanded, expanded_design}
 
 -- ---- groups by name
 

@@ -6,8 +6,8 @@ use Rattle.hw_names.specs.Name.{Text}
 use Rattle.cal_ast.specs.Actors.{Actor, GroupNamed, InvokeAt}
 use Rattle.cal_ast.specs.Naming.{IsReserved}
 use Rattle.cal_group.proofs.NumeralLemmas.{numeral_once}
-use Rattle.cal_group.specs.Expanded.{invoke_name}
-use Rattle.cal_group.specs.Numeral.{numeral}
+use Rattle.cal_group.specs.inside.Expanded.{invoke_name}
+use Rattle.cal_group.specs.inside.Numeral.{numeral}
 
 abbrev pub is_reserved : Text → Bool
 is_reserved name = bytes_eq (take 2 name) (codes "c$")

@@ -18,7 +18,7 @@ use Rattle.cal_ast.specs.declared.tree.DoneSet.{DoneSet}
 use Rattle.cal_ast.specs.declared.tree.Group.{Group}
 use Rattle.cal_ast.specs.declared.tree.InBind.{InBind}
 use Rattle.cal_ast.specs.declared.tree.OutBind.{OutBind}
-use Rattle.cal_group.specs.Expanded.{invoke_name}
+use Rattle.cal_group.specs.inside.Expanded.{invoke_name}
 use Rattle.cal_group.specs.inside.Expansion.{AddsGroups, IsInvokedGroup, IsLater, binding_sets, taking_sets, start_set, done_line, port_at}
 use Rattle.cal_group.specs.declared.expand.Call.{Call}
 use Rattle.cal_group.proofs.StableLemmas.{id_number, port_kept, port_numbers, source_kept, source_numbers}

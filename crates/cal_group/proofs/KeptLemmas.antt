@@ -9,7 +9,7 @@ use Rattle.net_core.specs.Guard.{GuardTree, GuardTrees, Reads, Compares, Negates
 use Rattle.net_core.specs.declared.net.Src.{Src}
 use Rattle.net_core.specs.declared.net.Src.TheVariants.{Port, Lit}
 use Rattle.cal_ast.proofs.SideLemmas.{some_found}
-use Rattle.cal_ast.specs.Naming.{HasNewNames, IsNewCell, IsKnownCell, IsKnownPort, NamesKnown, DoneNamesKnown, Reaches, Itself, Over, component_names}
+use Rattle.cal_ast.specs.Naming.{HasNewNames, IsNewCell, IsKnownCell, IsKnownPort, NamesKnown, DoneNamesKnown, Involves, Itself, Over, component_names}
 use Rattle.cal_ast.specs.Ports.{part_of}
 use Rattle.cal_ast.specs.Rules.{Rule, C1, C2, C3, C4, C5, C6, C7, C8, C9, C10, C11, all_rules}
 use Rattle.cal_ast.specs.Sides.{IsSource, DrivesDestination, ReadsSources, DoneReadsSources}
@@ -41,7 +41,7 @@ module _ (design : Design) (f : Component → Component) (face : KeepsFaces desi
   names_taken (suc n) (c ∷ cs) = ap₂ ◌∷◌ (face.names c) (names_taken n cs)
 
   -- what reaches a name there reaches it here
-  reaches_before : (name : Text) (d : Component) → Reaches (map f design) name d → (c : Component) → f c ≡ d → Reaches design name c
+  reaches_before : (name : Text) (d : Component) → Involves (map f design) name d → (c : Component) → f c ≡ d → Involves design name c
   reaches_before name d (Itself x is) c same = Itself c (sym (face.names c) ∙ ap (λ (y : Component). y.name) same ∙ is)
   reaches_before name d (Over x part cell has made rest) c same =
       let q = some_found f (part_of design cell) part (sym (part_of-mapped design f face cell) ∙ made) in
@@ -74,7 +74,7 @@ module _ (design : Design) (f : Component → Component) (face : KeepsFaces desi
     known_cell_kept cell (inr (part, made, none)) = inr (
       f part,
       part_of-mapped design f face cell ∙ ap (option_map f) made,
-      λ reaches. none (subst (λ (name : Text). Reaches design name part) (face.names c) (reaches_before (f c).name (f part) reaches part refl)),
+      λ reaches. none (subst (λ (name : Text). Involves design name part) (face.names c) (reaches_before (f c).name (f part) reaches part refl)),
     )
 
     -- ---- guards and sources

@@ -25,3 +25,8 @@ pub mod StandingLemmas
 pub mod TableLemmas
 pub mod ValueLemmas
 pub mod WiredLemmas
+pub mod WrittenNames
+pub mod WrittenInvokes
+pub mod WrittenRemoval
+pub mod ManyLemmas
+pub mod ExpandsLemmas

@@ -3,7 +3,7 @@ use Rattle.std.proofs.Common.{◌≡◌, ℕ, zero, suc, ◌+◌, ◌-◌, ◌*�
 use Rattle.std.proofs.lemmas.Bool.{ltb-false, lt-ltb, le-ltb}
 use Rattle.std.proofs.lemmas.Fmt.{decimal_by_steps}
 use Rattle.hw_names.specs.Name.{Text}
-use Rattle.cal_group.specs.Numeral.{digits_within, numeral}
+use Rattle.cal_group.specs.inside.Numeral.{digits_within, numeral}
 
 -- the number that digits read after another number
 read : ℕ → Text → ℕ

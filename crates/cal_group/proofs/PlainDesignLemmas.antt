@@ -33,8 +33,8 @@ use Rattle.cal_group.proofs.MappedLemmas.{KeepsFaces, known_after, source_after,
 use Rattle.cal_group.proofs.RuleOfLemmas.{at_item, new_names, Contains-before}
 use Rattle.cal_group.proofs.StandingLemmas.{Origin, SameEnable, FromInvoke, SameSeq, SamePar, SameIf, SameWhile, origin, get-cases, get-take, invoke_at_item, items_rise}
 use Rattle.cal_group.proofs.WiredLemmas.{IsGoodSet}
-use Rattle.cal_group.specs.Expanded.{invoke_name, invoke_groups, expanded, expanded_design}
-use Rattle.cal_group.specs.Laws.{ExpandedIsPlain}
+use Rattle.cal_group.specs.inside.Expanded.{invoke_name, invoke_groups, expanded, expanded_design}
+use Rattle.cal_group.specs.inside.Laws.{ExpandedIsPlain}
 
 -- a component with a control statement isn't bare
 has_control : (control : ControlSection) (sets : List Assignment) (s : Statement) → Contains (control_statements control) s → is_bare_by control sets ≡ false

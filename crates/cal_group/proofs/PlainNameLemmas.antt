@@ -5,12 +5,12 @@ use Rattle.std.proofs.lemmas.List.Elements.{All-nil, All-cons, All-append, All-p
 use Rattle.hw_names.proofs.NameLemmas.{HasNoDot-from_test}
 use Rattle.hw_names.specs.Name.{dot, HasNoDot, IsPlain}
 use Rattle.cal_ast.specs.Invoking.{InvokeDef, invokes_in, invoke_group}
-use Rattle.cal_ast.specs.Plain.{IsPlainComponent}
+use Rattle.cal_ast.specs.Plain.{IsPlainComponent, IsPlainGroup, AreGroupsPlain}
 use Rattle.cal_ast.specs.Tree.{GroupDef, Component, Design}
-use Rattle.cal_group.specs.Expanded.{invoke_name, invoke_groups, expanded}
-use Rattle.cal_group.specs.Laws.{IsPlainGroup, AreGroupsPlain, ExpandedIsPlainTree, ExpandedHasPlainGroups, RemovedIsPlainTree}
-use Rattle.cal_group.specs.Numeral.{digits_within, numeral}
-use Rattle.cal_group.specs.Removed.{removed}
+use Rattle.cal_group.specs.inside.Expanded.{invoke_name, invoke_groups, expanded}
+use Rattle.cal_group.specs.inside.Laws.{ExpandedIsPlainTree, ExpandedHasPlainGroups, RemovedIsPlainTree}
+use Rattle.cal_group.specs.inside.Numeral.{digits_within, numeral}
+use Rattle.cal_group.specs.inside.Removed.{removed}
 
 -- ---- digits
 

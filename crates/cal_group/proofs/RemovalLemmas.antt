@@ -25,9 +25,9 @@ use Rattle.cal_ast.specs.declared.tree.ControlPart.{ControlPart}
 use Rattle.cal_ast.specs.declared.tree.ControlPart.TheVariants as part
 use Rattle.cal_ast.specs.declared.tree.Group.{Group}
 use Rattle.cal_copy.proofs.CopyLemmas.{copies_number, copies_tree, take_next}
-use Rattle.cal_copy.specs.Copies.{IsCellCopy, IsSetCopy}
-use Rattle.cal_group.specs.Removed.{ruled_sets, removed}
-use Rattle.cal_group.specs.Ruling.{AddsRuled}
+use Rattle.cal_copy.specs.inside.Copies.{IsCellCopy, IsSetCopy}
+use Rattle.cal_group.specs.inside.Removed.{ruled_sets, removed}
+use Rattle.cal_group.specs.inside.Ruling.{AddsRuled}
 
 -- what stands in a list that is read
 pub read_at : {X : Type 0} (xs ys : List X) (i : ℕ) (x : X) → xs ≡ ys → i < length xs → x ≡ get_or xs i x → slice_get ys i ≡ Some x

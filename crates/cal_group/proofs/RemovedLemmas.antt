@@ -19,8 +19,8 @@ use Rattle.cal_ast.specs.Tree.{PortName, Assignment, GroupDef, ControlSection, A
 use Rattle.cal_group.proofs.MappedLemmas.{KeepsFaces, runs_before}
 use Rattle.cal_group.proofs.RuleOfLemmas.{has_rule}
 use Rattle.cal_group.proofs.ValueLemmas.{values-append, values-flat, values-guarded}
-use Rattle.cal_group.specs.Laws.{RemovedKeepsRuns, RemovedKeepsStates}
-use Rattle.cal_group.specs.Removed.{ruled_sets, removed}
+use Rattle.cal_group.specs.inside.Laws.{RemovedKeepsRuns, RemovedKeepsStates}
+use Rattle.cal_group.specs.inside.Removed.{ruled_sets, removed}
 
 -- ---- bare components stay bare
 

@@ -14,8 +14,8 @@ use Rattle.cal_ast.specs.Tree.{PortName, Assignment, port_tree, assignment_tree}
 use Rattle.cal_ast.specs.declared.tree.Assign.{Assign}
 use Rattle.cal_ast.specs.declared.tree.CalPort.{CalPort}
 use Rattle.cal_copy.proofs.CopyLemmas.{take_next, numbers_from}
-use Rattle.cal_copy.specs.Copies.{IsGuardCopy, port_guard}
-use Rattle.cal_group.specs.Ruling.{IsRuledSet, AddsRuled}
+use Rattle.cal_copy.specs.inside.Copies.{IsGuardCopy, port_guard}
+use Rattle.cal_group.specs.inside.Ruling.{IsRuledSet, AddsRuled}
 
 -- ---- both guards
 

@@ -8,7 +8,7 @@ use Rattle.cal_ast.proofs.ListLemmas.{Contains-none, Contains-here, Contains-the
 use Rattle.cal_ast.specs.Invoking.{InvokeDef, invokes_among}
 use Rattle.cal_ast.specs.Items.{Item, TheStatement, statements_in, statements_of, unless_empty, control_statements, items_before_control, IsItem}
 use Rattle.cal_ast.specs.Tree.{PortName, InBinding, OutBinding, Statement, Enable, Seq, Par, If, While, Invoke, Statements, NoStatements, MoreStatements, ControlSection, Absent, Empty, Body, Component}
-use Rattle.cal_group.specs.Expanded.{invoke_name, expanded_at, expanded_from, expanded_section}
+use Rattle.cal_group.specs.inside.Expanded.{invoke_name, expanded_at, expanded_from, expanded_section}
 
 -- ---- places in lists
 

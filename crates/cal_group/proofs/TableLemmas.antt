@@ -10,16 +10,16 @@ use Rattle.hw_names.proofs.NameLemmas.{id_from_number, same_id}
 use Rattle.hw_names.specs.Name.{Text, text_of, AreDistinct}
 use Rattle.hw_names.specs.declared.names.NameId.{NameId}
 use Rattle.cal_ast.proofs.ListLemmas.{place_of, Contains-none, Contains-here, Contains-there, Contains-cases_first, Contains-at, Contains-map, Contains-from_map}
-use Rattle.cal_ast.specs.Holes.{ActivityRule, is_rule_of, rule_guard, rule_tree, IsHoleDesign, IsRuleIn}
+use Rattle.cal_ast.specs.Holes.{ActivityRule, is_rule_of, rule_guard, rule_tree, IsHoleDesign, IsRuleIn, rule_trees}
 use Rattle.cal_ast.specs.Naming.{Unreserved}
-use Rattle.cal_ast.specs.Numbers.{ComponentHasNumbers, GroupHasNumbers}
+use Rattle.cal_ast.specs.Numbers.{ComponentHasNumbers, GroupHasNumbers, RuleHasNumbers}
 use Rattle.cal_ast.specs.Tree.{Component, Design, group_tree, component_tree}
 use Rattle.cal_ast.specs.declared.lowered.ActRule.{ActRule}
 use Rattle.cal_ast.specs.declared.tree.CalComp.{CalComp}
 use Rattle.cal_ast.specs.declared.tree.Group.{Group}
 use Rattle.cal_copy.proofs.CopyLemmas.{get-take, take_next}
 use Rattle.cal_group.proofs.RuleOfLemmas.{apart}
-use Rattle.cal_group.specs.Ruling.{HasPlaces, HasRulesOf, IsNoted, IsRuleAt, RuleHasNumbers, rule_trees}
+use Rattle.cal_group.specs.inside.Ruling.{HasPlaces, HasRulesOf, IsNoted, IsRuleAt}
 
 -- ---- what a filter keeps
 

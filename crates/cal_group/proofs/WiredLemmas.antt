@@ -23,8 +23,8 @@ use Rattle.cal_group.proofs.KeptLemmas.{all_eleven, new_names_kept, widths_kept,
 use Rattle.cal_group.proofs.MappedLemmas.{KeepsFaces}
 use Rattle.cal_group.proofs.RemovedLemmas.{removed_bare, removed_faces}
 use Rattle.cal_group.proofs.RuleOfLemmas.{has_rule, new_names}
-use Rattle.cal_group.specs.Laws.{RemovedIsWired}
-use Rattle.cal_group.specs.Removed.{ruled_sets, removed, removed_design}
+use Rattle.cal_group.specs.inside.Laws.{RemovedIsWired}
+use Rattle.cal_group.specs.inside.Removed.{ruled_sets, removed, removed_design}
 
 -- a bare component has no control statement
 no_statements : (control : ControlSection) (sets : List Assignment) → is_bare_by control sets ≡ true → control_statements control ≡ []

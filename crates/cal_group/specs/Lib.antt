@@ -1,6 +1,3 @@
 pub mod inside
-pub mod Numeral
-pub mod Expanded
-pub mod Removed
-pub mod Ruling
-pub mod Laws
+pub mod Expands
+pub mod RemovesGroups

@@ -1,2 +1,7 @@
--- What only the functions inside the crate are specified by.
+-- What only the functions and the proofs inside the crate speak of.
 pub mod Expansion
+pub mod Numeral
+pub mod Expanded
+pub mod Removed
+pub mod Ruling
+pub mod Laws

@@ -8,7 +8,8 @@ ghost use Rattle.cal_ast.specs.Ports.{primitive_of};
 ghost use Rattle.cal_ast.specs.Rules.{KeepsRules};
 ghost use Rattle.cal_ast.specs.Tree.{CellDef, Component, Design, NoStatements, Seq, Statement, cell_tree, component_tree, control_tree, design_of, group_tree, statement_tree};
 ghost use Rattle.cal_ast.specs.declared.tree.Group.{Group as GroupOf};
-ghost use Rattle.cal_group.specs.Expanded.{expanded, expanded_design, expanded_section, invoke_name};
+ghost use Rattle.cal_group.specs.Expands.{Expands};
+ghost use Rattle.cal_group.specs.inside.Expanded.{expanded, expanded_design, expanded_section, invoke_name};
 ghost use Rattle.cal_group.specs.inside.Expansion.{AddsGroups, AreExpansions, AreNamed, CanStart, HasCells, HoldsCells, IsExpansion, IsInvokedGroup, IsLater};
 ghost use Rattle.cal_group.specs.inside.Expansion.{binding_sets, counted, done_line, statements_listed, start_set, taking_sets};
 
@@ -468,9 +469,9 @@ fn expanded_components<'a>(
     Ok(comps)
 }
 
-/// The design with a group for each invoke, which is enabled in its place. It keeps the runs of the design.
+/// The design with a group for each invoke, which is enabled in its place. It keeps the rules, the cells and the runs of the design.
 pub fn expand_invoke(alloc: Global, ok: &CalOk<'_>) -> Result<PlainDesign, Memory>
-    ensures tree { IfOk result (λ plain. design_of plain.design ≡ expanded_design (design_of ok.now)) }
+    ensures expands { IfOk result (λ plain. Expands (design_of ok.now) (design_of plain.design)) }
     ensures numbers { IfOk result (λ plain. HasNumbers plain.design) }
 {
     let source = ok.design();

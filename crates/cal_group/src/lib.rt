@@ -13,19 +13,13 @@
 //!     group set { r.in = 8'd5; r.write_en = 1'd1; set[done] = r.done; }     becomes
 //!     r.in = c$acts$set.out ? 8'd5;  r.write_en = c$acts$set.out ? 1'd1;
 //!
-//! What the layer above uses: the answers are exactly the designs `expanded_design` and `removed_design`; and laws say of these
-//! that the rules are kept (`expanded_is_plain`, `removed_is_wired`), plain names too (`expanded_is_plain_tree`,
-//! `removed_is_plain_tree`), that the removal of groups adds no cell (`removed_keeps_states`), and that from each component as
-//! the top each run of the answer is one of the source, with the same stop (`expanded_keeps_runs`, `removed_keeps_runs`).
+//! What the layer above uses: `expand_invoke` gives a design that `Expands` the source, `remove_groups` one that `RemovesGroups` of
+//! it. Each keeps the components with their ports and cells, Calyx's rules, and plain names; it has a text where the source has;
+//! and from each component as the top, each run of the answer is one of the source, with the same stop.
 #![tactic(auto)]
 
 mod expand;
-mod laws;
 mod remove;
 
 pub use expand::expand_invoke;
-pub use laws::{
-    expanded_has_plain_groups, expanded_is_plain, expanded_is_plain_tree, expanded_keeps_runs,
-    removed_is_plain_tree, removed_is_wired, removed_keeps_runs, removed_keeps_states,
-};
 pub use remove::remove_groups;

@@ -3,13 +3,14 @@ ghost use Rattle.std.specs.Prelude.{◌≡◌, ◌<◌, ℕ, [], ◌∷◌, List
 ghost use Rattle.hw_names.specs.Name.{Text};
 ghost use Rattle.net_core.specs.Guard.{AllOf, guards_of};
 ghost use Rattle.net_core.specs.Numbers.{IsNumberOf};
-ghost use Rattle.cal_ast.specs.Holes.{IsHoleDesign};
+ghost use Rattle.cal_ast.specs.Holes.{IsHoleDesign, rule_trees};
 ghost use Rattle.cal_ast.specs.Items.{control_statements};
-ghost use Rattle.cal_ast.specs.Numbers.{ComponentHasNumbers, GuardHasNumbers, HasNumbers};
+ghost use Rattle.cal_ast.specs.Numbers.{ComponentHasNumbers, GuardHasNumbers, HasNumbers, RuleHasNumbers};
 ghost use Rattle.cal_ast.specs.Tree.{Design, component_tree, control_tree, design_of};
-ghost use Rattle.cal_copy.specs.Copies.{port_guard};
-ghost use Rattle.cal_group.specs.Removed.{removed, removed_design};
-ghost use Rattle.cal_group.specs.Ruling.{AddsRuled, HasPlaces, HasRulesOf, IsNoted, IsRuledSet, RuleHasNumbers, rule_trees};
+ghost use Rattle.cal_copy.specs.inside.Copies.{port_guard};
+ghost use Rattle.cal_group.specs.RemovesGroups.{RemovesGroups};
+ghost use Rattle.cal_group.specs.inside.Removed.{removed, removed_design};
+ghost use Rattle.cal_group.specs.inside.Ruling.{AddsRuled, HasPlaces, HasRulesOf, IsNoted, IsRuledSet};
 
 use cal_ast::{
     ActRule, Assign, CalComp, CalDesign, CalPort, ControlPart, Group, HoleDesign, WireDesign,
@@ -171,13 +172,13 @@ fn removed_components(alloc: Global, holes: &HoleDesign) -> Result<Vec<CalComp>,
     Ok(comps)
 }
 
-/// The design with each group's assignments as guarded wires, under the group's rule. It keeps the runs of the design.
+/// The design with each group's assignments as guarded wires, under the group's rule. It keeps the rules, the cells and the runs of the design.
 pub fn remove_groups(alloc: Global, holes: &HoleDesign) -> Result<WireDesign, Memory>
     requires numbers { HasNumbers holes.now.design }
     requires rules { All (RuleHasNumbers holes.now.design.names) holes.now.acts.items }
     requires hole { IsHoleDesign (design_of holes.now.design) (rule_trees holes.now.design.names holes.now.acts.items) }
-    ensures tree { IfOk result (λ wired.
-        design_of wired.design ≡ removed_design (design_of holes.now.design) (rule_trees holes.now.design.names holes.now.acts.items)) }
+    ensures removes { IfOk result (λ wired.
+        RemovesGroups (design_of holes.now.design) (rule_trees holes.now.design.names holes.now.acts.items) (design_of wired.design)) }
     ensures numbers { IfOk result (λ wired. HasNumbers wired.design) }
 {
     let names = copy_names(alloc, &holes.design.names)?;

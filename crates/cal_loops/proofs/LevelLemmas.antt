@@ -14,7 +14,7 @@ use Rattle.cal_ast.specs.Naming.{Unreserved, cell_names, component_names}
 use Rattle.cal_ast.specs.Ports.{cell_named, inputs_in, outputs_in, part_in, part_of}
 use Rattle.cal_ast.specs.Rules.{KeepsRules}
 use Rattle.cal_ast.specs.Tree.{CellDef, Component, Design, PortName, own, port_of}
-use Rattle.cal_ast.specs.Wires.{AtOnce, HasNoLoop, Over, Reaches}
+use Rattle.cal_ast.specs.Wires.{Straight, HasNoLoop, Over, Reaches}
 use Rattle.cal_place.specs.FirstPlaces.{IsFirst}
 use Rattle.cal_place.specs.Nesting.{HasPart}
 use Rattle.cal_loops.specs.inside.Levels.{IsCellPort, IsLower, KeepsOwn, ShowsLevels, ShowsPartLevels}
@@ -53,7 +53,7 @@ own_no_cell name cell pin e = none-some cell (ap (λ (p : PortName). p.cell) e)
 
 -- where a port reaches another, nodes lead from the one to the other
 pub reach_along : (design : Design) (c : Component) (p q : PortName) → Reaches design c p q → (nodes : List Node) × NodesAlong design c (APort p) nodes (APort q)
-reach_along design c p q (AtOnce d port other reads) =
+reach_along design c p q (Straight d port other reads) =
     elim (through_nodes design d port other reads) [
       | inl at_once ↦ ([], at_once)
       | inr (k, first, second) ↦ (AHole k ∷ [], (first, second))

@@ -6,7 +6,7 @@ use Rattle.std.proofs.lemmas.Option.{same_Some}
 use Rattle.cal_ast.proofs.ListLemmas.{Contains-at, place_of}
 use Rattle.cal_ast.specs.Sides.{IsSource}
 use Rattle.cal_ast.specs.Tree.{PortName, own, Assignment, DoneLine, GroupDef, Component, Design}
-use Rattle.cal_ast.specs.Wires.{ReadsPort, ByAssignment, ByDone, ByGo, ByPrimitive, ByComponent, Reaches, AtOnce, Over, ReadsAlong, IsGroupOf, all_groups, done_ports}
+use Rattle.cal_ast.specs.Wires.{ReadsPort, ByAssignment, ByDone, ByGo, ByPrimitive, ByComponent, Reaches, Straight, Over, ReadsAlong, IsGroupOf, all_groups, done_ports}
 use Rattle.cal_wires.specs.Nodes.{Node, APort, AHole, node_ports}
 use Rattle.cal_wires.specs.WireGraphs.{IsGroupAt, NodeReads, BySet, InGroup, OfDone, OfGo, OfPrimitive, OfPart}
 
@@ -100,5 +100,5 @@ module _ (design : Design) (c : Component) where
 
 -- along a list of reads the first reaches the last
 pub along_reaches : (design : Design) (c : Component) (p : PortName) (others : List PortName) (back : PortName) → ReadsAlong design c (p ∷ others) back → Reaches design c p back
-along_reaches design c p [] back reads = AtOnce c p back reads
+along_reaches design c p [] back reads = Straight c p back reads
 along_reaches design c p (q ∷ others) back along = Over c p q back along.0 (along_reaches design c q others back along.1)

@@ -18,7 +18,7 @@ use Rattle.hw_names.proofs.NameLemmas.{same_number}
 use Rattle.hw_names.specs.Name.{Text, AreDistinct}
 use Rattle.cal_ast.proofs.ListLemmas.{Contains-cases_first, Contains-from_flat_map, Contains-from_map, Contains-none}
 use Rattle.cal_ast.specs.Tree.{PortName, Component, Design}
-use Rattle.cal_ast.specs.Wires.{ReadsPort, Reaches, AtOnce, Over, ReadsAlong, HasNoLoop, IsLeastLoop, shown}
+use Rattle.cal_ast.specs.Wires.{ReadsPort, Reaches, Straight, Over, ReadsAlong, HasNoLoop, IsLeastLoop, shown}
 use Rattle.cal_loops.specs.inside.Cells.{Directly, IsLoopAt, IsNodeAt, LeadsAsRead, NodeReaches, ReadsAt, Through}
 use Rattle.cal_wires.specs.Nodes.{Node, APort, AHole, IsKey, key_of, node_ports}
 use Rattle.cal_wires.specs.NodeOrder.{TellNodes}
@@ -80,7 +80,7 @@ port_way design c p q read = elim (through_nodes design c p q read) [
 ]
 
 pub reach_nodes : (design : Design) (c : Component) (p q : PortName) → Reaches design c p q → NodeReaches design c (APort p) (APort q)
-reach_nodes design c p q (AtOnce d port other read) = port_way design d port other read
+reach_nodes design c p q (Straight d port other read) = port_way design d port other read
 reach_nodes design c p q (Over d port between other read rest) =
     nodes_reach design d (APort port) (APort between) (APort other) (port_way design d port between read) (reach_nodes design d between other rest)
 
@@ -91,8 +91,8 @@ module _ (design : Design) (c : Component) where
   LeadsFrom (AHole k) q = (p : PortName) → NodeReads design c (APort p) (AHole k) → Reaches design c p q
 
   last_step : (n : Node) (q : PortName) → NodeReads design c n (APort q) → LeadsFrom n q
-  last_step (APort p) q read = AtOnce c p q (port_reads design c p q read)
-  last_step (AHole k) q read = λ p first. AtOnce c p q (reads_through design c p q k first read)
+  last_step (APort p) q read = Straight c p q (port_reads design c p q read)
+  last_step (AHole k) q read = λ p first. Straight c p q (reads_through design c p q k first read)
 
   step_before : (n m : Node) (q : PortName) → NodeReads design c n m → LeadsFrom m q → LeadsFrom n q
   step_before (APort p) (APort m) q read rest = Over c p m q (port_reads design c p m read) rest

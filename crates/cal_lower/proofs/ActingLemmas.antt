@@ -7,11 +7,11 @@ use Rattle.cal_ast.specs.Actors.{Actor, same_actor}
 use Rattle.cal_ast.specs.Plan.{Plan, Enables, InTurn, AtOnce, Chooses, Repeats, Plans, NoPlans, MorePlans}
 use Rattle.cal_ast.specs.Tree.{PortName}
 use Rattle.cal_walk.specs.Left.{is_over, is_by}
-use Rattle.cal_token.specs.Tokens.{Token, Going, Starting, Again, size, is_tested, enables_by, enables_by_in_turn, others_enable, enables_by_at_once}
-use Rattle.cal_token.specs.Tokens.{tests_by, tests_by_in_turn, others_test, tests_by_at_once}
+use Rattle.cal_token.specs.inside.Tokens.{Token, Going, Starting, Again, size, is_tested, enables_by, enables_by_in_turn, others_enable, enables_by_at_once}
+use Rattle.cal_token.specs.inside.Tokens.{tests_by, tests_by_in_turn, others_test, tests_by_at_once}
 use Rattle.cal_token.proofs.TestLemmas.{neither, or_same}
-use Rattle.cal_lower.specs.Pieces.{has_token, either}
-use Rattle.cal_lower.specs.Parts.{none_if_over, tested_guard, enabling, enabling_in_turn, enabling_after, enabling_at_once, testing, testing_in_turn, testing_after, testing_at_once}
+use Rattle.cal_lower.specs.inside.Pieces.{has_token, either}
+use Rattle.cal_lower.specs.inside.Parts.{none_if_over, tested_guard, enabling, enabling_in_turn, enabling_after, enabling_at_once, testing, testing_in_turn, testing_after, testing_at_once}
 use Rattle.cal_lower.proofs.GuardLemmas.{any_true, holds_either, any_true-append, any_if, any_unless}
 use Rattle.cal_lower.proofs.PartLemmas.{tokens_in, EachEnabled, EachEnabledIn, EachTested, EachTestedIn}
 

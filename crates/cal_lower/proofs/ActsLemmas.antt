@@ -22,11 +22,11 @@ use Rattle.cal_ast.specs.Tree.{PortName, DoneLine, GroupDef, Component, Design}
 use Rattle.cal_walk.specs.Left.{is_over}
 use Rattle.cal_walk.specs.Stages.{Progress, progress_at, acts_now, is_done_now, enabled_now, tested_now}
 use Rattle.cal_token.proofs.TestLemmas.{and_true}
-use Rattle.cal_token.specs.Tokens.{size}
+use Rattle.cal_token.specs.inside.Tokens.{size}
 use Rattle.cal_lower.specs.inside.Added.{extended}
-use Rattle.cal_lower.specs.Lowered.{acts_guard, acts_wire, done_wire, group_pieces, control_ends, start_guard, instance_pieces, plan_pieces, control_pieces, rules_from}
-use Rattle.cal_lower.specs.Parts.{part_ends, part_pieces}
-use Rattle.cal_lower.specs.Pieces.{Piece, Wire, Register, piece, acts_name, start_name, busy_name, over_name, shown, is_set, either, both, is_done}
+use Rattle.cal_lower.specs.inside.Lowered.{acts_guard, acts_wire, done_wire, group_pieces, control_ends, start_guard, instance_pieces, plan_pieces, control_pieces, rules_from}
+use Rattle.cal_lower.specs.inside.Parts.{part_ends, part_pieces}
+use Rattle.cal_lower.specs.inside.Pieces.{Piece, Wire, Register, piece, acts_name, start_name, busy_name, over_name, shown, is_set, either, both, is_done}
 use Rattle.cal_lower.proofs.ControlLemmas.{Bits, AreControl, is_on_row, acts_now-is, over_is, enabled_is, tested_is}
 use Rattle.cal_lower.proofs.ExtendedLemmas.{AreNamed, answer}
 use Rattle.cal_lower.proofs.GroupActsLemmas.{ShowsDones, done_is, dones_are, acts_guard_is}

@@ -6,9 +6,9 @@ use Rattle.cal_ast.specs.Actors.{Actor, same_actor}
 use Rattle.cal_ast.specs.Plan.{Plan, Enables, InTurn, AtOnce, Chooses, Repeats, Plans, NoPlans, MorePlans}
 use Rattle.cal_ast.specs.Tree.{PortName}
 use Rattle.cal_walk.specs.Left.{is_over, is_by}
-use Rattle.cal_token.specs.Tokens.{Token, Going, Starting, Again, size}
-use Rattle.cal_lower.specs.Parts.{none_if_over, tested_guard, enabling, enabling_in_turn, enabling_after, enabling_at_once, testing, testing_in_turn, testing_after, testing_at_once}
-use Rattle.cal_lower.specs.Pieces.{token_name, shown, has_token, either}
+use Rattle.cal_token.specs.inside.Tokens.{Token, Going, Starting, Again, size}
+use Rattle.cal_lower.specs.inside.Parts.{none_if_over, tested_guard, enabling, enabling_in_turn, enabling_after, enabling_at_once, testing, testing_in_turn, testing_after, testing_at_once}
+use Rattle.cal_lower.specs.inside.Pieces.{token_name, shown, has_token, either}
 use Rattle.cal_lower.proofs.BitLemmas.{IsBitGuard}
 use Rattle.cal_lower.proofs.ListLemmas.{Each, each_append}
 

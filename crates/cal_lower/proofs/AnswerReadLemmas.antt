@@ -25,10 +25,10 @@ use Rattle.cal_ast.specs.Sides.{IsSource}
 use Rattle.cal_ast.specs.Tree.{PortName, own, port_of, CellDef, Assignment, GroupDef, Component, Design}
 use Rattle.cal_ast.specs.Wires.{IsAssignmentOf, set_ports, done_ports, ReadsByAssignment, IsAssignedIn, ReadsByDone, ReadsByGo, DependsWithinRow, ReadsByPrimitive, CrossesCell, ReadsPort, ByAssignment, ByDone, ByGo, ByPrimitive, ByComponent, Reaches}
 use Rattle.cal_group.proofs.EdgeLemmas.{own_is_group}
-use Rattle.cal_token.specs.Tokens.{size}
+use Rattle.cal_token.specs.inside.Tokens.{size}
 use Rattle.cal_lower.specs.inside.Added.{extended}
-use Rattle.cal_lower.specs.Lowered.{HasFewParts, acts_guard, start_guard, control_pieces, done_set, rules_from}
-use Rattle.cal_lower.specs.Pieces.{Kind, Wire, Register, Piece, piece_set, enables_piece, piece_sets, token_name, ends_name, acts_name, done_name, start_name, busy_name, over_name, shown, is_set, never}
+use Rattle.cal_lower.specs.inside.Lowered.{HasFewParts, acts_guard, start_guard, control_pieces, done_set, rules_from}
+use Rattle.cal_lower.specs.inside.Pieces.{Kind, Wire, Register, Piece, piece_set, enables_piece, piece_sets, token_name, ends_name, acts_name, done_name, start_name, busy_name, over_name, shown, is_set, never}
 use Rattle.cal_lower.proofs.ExtendedLemmas.{HasPlace, added_cells, answer, cell_other, extended_bare, extended_inputs, extended_outputs, extended_sets, primitive_kept}
 use Rattle.cal_lower.proofs.GuardedLemmas.{whole, built, origin, unruled, assigned_before, part_before}
 use Rattle.cal_lower.proofs.ListLemmas.{each_at}

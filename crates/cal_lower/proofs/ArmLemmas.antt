@@ -12,10 +12,10 @@ use Rattle.cal_ast.specs.Tree.{PortName, port_tree, statement_tree}
 use Rattle.cal_ast.specs.declared.tree.CalPort.{CalPort}
 use Rattle.cal_ast.specs.declared.tree.Control.{Control}
 use Rattle.cal_ast.specs.declared.tree.Control.TheVariants as controls
-use Rattle.cal_token.specs.Tokens.{size}
+use Rattle.cal_token.specs.inside.Tokens.{size}
 use Rattle.cal_lower.specs.inside.Making.{Made, ShowsParts, by_group, with_made, part_made, later_made, in_turn_made, at_once_made, choice_made, loop_made}
-use Rattle.cal_lower.specs.Parts.{ends_wire, part_ends, tested_guard}
-use Rattle.cal_lower.specs.Pieces.{both, reads}
+use Rattle.cal_lower.specs.inside.Parts.{ends_wire, part_ends, tested_guard}
+use Rattle.cal_lower.specs.inside.Pieces.{both, reads}
 use Rattle.cal_lower.specs.inside.Statements.{CanLower}
 use Rattle.cal_lower.specs.declared.made.Parts.{Parts}
 use Rattle.cal_lower.proofs.StableLemmas.{by_kept}

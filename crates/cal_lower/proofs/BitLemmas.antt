@@ -11,11 +11,11 @@ use Rattle.cal_ast.specs.Actors.{Actor, same_actor}
 use Rattle.cal_ast.specs.Plan.{Plan, Enables, InTurn, AtOnce, Chooses, Repeats, Plans, NoPlans, MorePlans}
 use Rattle.cal_ast.specs.Tree.{PortName}
 use Rattle.cal_walk.specs.Left.{is_over, are_over, is_by}
-use Rattle.cal_token.specs.Tokens.{Going, Starting, Ended, size}
-use Rattle.cal_lower.specs.Pieces.{Piece, Register, piece, token_name, ends_name, done_name, group_name, shown, has_token, reads, either, both, any_of, all_of}
-use Rattle.cal_lower.specs.Parts.{none_if_over, part_ends, tested_guard, chooses_nothing, last_part, ended_guards, again_guard, ended_guard}
-use Rattle.cal_lower.specs.Parts.{with_start, part_pieces, pieces_in_turn, pieces_after, pieces_at_once}
-use Rattle.cal_lower.specs.Parts.{enabling, enabling_in_turn, enabling_after, enabling_at_once, testing, testing_in_turn, testing_after, testing_at_once}
+use Rattle.cal_token.specs.inside.Tokens.{Going, Starting, Ended, size}
+use Rattle.cal_lower.specs.inside.Pieces.{Piece, Register, piece, token_name, ends_name, done_name, group_name, shown, has_token, reads, either, both, any_of, all_of}
+use Rattle.cal_lower.specs.inside.Parts.{none_if_over, part_ends, tested_guard, chooses_nothing, last_part, ended_guards, again_guard, ended_guard}
+use Rattle.cal_lower.specs.inside.Parts.{with_start, part_pieces, pieces_in_turn, pieces_after, pieces_at_once}
+use Rattle.cal_lower.specs.inside.Parts.{enabling, enabling_in_turn, enabling_after, enabling_at_once, testing, testing_in_turn, testing_after, testing_at_once}
 use Rattle.cal_lower.proofs.ListLemmas.{Each, each_append, each_left, each_right}
 use Rattle.cal_lower.proofs.PartLemmas.{EachEnabled, EachEnabledIn, others_more}
 

@@ -12,7 +12,7 @@ use Rattle.net_core.specs.Guard.{GuardTree}
 use Rattle.net_core.specs.Numbers.{IsNumberOf}
 use Rattle.net_core.specs.declared.net.Guard.{Guard}
 use Rattle.cal_ast.specs.Holes.{ActivityRule, rule_tree}
-use Rattle.cal_ast.specs.Numbers.{CellHasNumbers, ComponentHasNumbers, ControlHasNumbers, GroupHasNumbers, InHasNumbers, OutHasNumbers, PinHasNumber, SetHasNumbers, StatementHasNumbers, StatementsHaveNumbers}
+use Rattle.cal_ast.specs.Numbers.{CellHasNumbers, ComponentHasNumbers, ControlHasNumbers, GroupHasNumbers, InHasNumbers, OutHasNumbers, PinHasNumber, SetHasNumbers, StatementHasNumbers, StatementsHaveNumbers, RuleHasNumbers}
 use Rattle.cal_ast.specs.Ports.{drives_done, inputs_in, is_bare, is_bare_by, outputs_in, with_pin}
 use Rattle.cal_ast.specs.Tree.{Absent, Assignment, CellDef, Component, GroupDef, PortName, assignment_tree, cell_tree, component_tree, control_tree, group_tree, pin_tree}
 use Rattle.cal_ast.specs.declared.lowered.ActRule.{ActRule}
@@ -28,12 +28,11 @@ use Rattle.cal_ast.specs.declared.tree.ControlPart.TheVariants as part
 use Rattle.cal_ast.specs.declared.tree.Group.{Group}
 use Rattle.cal_ast.specs.declared.tree.InBind.{InBind}
 use Rattle.cal_ast.specs.declared.tree.OutBind.{OutBind}
-use Rattle.cal_copy.specs.Copies.{IsCellCopy, IsSetCopy}
-use Rattle.cal_group.specs.Ruling.{RuleHasNumbers}
+use Rattle.cal_copy.specs.inside.Copies.{IsCellCopy, IsSetCopy}
 use Rattle.cal_lower.specs.inside.Labels.{KeepsLabels}
-use Rattle.cal_lower.specs.Lowered.{lowered, rule_of, with_registers}
+use Rattle.cal_lower.specs.inside.Lowered.{lowered, rule_of, with_registers}
 use Rattle.cal_lower.specs.inside.Making.{ShowRules, rule_when}
-use Rattle.cal_lower.specs.Pieces.{Piece, piece_cell, piece_sets}
+use Rattle.cal_lower.specs.inside.Pieces.{Piece, piece_cell, piece_sets}
 use Rattle.cal_lower.specs.inside.Shown.{ShowAll, Shows, ShowsGuard}
 use Rattle.cal_lower.specs.declared.labels.Labels.{Labels}
 use Rattle.cal_lower.proofs.CopiedLemmas.{cells_copied, sets_copied}

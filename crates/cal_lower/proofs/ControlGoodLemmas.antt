@@ -23,9 +23,9 @@ use Rattle.cal_ast.specs.Statement.{IfCondition}
 use Rattle.cal_ast.specs.Tree.{PortName, own, DoneLine, GroupDef, Statement, Enable, Seq, Par, If, While, Invoke, Component, Design}
 use Rattle.cal_walk.specs.Left.{is_over}
 use Rattle.cal_lower.specs.inside.Added.{Additions, extended}
-use Rattle.cal_lower.specs.Lowered.{acts_guard, acts_wire, done_wire, group_pieces, control_ends, start_guard, instance_pieces, plan_pieces, control_pieces}
-use Rattle.cal_lower.specs.Parts.{part_ends, part_pieces, enabling, testing}
-use Rattle.cal_lower.specs.Pieces.{Piece, Wire, Register, piece, start_name, busy_name, over_name, acts_name, done_name, shown, is_set, either, both, any_of, is_done}
+use Rattle.cal_lower.specs.inside.Lowered.{acts_guard, acts_wire, done_wire, group_pieces, control_ends, start_guard, instance_pieces, plan_pieces, control_pieces}
+use Rattle.cal_lower.specs.inside.Parts.{part_ends, part_pieces, enabling, testing}
+use Rattle.cal_lower.specs.inside.Pieces.{Piece, Wire, Register, piece, start_name, busy_name, over_name, acts_name, done_name, shown, is_set, either, both, any_of, is_done}
 use Rattle.cal_lower.proofs.BitLemmas.{IsBitGuard, IsBitPiece, IsNamed, IsDoneSeen, one_bit, EachPort, any_bits, first_named, part_bits, enabling_bits, testing_bits}
 use Rattle.cal_lower.proofs.ConditionLemmas.{section_ports}
 use Rattle.cal_lower.proofs.ControlLemmas.{enabled_weaker}

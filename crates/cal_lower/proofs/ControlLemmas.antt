@@ -6,13 +6,13 @@ use Rattle.cal_ast.specs.Actors.{Actor}
 use Rattle.cal_ast.specs.Plan.{Plan, Enables, InTurn, AtOnce, Chooses, Repeats, Plans, NoPlans, MorePlans}
 use Rattle.cal_ast.specs.Spans.{View}
 use Rattle.cal_walk.specs.Left.{sight_at, is_over, are_over, left, enables, tests}
-use Rattle.cal_walk.specs.Stages.{Progress, Waits, Runs, Ends, progress_of, next_progress, progress_at, acts_now, is_done_now, enabled_now, tested_now}
+use Rattle.cal_walk.specs.Stages.{Progress, Waits, GoesOn, Ends, progress_of, next_progress, progress_at, acts_now, is_done_now, enabled_now, tested_now}
 use Rattle.cal_token.proofs.OverLemmas.{over_enables, over_tests, over_left}
 use Rattle.cal_token.proofs.TestLemmas.{and_true}
 use Rattle.cal_token.proofs.TokenLemmas.{tokens_walk_control}
-use Rattle.cal_token.specs.Coming.{IsOff, Leaves}
-use Rattle.cal_token.specs.Laws.{ComesTo, Walks, StaysOff}
-use Rattle.cal_token.specs.Tokens.{Token, ends, enables_by, tests_by, Steps}
+use Rattle.cal_token.specs.inside.Coming.{IsOff, Leaves}
+use Rattle.cal_token.specs.inside.Laws.{ComesTo, Walks, StaysOff}
+use Rattle.cal_token.specs.inside.Tokens.{Token, ends, enables_by, tests_by, Steps}
 use Rattle.std.proofs.lemmas.Bool.{and_parts}
 use Rattle.cal_ast.specs.Actors.{same_actor}
 use Rattle.std.specs.Prelude.{Option}
@@ -95,13 +95,13 @@ pub record AreControl (plan : Plan) (view : View) (go : ℕ → Bool) (height : 
 -- whether control goes on, or starts, in the row
 abbrev pub is_on_row : Progress → Bool → Bool
 is_on_row Waits go = go
-is_on_row (Runs p) go = true
+is_on_row (GoesOn p) go = true
 is_on_row Ends go = true
 
 pub acts_now-is : (plan : Plan) (x : Progress) (actor : Actor) (go done : Bool)
     → acts_now plan x actor go done ≡ (is_on_row x go && (tested_now plan x actor || (enabled_now plan x actor && not done)))
 acts_now-is plan Waits actor go done = refl
-acts_now-is plan (Runs p) actor go done = refl
+acts_now-is plan (GoesOn p) actor go done = refl
 acts_now-is plan Ends actor go done = refl
 
 -- an actor that is never enabled, and one that never acts in a test
@@ -133,7 +133,7 @@ module _ (plan : Plan) (view : View) (go : ℕ → Bool) (height : ℕ) (b : Bit
 
   abbrev pub Stands : ℕ → Progress → Type 0
   Stands t Waits = IsResting t false
-  Stands t (Runs p) = IsRunning t p
+  Stands t (GoesOn p) = IsRunning t p
   Stands t Ends = IsResting t true
 
   abbrev start_by : ℕ → Bool → Bool → Bool
@@ -171,7 +171,7 @@ module _ (plan : Plan) (view : View) (go : ℕ → Bool) (height : ℕ) (b : Bit
   goes_on : (t : ℕ) (rest : Plan) → suc t < height → (b.start t || b.busy t) ≡ true → b.last t ≡ is_over rest → (is_over plan ≡ true → is_over rest ≡ true)
       → (is_over plan ≡ false → ComesTo (b.tokens (suc t)) 0 plan rest) → Stands (suc t) (progress_of rest)
   goes_on t rest within on last none comes =
-      let S : Bool → Type 0 = λ x. Stands (suc t) (if x then Ends else Runs rest) in
+      let S : Bool → Type 0 = λ x. Stands (suc t) (if x then Ends else GoesOn rest) in
       elim (cases_Bool (is_over rest)) [
         | inl over ↦ subst S (sym over) (record {
           busy = busy_next t true true within on (last ∙ over);
@@ -235,7 +235,7 @@ module _ (plan : Plan) (view : View) (go : ℕ → Bool) (height : ℕ) (b : Bit
         | inl on ↦ subst S (sym on) (from_start t within (starts_with_go t now r ∙ on) r.off)
         | inr idle ↦ subst S (sym idle) (waits t within (starts_with_go t now r ∙ idle) r.busy r.off)
       ]
-  stands_next t within (Runs p) r = let now : t < height = omega arith in from_running t p within (not_while_running t p now r) r
+  stands_next t within (GoesOn p) r = let now : t < height = omega arith in from_running t p within (not_while_running t p now r) r
   stands_next t within Ends r = let now : t < height = omega arith in waits t within (not_while_done t now r) r.busy r.off
 
   pub stands_at : (t : ℕ) → t < height → Stands t (progress_at view go plan t)
@@ -248,7 +248,7 @@ module _ (plan : Plan) (view : View) (go : ℕ → Bool) (height : ℕ) (b : Bit
     where
       by : (x : Progress) → Stands t x → b.over t ≡ is_done_now x
       by Waits r = r.over
-      by (Runs p) r = r.over
+      by (GoesOn p) r = r.over
       by Ends r = r.over
 
   -- ---- what acts
@@ -305,7 +305,7 @@ module _ (plan : Plan) (view : View) (go : ℕ → Bool) (height : ℕ) (b : Bit
             tested = not_now.tested ∙ sym (ap (λ x. x && tests plan actor) idle);
           }
     ]
-    acts_as within (Runs p) r =
+    acts_as within (GoesOn p) r =
         let start : b.start t ≡ false = not_while_running t p within r in
         record {
           enabled = ap (enabled_in t actor) start ∙ (walks_on t p r).enabled actor;

@@ -13,7 +13,7 @@ use Rattle.cal_ast.specs.declared.tree.CalPort.{CalPort}
 use Rattle.cal_ast.specs.declared.tree.DoneSet.{DoneSet}
 use Rattle.cal_ast.specs.declared.tree.Group.{Group}
 use Rattle.cal_copy.proofs.CopyLemmas.{copies_number, copies_tree}
-use Rattle.cal_copy.specs.Copies.{IsCellCopy, IsCopy, IsGroupCopy, IsSetCopy, IsWhenCopy}
+use Rattle.cal_copy.specs.inside.Copies.{IsCellCopy, IsCopy, IsGroupCopy, IsSetCopy, IsWhenCopy}
 use Rattle.cal_lower.specs.inside.Shown.{DriveTree, ShowAll, ShowsDrive}
 use Rattle.cal_lower.proofs.StableLemmas.{KeepsTexts-trans, cells_kept, cells_numbers, groups_kept, groups_numbers, sets_kept, sets_numbers, source_kept, source_numbers, when_kept, when_numbers}
 

@@ -11,7 +11,7 @@ use Rattle.cal_ast.specs.NoInvoke.{IsPlainDesign}
 use Rattle.cal_ast.specs.Plain.{HasPlainTree}
 use Rattle.cal_ast.specs.Tree.{GroupDef, Component, Design}
 use Rattle.cal_lower.specs.inside.Added.{Additions, extended}
-use Rattle.cal_lower.specs.Lowered.{rule_of, rules_from}
+use Rattle.cal_lower.specs.inside.Lowered.{rule_of, rules_from}
 use Rattle.cal_lower.proofs.ListLemmas.{Each, each_at}
 use Rattle.cal_lower.proofs.ExtendedLemmas.{extended_name}
 use Rattle.cal_lower.proofs.PieceLemmas.{same_name, other_name}

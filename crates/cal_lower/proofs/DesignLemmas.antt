@@ -15,7 +15,7 @@ use Rattle.cal_ast.specs.Tree.{Statement, Enable, Seq, Par, If, While, Invoke, S
 use Rattle.cal_ast.specs.declared.tree.CalComp.{CalComp}
 use Rattle.cal_ast.specs.declared.tree.CalDesign.{CalDesign}
 use Rattle.cal_ast.specs.declared.lowered.ActRule.{ActRule}
-use Rattle.cal_lower.specs.Lowered.{HasFewParts, IsLoweringOf, lowered, rule_of, rules_from}
+use Rattle.cal_lower.specs.inside.Lowered.{HasFewParts, IsLoweringOf, lowered, rule_of, rules_from}
 use Rattle.cal_lower.specs.inside.Making.{ShowRules}
 use Rattle.cal_lower.specs.inside.Shown.{Shows, ShowAll}
 use Rattle.cal_lower.specs.inside.Statements.{CanLowerComponent, HasNoInvoke, HaveNoInvoke, SectionHasNoInvoke}

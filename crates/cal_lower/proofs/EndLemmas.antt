@@ -9,10 +9,10 @@ use Rattle.cal_ast.specs.Plan.{Plan}
 use Rattle.cal_ast.specs.Tree.{PortName}
 use Rattle.cal_ast.specs.declared.tree.CalPort.{CalPort}
 use Rattle.cal_ast.specs.declared.tree.Control.{Control}
-use Rattle.cal_token.specs.Tokens.{Ended, size}
+use Rattle.cal_token.specs.inside.Tokens.{Ended, size}
 use Rattle.cal_walk.specs.Left.{is_over}
-use Rattle.cal_lower.specs.Parts.{ended_guards, none_if_over, part_ends}
-use Rattle.cal_lower.specs.Pieces.{either, has_token}
+use Rattle.cal_lower.specs.inside.Parts.{ended_guards, none_if_over, part_ends}
+use Rattle.cal_lower.specs.inside.Pieces.{either, has_token}
 use Rattle.cal_lower.specs.inside.Shown.{ShowsGuards}
 use Rattle.cal_lower.proofs.SizeLemmas.{item_after, plan, plans, plans_end, plans_next}
 

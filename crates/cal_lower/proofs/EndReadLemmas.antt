@@ -7,10 +7,10 @@ use Rattle.cal_ast.specs.Actors.{Actor}
 use Rattle.cal_ast.specs.Plan.{Plan, Enables, InTurn, AtOnce, Chooses, Repeats, Plans, NoPlans, MorePlans}
 use Rattle.cal_ast.specs.Tree.{PortName}
 use Rattle.cal_walk.specs.Left.{is_over, are_over}
-use Rattle.cal_token.specs.Tokens.{Token, Going, Starting, Ended, Again, size, sizes}
-use Rattle.cal_lower.specs.Pieces.{Piece, Wire, Register, piece, token_name, ends_name, done_name, group_name, shown, has_token, reads, either, both}
-use Rattle.cal_lower.specs.Parts.{none_if_over, part_ends, tested_guard, chooses_nothing, last_part, ended_guards, ends_guard, ended_guard}
-use Rattle.cal_lower.specs.Parts.{with_start, part_pieces, pieces_in_turn, pieces_after, pieces_at_once}
+use Rattle.cal_token.specs.inside.Tokens.{Token, Going, Starting, Ended, Again, size, sizes}
+use Rattle.cal_lower.specs.inside.Pieces.{Piece, Wire, Register, piece, token_name, ends_name, done_name, group_name, shown, has_token, reads, either, both}
+use Rattle.cal_lower.specs.inside.Parts.{none_if_over, part_ends, tested_guard, chooses_nothing, last_part, ended_guards, ends_guard, ended_guard}
+use Rattle.cal_lower.specs.inside.Parts.{with_start, part_pieces, pieces_in_turn, pieces_after, pieces_at_once}
 use Rattle.cal_lower.proofs.BitLemmas.{IsBitGuard, AreBitGuards, EachPort, EachPortIn, any_bits, all_bits, unless_bits, nothing_bits}
 use Rattle.cal_lower.proofs.ListLemmas.{Each, each_append}
 

@@ -17,7 +17,7 @@ use Rattle.cal_ast.specs.Ports.{Input, SidedPin, both_sides, ports_at, port_name
 use Rattle.cal_ast.specs.Sides.{driven_side, IsDestination, IsSource}
 use Rattle.cal_ast.specs.Tree.{port_of, Assignment, CellDef, Absent, Component, Design}
 use Rattle.cal_lower.specs.inside.Added.{Additions, with_added, extended}
-use Rattle.cal_lower.specs.Lowered.{done_set}
+use Rattle.cal_lower.specs.inside.Lowered.{done_set}
 use Rattle.cal_lower.proofs.ListLemmas.{Each}
 
 -- ---- what is asked of what is added

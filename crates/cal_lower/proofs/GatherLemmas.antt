@@ -10,11 +10,11 @@ use Rattle.cal_ast.specs.Numbers.{GuardHasNumbers, PortHasNumbers}
 use Rattle.cal_ast.specs.Plan.{Plan, Chooses, Enables, Repeats}
 use Rattle.cal_ast.specs.Tree.{PortName, port_tree}
 use Rattle.cal_ast.specs.declared.tree.CalPort.{CalPort}
-use Rattle.cal_token.specs.Tokens.{Again, Going, size}
+use Rattle.cal_token.specs.inside.Tokens.{Again, Going, size}
 use Rattle.cal_walk.specs.Left.{is_over}
 use Rattle.cal_lower.specs.inside.Making.{Made, ShowsParts, loop_made, part_made, tests_group, with_made}
-use Rattle.cal_lower.specs.Parts.{again_guard, chooses_nothing, ends_guard, ends_wire, none_if_over, part_ends, part_pieces, tested_guard}
-use Rattle.cal_lower.specs.Pieces.{Piece, Register, any_of, both, either, has_token, piece, reads, token_name}
+use Rattle.cal_lower.specs.inside.Parts.{again_guard, chooses_nothing, ends_guard, ends_wire, none_if_over, part_ends, part_pieces, tested_guard}
+use Rattle.cal_lower.specs.inside.Pieces.{Piece, Register, any_of, both, either, has_token, piece, reads, token_name}
 use Rattle.cal_lower.specs.inside.Shown.{Guards, ShowsActs, ShowsGuard, ShowsGuards, ShowsPieces, ShowsPort, ShowsWanted, more_of, nothing, seen_guard}
 use Rattle.cal_lower.specs.declared.acts.Acts.{Acts}
 use Rattle.cal_lower.specs.declared.pieces.Pieces.{Pieces}

@@ -14,7 +14,7 @@ use Rattle.cal_ast.specs.Ports.{Input, Output, SidedPin, both_sides, ports_at, p
 use Rattle.cal_ast.specs.Sides.{IsDestination, IsSource, ReadsSources}
 use Rattle.cal_ast.specs.Tree.{PortName, port_of, Assignment, Component, Design}
 use Rattle.cal_ast.specs.Typing.{IsWidth, LiteralFits, source_width, GuardAgrees, GuardsAgree, OptionAgrees, WidthsAgree}
-use Rattle.cal_lower.specs.Pieces.{Kind, Wire, Register, Piece, piece_set, enables_piece, piece_sets, shown}
+use Rattle.cal_lower.specs.inside.Pieces.{Kind, Wire, Register, Piece, piece_set, enables_piece, piece_sets, shown}
 use Rattle.cal_lower.proofs.BitLemmas.{IsBitSource, IsBitGuard, AreBitGuards, IsBitOption, bit_ports, IsBitPiece}
 use Rattle.cal_lower.proofs.ListLemmas.{Each}
 use Rattle.cal_lower.proofs.LoweredLemmas.{prim_for}

@@ -17,10 +17,10 @@ use Rattle.cal_ast.specs.Tree.{PortName, DoneLine, GroupDef, Component, Design}
 use Rattle.cal_walk.proofs.WantLemmas.{of_same_actor}
 use Rattle.cal_walk.specs.Left.{is_by}
 use Rattle.cal_token.proofs.TestLemmas.{and_same}
-use Rattle.cal_token.specs.Tokens.{enables_by, tests_by}
-use Rattle.cal_lower.specs.Lowered.{acts_guard}
-use Rattle.cal_lower.specs.Parts.{enabling, testing}
-use Rattle.cal_lower.specs.Pieces.{done_name, start_name, is_set, both, any_of, is_done}
+use Rattle.cal_token.specs.inside.Tokens.{enables_by, tests_by}
+use Rattle.cal_lower.specs.inside.Lowered.{acts_guard}
+use Rattle.cal_lower.specs.inside.Parts.{enabling, testing}
+use Rattle.cal_lower.specs.inside.Pieces.{done_name, start_name, is_set, both, any_of, is_done}
 use Rattle.cal_lower.proofs.ActingLemmas.{enabling_is, testing_is, never_enabled, never_tested}
 use Rattle.cal_lower.proofs.ControlLemmas.{enabled_weaker, tested_weaker, acts_in_test, acts_enabled}
 use Rattle.cal_lower.proofs.GuardLemmas.{or_false, holds_both, holds_any_of}

@@ -12,10 +12,10 @@ use Rattle.cal_ast.specs.Plan.{Plan}
 use Rattle.cal_ast.specs.Tree.{GroupDef, PortName, done_tree, group_tree}
 use Rattle.cal_ast.specs.declared.tree.DoneSet.{DoneSet}
 use Rattle.cal_ast.specs.declared.tree.Group.{Group}
-use Rattle.cal_lower.specs.Lowered.{acts_guard, done_wire, group_pieces}
+use Rattle.cal_lower.specs.inside.Lowered.{acts_guard, done_wire, group_pieces}
 use Rattle.cal_lower.specs.inside.Making.{CanLowerGroup, plan_made}
-use Rattle.cal_lower.specs.Parts.{enabling, testing}
-use Rattle.cal_lower.specs.Pieces.{Piece, Wire, acts_name, any_of, both, done_name, is_done, is_set, start_name}
+use Rattle.cal_lower.specs.inside.Parts.{enabling, testing}
+use Rattle.cal_lower.specs.inside.Pieces.{Piece, Wire, acts_name, any_of, both, done_name, is_done, is_set, start_name}
 use Rattle.cal_lower.specs.inside.Shown.{ShowsPieces, driven, one_when}
 use Rattle.cal_lower.specs.declared.acts.Acts.{Acts}
 use Rattle.cal_lower.specs.declared.pieces.Pieces.{Pieces}

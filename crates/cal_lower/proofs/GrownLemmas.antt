@@ -13,7 +13,7 @@ use Rattle.cal_ast.specs.Tree.{PortName, assignment_tree, cell_tree, port_tree}
 use Rattle.cal_ast.specs.declared.tree.CalPort.{CalPort}
 use Rattle.cal_lower.specs.inside.Labels.{AreTexts, KeepsLabels}
 use Rattle.cal_lower.specs.inside.Making.{Made, ShowsParts}
-use Rattle.cal_lower.specs.Pieces.{Piece}
+use Rattle.cal_lower.specs.inside.Pieces.{Piece}
 use Rattle.cal_lower.specs.inside.Shown.{Guards, Shows, ShowAll, ShowsActs, ShowsName, ShowsPieces, ShowsPort, ShowsWanted, seen_guard}
 use Rattle.cal_lower.specs.declared.acts.Acts.{Acts}
 use Rattle.cal_lower.specs.declared.acts.Wanted.{Wanted}

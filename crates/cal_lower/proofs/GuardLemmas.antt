@@ -5,8 +5,8 @@ use Rattle.std.proofs.lemmas.Bool.{and_right}
 use Rattle.net_core.specs.Guard.{GuardTree, Negates, holds, any_holds, all_hold, guards_of}
 use Rattle.cal_ast.specs.Tree.{PortName}
 use Rattle.cal_token.proofs.TestLemmas.{and_true}
-use Rattle.cal_lower.specs.Pieces.{reads, either, both, any_of, all_of}
-use Rattle.cal_lower.specs.Parts.{chooses_nothing}
+use Rattle.cal_lower.specs.inside.Pieces.{reads, either, both, any_of, all_of}
+use Rattle.cal_lower.specs.inside.Parts.{chooses_nothing}
 
 pub or_false : (b : Bool) → (b || false) ≡ b
 or_false true = refl

@@ -18,7 +18,7 @@ use Rattle.cal_group.proofs.EdgeLemmas.{own_is_group}
 use Rattle.cal_group.proofs.ItemCases.{statement_case}
 use Rattle.cal_group.proofs.MappedLemmas.{KeepsFaces, part_in-mapped}
 use Rattle.cal_lower.specs.inside.Added.{Additions, extended}
-use Rattle.cal_lower.specs.Lowered.{rules_from}
+use Rattle.cal_lower.specs.inside.Lowered.{rules_from}
 use Rattle.cal_lower.proofs.ExtendedLemmas.{AreOfPrimitives, answer, extended_absent, extended_groups, part_kept}
 use Rattle.cal_lower.proofs.RuleLemmas.{when_extended}
 

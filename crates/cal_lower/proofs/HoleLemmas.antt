@@ -12,9 +12,9 @@ use Rattle.cal_ast.specs.Ports.{is_bare}
 use Rattle.cal_ast.specs.Rules.{HasNoLoops}
 use Rattle.cal_ast.specs.Tree.{PortName, GroupDef, Component, Design}
 use Rattle.cal_lower.specs.inside.Added.{Additions, extended}
-use Rattle.cal_lower.specs.Laws.{LoweringsAreHoles}
-use Rattle.cal_lower.specs.Lowered.{lowered, rules_from, HasFewParts}
-use Rattle.cal_lower.specs.Pieces.{acts_name, is_set, never}
+use Rattle.cal_lower.specs.inside.Laws.{LoweringsAreHoles}
+use Rattle.cal_lower.specs.inside.Lowered.{lowered, rules_from, HasFewParts}
+use Rattle.cal_lower.specs.inside.Pieces.{acts_name, is_set, never}
 use Rattle.cal_lower.proofs.CountLemmas.{one_rule}
 use Rattle.cal_lower.proofs.ExtendedLemmas.{AreOfPrimitives, AreNamed, answer, extended_is_bare, extended_groups}
 use Rattle.cal_lower.proofs.GoodLemmas.{guard_from_bits}

@@ -19,8 +19,8 @@ use Rattle.cal_ast.specs.declared.tree.Group.{Group}
 use Rattle.cal_walk.specs.Left.{is_over}
 use Rattle.cal_lower.specs.inside.Labels.{KeepsLabels}
 use Rattle.cal_lower.specs.inside.Making.{CanLowerGroup, Made, ShowsParts, ShowsPlan, part_made, plan_made, with_made}
-use Rattle.cal_lower.specs.Parts.{part_pieces}
-use Rattle.cal_lower.specs.Pieces.{Piece, is_set, start_name}
+use Rattle.cal_lower.specs.inside.Parts.{part_pieces}
+use Rattle.cal_lower.specs.inside.Pieces.{Piece, is_set, start_name}
 use Rattle.cal_lower.specs.inside.Shown.{ShowsGuard, ShowsGuards, seen_guard}
 use Rattle.cal_lower.specs.inside.Statements.{CanLowerComponent, CanLowerSection}
 use Rattle.cal_lower.specs.declared.acts.Acts.{Acts}

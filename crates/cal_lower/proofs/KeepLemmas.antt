@@ -5,8 +5,8 @@ use Rattle.std.proofs.lemmas.List.Elements.{All-contains}
 use Rattle.cal_ast.proofs.InstanceLemmas.{component_at-design}
 use Rattle.cal_ast.specs.Holes.{ActivityRule}
 use Rattle.cal_ast.specs.Tree.{Component, Design}
-use Rattle.cal_lower.specs.Laws.{KeepsRunsFromEach, LoweringsKeepRuns}
-use Rattle.cal_lower.specs.Lowered.{lowered, HasFewParts}
+use Rattle.cal_lower.specs.inside.Laws.{KeepsRunsFromEach, LoweringsKeepRuns}
+use Rattle.cal_lower.specs.inside.Lowered.{lowered, HasFewParts}
 use Rattle.cal_lower.proofs.ActsLemmas.{control_followed}
 use Rattle.cal_lower.proofs.LoweredLemmas.{tokens, tokens_made}
 use Rattle.cal_lower.proofs.RunKeptLemmas.{FollowsControl, runs_kept}

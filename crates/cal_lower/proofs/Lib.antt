@@ -61,3 +61,7 @@ pub mod CopiedLemmas
 pub mod GroupPieceLemmas
 pub mod InstanceLemmas
 pub mod ComponentLemmas
+pub mod WrittenNames
+pub mod WrittenGuards
+pub mod WrittenPieces
+pub mod ReplacesLemmas

@@ -10,8 +10,8 @@ use Rattle.cal_ast.specs.NoInvoke.{IsPlainDesign}
 use Rattle.cal_ast.specs.Plain.{HasPlainTree}
 use Rattle.cal_ast.specs.Rules.{HasNoLoops}
 use Rattle.cal_ast.specs.Tree.{PortName, own, Component, Design}
-use Rattle.cal_ast.specs.Wires.{ReadsByAssignment, ReadsByDone, ReadsByGo, ReadsByPrimitive, CrossesCell, ReadsPort, ByAssignment, ByDone, ByGo, ByPrimitive, ByComponent, Reaches, AtOnce, Over, ReadsAlong, HasNoLoop}
-use Rattle.cal_lower.specs.Lowered.{HasFewParts, lowered, rules_from}
+use Rattle.cal_ast.specs.Wires.{ReadsByAssignment, ReadsByDone, ReadsByGo, ReadsByPrimitive, CrossesCell, ReadsPort, ByAssignment, ByDone, ByGo, ByPrimitive, ByComponent, Reaches, Straight, Over, ReadsAlong, HasNoLoop}
+use Rattle.cal_lower.specs.inside.Lowered.{HasFewParts, lowered, rules_from}
 use Rattle.cal_lower.proofs.AnswerReadLemmas.{Stands, Onward, Apart, enters_on, enters_piece, set_on, done_line_on, go_on, primitive_on, part_on, read_falls}
 use Rattle.cal_lower.proofs.ExtendedLemmas.{HasPlace}
 use Rattle.cal_lower.proofs.GuardedLemmas.{whole, built}
@@ -22,11 +22,11 @@ use Rattle.cal_lower.proofs.RankLemmas.{Falls, falls_on, falls_not}
 
 module _ (design : Design) where
   reach_join : (c : Component) (p q r : PortName) → Reaches design c p q → Reaches design c q r → Reaches design c p r
-  reach_join c p q r (AtOnce d p' q' reads) later = Over d p' q' r reads later
+  reach_join c p q r (Straight d p' q' reads) later = Over d p' q' r reads later
   reach_join c p q r (Over d p' between q' reads rest) later = Over d p' between r reads (reach_join d between q' r rest later)
 
   along_reaches : (c : Component) (first : PortName) (others : List PortName) (back : PortName) → ReadsAlong design c (first ∷ others) back → Reaches design c first back
-  along_reaches c first [] back along = AtOnce c first back along
+  along_reaches c first [] back along = Straight c first back along
   along_reaches c first (next ∷ others) back along = Over c first next back along.0 (along_reaches c next others back along.1)
 
   -- the port itself, or one that it reaches
@@ -51,7 +51,7 @@ module _ (source : Design) (tree : HasPlainTree source) (plain : IsPlainDesign s
   -- ---- over a port of the source
 
   arrive : (c : Component) → Contains source c → (o q : PortName) → HasPlace source c q.cell → Onward source c o q → Reaches source c o q
-  arrive c has o q place (inl (reads, there)) = AtOnce c o q reads
+  arrive c has o q place (inl (reads, there)) = Straight c o q reads
   arrive c has o q place (inr (full, enters)) = absurd (enters_piece source tree plain all_few c has full o q enters place)
 
   go_over : (c : Component) (o between q : PortName) → Onward source c o between → ((from : PortName) → Stands source c from between → Reaches source c from q) → Reaches source c o q
@@ -80,7 +80,7 @@ module _ (source : Design) (tree : HasPlainTree source) (plain : IsPlainDesign s
 
     reach_on : (d : Component) (p q : PortName) → Reaches answer d p q → (c : Component) → Contains source c → answered c ≡ d → (o : PortName) → Stands source c o p
         → HasPlace source c q.cell → Reaches source c o q
-    reach_on d p q (AtOnce x p' q' r) c has same o stands place =
+    reach_on d p q (Straight x p' q' r) c has same o stands place =
         arrive c has o q' place (next c has x same o p' q' r (λ there. read_on x p' q' r c has same there) stands)
     reach_on d p q (Over x p' between q' r rest) c has same o stands place =
         go_over c o between q' (next c has x same o p' between r (λ there. read_on x p' between r c has same there) stands)
@@ -93,8 +93,8 @@ module _ (source : Design) (tree : HasPlainTree source) (plain : IsPlainDesign s
   Passes c p q = (s : PortName) × HasPlace source c s.cell × ReachesOrIs answer (answered c) p s × ReachesOrIs answer (answered c) s q
 
   first_step : (c : Component) (has : Contains source c) (p q : PortName) → ReadsPort answer (answered c) p q → Apart source tree plain all_few c has p q → Passes c p q ⊎ Falls p q
-  first_step c has p q reads (inl (inl place)) = inl (p, place, inl refl, inr (AtOnce (answered c) p q reads))
-  first_step c has p q reads (inl (inr place)) = inl (q, place, inr (AtOnce (answered c) p q reads), inl refl)
+  first_step c has p q reads (inl (inl place)) = inl (p, place, inl refl, inr (Straight (answered c) p q reads))
+  first_step c has p q reads (inl (inr place)) = inl (q, place, inr (Straight (answered c) p q reads), inl refl)
   first_step c has p q reads (inr falls) = inr falls
 
   more_steps : (c : Component) (p between q : PortName) → ReadsPort answer (answered c) p between → Reaches answer (answered c) between q
@@ -102,11 +102,11 @@ module _ (source : Design) (tree : HasPlainTree source) (plain : IsPlainDesign s
   more_steps c p between q reads rest (inl (s, place, to, from)) later =
       inl (s, place, to, inr (reach_from answer (answered c) s between q from rest))
   more_steps c p between q reads rest (inr falls) (inl (s, place, to, from)) =
-      inl (s, place, inr (reach_to answer (answered c) p between s (AtOnce (answered c) p between reads) to), from)
+      inl (s, place, inr (reach_to answer (answered c) p between s (Straight (answered c) p between reads) to), from)
   more_steps c p between q reads rest (inr falls) (inr further) = inr (falls_on p between q falls further)
 
   passes : (c : Component) → Contains source c → (d : Component) (p q : PortName) → Reaches answer d p q → answered c ≡ d → Passes c p q ⊎ Falls p q
-  passes c has d p q (AtOnce x p' q' r) same =
+  passes c has d p q (Straight x p' q' r) same =
       let reads = subst (λ (y : Component). ReadsPort answer y p' q') (sym same) r in
       first_step c has p' q' reads (read_falls source tree plain all_few c has p' q' reads)
   passes c has d p q (Over x p' between q' r rest) same =

@@ -11,8 +11,8 @@ use Rattle.cal_ast.proofs.ListLemmas.{Contains-from_map, Contains-none, find-Som
 use Rattle.cal_ast.specs.Ports.{is_bare, cell_named, primitive_of}
 use Rattle.cal_ast.specs.Tree.{CellDef, Component}
 use Rattle.cal_lower.specs.inside.Added.{Additions}
-use Rattle.cal_lower.specs.Lowered.{control_pieces}
-use Rattle.cal_lower.specs.Pieces.{Kind, Wire, Register, Piece, made_by, piece_cell, piece_sets}
+use Rattle.cal_lower.specs.inside.Lowered.{control_pieces}
+use Rattle.cal_lower.specs.inside.Pieces.{Kind, Wire, Register, Piece, made_by, piece_cell, piece_sets}
 use Rattle.cal_lower.proofs.ExtendedLemmas.{AreOfPrimitives, added_cells}
 
 -- wires and registers, with what drives them

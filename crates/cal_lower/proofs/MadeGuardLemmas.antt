@@ -16,7 +16,7 @@ use Rattle.net_core.specs.declared.net.Src.TheVariants.{Port, Lit}
 use Rattle.cal_ast.specs.Numbers.{SourceHasNumbers, GuardHasNumbers, GuardsHaveNumbers}
 use Rattle.cal_ast.specs.Tree.{PortName, port_tree}
 use Rattle.cal_ast.specs.declared.tree.CalPort.{CalPort}
-use Rattle.cal_lower.specs.Pieces.{all_of, any_of, both, either, reads}
+use Rattle.cal_lower.specs.inside.Pieces.{all_of, any_of, both, either, reads}
 use Rattle.cal_lower.specs.inside.Shown.{ShowsGuard, ShowsGuards, ShowsPort, seen_guard}
 use Rattle.cal_lower.proofs.StableLemmas.{KeepsTexts-refl}
 

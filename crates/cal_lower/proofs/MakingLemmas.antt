@@ -7,13 +7,13 @@ use Rattle.net_core.specs.Guard.{GuardTree, Negates}
 use Rattle.cal_ast.specs.Actors.{Actor, GroupNamed}
 use Rattle.cal_ast.specs.Plan.{Plan, Enables, InTurn, AtOnce, Chooses, Repeats, Plans, NoPlans, MorePlans}
 use Rattle.cal_ast.specs.Tree.{PortName}
-use Rattle.cal_token.specs.Tokens.{Going, Starting, Ended, size}
+use Rattle.cal_token.specs.inside.Tokens.{Going, Starting, Ended, size}
 use Rattle.cal_walk.specs.Left.{is_over}
 use Rattle.cal_lower.specs.inside.Making.{Made, ShowsParts, with_made, part_made, later_made, in_turn_made, after_made, at_once_made, turn_made, choice_made, loop_made}
-use Rattle.cal_lower.specs.Parts.{part_ends, part_pieces, ends_wire, with_start, ended_guard, pieces_in_turn, pieces_after, pieces_at_once}
-use Rattle.cal_lower.specs.Parts.{enabling, enabling_in_turn, enabling_after, enabling_at_once}
-use Rattle.cal_lower.specs.Parts.{testing, testing_in_turn, testing_after, testing_at_once}
-use Rattle.cal_lower.specs.Pieces.{Piece, Register, piece, token_name, both, either, has_token, reads}
+use Rattle.cal_lower.specs.inside.Parts.{part_ends, part_pieces, ends_wire, with_start, ended_guard, pieces_in_turn, pieces_after, pieces_at_once}
+use Rattle.cal_lower.specs.inside.Parts.{enabling, enabling_in_turn, enabling_after, enabling_at_once}
+use Rattle.cal_lower.specs.inside.Parts.{testing, testing_in_turn, testing_after, testing_at_once}
+use Rattle.cal_lower.specs.inside.Pieces.{Piece, Register, piece, token_name, both, either, has_token, reads}
 use Rattle.cal_lower.specs.inside.Shown.{ShowsPieces, ShowsWanted, more_of, nothing}
 use Rattle.cal_lower.specs.declared.made.Parts.{Parts}
 

@@ -8,7 +8,7 @@ use Rattle.hw_prims.specs.Table.{is_primitive}
 use Rattle.cal_ast.proofs.ItemLemmas.{new_cell}
 use Rattle.cal_ast.proofs.ListLemmas.{place_of, Contains-at, Contains-none, Contains-cases_first, Contains-map}
 use Rattle.cal_ast.proofs.SideLemmas.{some_found}
-use Rattle.cal_ast.specs.Naming.{AnyName, IsReserved, Reaches, Itself, Over, cell_names, component_names}
+use Rattle.cal_ast.specs.Naming.{AnyName, IsReserved, Involves, Itself, Over, cell_names, component_names}
 use Rattle.cal_ast.specs.NoInvoke.{IsPlainDesign}
 use Rattle.cal_ast.specs.Plain.{HasPlainTree}
 use Rattle.cal_ast.specs.Ports.{is_bare, component_named, part_of}
@@ -86,7 +86,7 @@ module _ (add : Additions) (source : Design) (tree : HasPlainTree source) (plain
 
 module _ (add : Additions) (primitive : AreOfPrimitives add) (source : Design) where
   -- what an extended component reaches, its source does
-  pub reach_back : (name : Text) (d : Component) → Reaches (answer add source) name d → (c : Component) → extended add c ≡ d → Reaches source name c
+  pub reach_back : (name : Text) (d : Component) → Involves (answer add source) name d → (c : Component) → extended add c ≡ d → Involves source name c
   reach_back name d (Itself _ same) c is = Itself c (sym (extended_name add c) ∙ ap (λ (x : Component). x.name) is ∙ same)
   reach_back name d (Over _ part cell has made rest) c is =
       let C : Component → Type 0 = λ x. Contains x.cells cell in

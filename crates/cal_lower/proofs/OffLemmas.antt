@@ -5,12 +5,12 @@ use Rattle.net_core.specs.Guard.{GuardTree, Negates}
 use Rattle.cal_ast.specs.Plan.{Plan, Enables, InTurn, AtOnce, Chooses, Repeats, Plans, NoPlans, MorePlans}
 use Rattle.cal_ast.specs.Tree.{PortName}
 use Rattle.cal_walk.specs.Left.{is_over}
-use Rattle.cal_token.specs.Coming.{IsOff, FirstIsOff, OthersAreOff, AllAreOff, IsLaterOff}
-use Rattle.cal_token.specs.Tokens.{Token, Starting, Ended, size}
+use Rattle.cal_token.specs.inside.Coming.{IsOff, FirstIsOff, OthersAreOff, AllAreOff, IsLaterOff}
+use Rattle.cal_token.specs.inside.Tokens.{Token, Starting, Ended, size}
 use Rattle.cal_token.proofs.StartLemmas.{with_none, with_start as starts_with}
 use Rattle.cal_token.proofs.TestLemmas.{at_true, at_false}
-use Rattle.cal_lower.specs.Pieces.{Piece, Kind, Wire, Register, piece, token_name, has_token, reads, both}
-use Rattle.cal_lower.specs.Parts.{none_if_over, part_ends, tested_guard, ended_guard, with_start, part_pieces, pieces_in_turn, pieces_after, pieces_at_once}
+use Rattle.cal_lower.specs.inside.Pieces.{Piece, Kind, Wire, Register, piece, token_name, has_token, reads, both}
+use Rattle.cal_lower.specs.inside.Parts.{none_if_over, part_ends, tested_guard, ended_guard, with_start, part_pieces, pieces_in_turn, pieces_after, pieces_at_once}
 use Rattle.cal_lower.proofs.ListLemmas.{Each, each_left, each_right}
 use Rattle.cal_lower.proofs.PartLemmas.{shows_bit, tokens_in}
 

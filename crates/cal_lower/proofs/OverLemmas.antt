@@ -6,8 +6,8 @@ use Rattle.cal_ast.specs.Actors.{Actor}
 use Rattle.cal_ast.specs.Plan.{Plan, Enables, InTurn, AtOnce, Chooses, Repeats, Plans, NoPlans, MorePlans}
 use Rattle.cal_ast.specs.Tree.{PortName}
 use Rattle.cal_walk.specs.Left.{is_over, are_over}
-use Rattle.cal_token.specs.Tokens.{size}
-use Rattle.cal_lower.specs.Parts.{enabling, enabling_in_turn, enabling_after, enabling_at_once, testing, testing_in_turn, testing_after, testing_at_once}
+use Rattle.cal_token.specs.inside.Tokens.{size}
+use Rattle.cal_lower.specs.inside.Parts.{enabling, enabling_in_turn, enabling_after, enabling_at_once, testing, testing_in_turn, testing_after, testing_at_once}
 
 mutual
   pub over_enabling : (k : ℕ) (p : Plan) (start : GuardTree PortName) (actor : Actor) → is_over p ≡ true → enabling k p start actor ≡ []

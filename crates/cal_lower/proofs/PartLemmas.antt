@@ -8,13 +8,13 @@ use Rattle.cal_ast.specs.Actors.{Actor}
 use Rattle.cal_ast.specs.Plan.{Plan, Enables, InTurn, AtOnce, Chooses, Repeats, Plans, NoPlans, MorePlans}
 use Rattle.cal_ast.specs.Tree.{PortName}
 use Rattle.cal_walk.specs.Left.{Sight, is_over, are_over}
-use Rattle.cal_token.specs.Tokens.{Token, Going, Starting, Ended, Again, size, is_tested, ends, ends_in_turn, the_last_ends, have_ended, ends_later}
-use Rattle.cal_token.specs.Tokens.{Steps, StepInTurn, OthersStep, StepAtOnce, StepsLater}
+use Rattle.cal_token.specs.inside.Tokens.{Token, Going, Starting, Ended, Again, size, is_tested, ends, ends_in_turn, the_last_ends, have_ended, ends_later}
+use Rattle.cal_token.specs.inside.Tokens.{Steps, StepInTurn, OthersStep, StepAtOnce, StepsLater}
 use Rattle.cal_token.proofs.StartLemmas.{with_none, with_start as starts_with}
 use Rattle.cal_token.proofs.TestLemmas.{and_true, or_same, and_same, at_true, at_false}
-use Rattle.cal_lower.specs.Pieces.{Piece, Kind, Wire, Register, piece, token_name, ends_name, shown, has_token, reads, either, both, is_done}
-use Rattle.cal_lower.specs.Parts.{none_if_over, part_ends, tested_guard, chooses_nothing, last_part, ended_guards, ends_guard, again_guard, ended_guard}
-use Rattle.cal_lower.specs.Parts.{ends_wire, with_start, part_pieces, pieces_in_turn, pieces_after, pieces_at_once}
+use Rattle.cal_lower.specs.inside.Pieces.{Piece, Kind, Wire, Register, piece, token_name, ends_name, shown, has_token, reads, either, both, is_done}
+use Rattle.cal_lower.specs.inside.Parts.{none_if_over, part_ends, tested_guard, chooses_nothing, last_part, ended_guards, ends_guard, again_guard, ended_guard}
+use Rattle.cal_lower.specs.inside.Parts.{ends_wire, with_start, part_pieces, pieces_in_turn, pieces_after, pieces_at_once}
 use Rattle.cal_lower.proofs.GuardLemmas.{or_false, any_true, all_true, holds_either, holds_both, holds_any_of, holds_all_of, any_true-append, any_nothing}
 use Rattle.cal_lower.proofs.ListLemmas.{Each, each_left, each_right}
 

@@ -16,10 +16,10 @@ use Rattle.cal_ast.specs.Plan.{Plan, plan_of}
 use Rattle.cal_ast.specs.Ports.{cell_named}
 use Rattle.cal_ast.specs.Tree.{PortName, port_of, DoneLine, GroupDef, Component, Design}
 use Rattle.cal_walk.specs.Left.{is_over}
-use Rattle.cal_token.specs.Tokens.{size}
-use Rattle.cal_lower.specs.Lowered.{acts_wire, done_wire, group_pieces, instance_pieces, plan_pieces, control_pieces}
-use Rattle.cal_lower.specs.Parts.{part_pieces}
-use Rattle.cal_lower.specs.Pieces.{Kind, Wire, Register, Piece, piece_cell, piece_set, enables_piece, piece_sets, acts_name, done_name, start_name, is_set}
+use Rattle.cal_token.specs.inside.Tokens.{size}
+use Rattle.cal_lower.specs.inside.Lowered.{acts_wire, done_wire, group_pieces, instance_pieces, plan_pieces, control_pieces}
+use Rattle.cal_lower.specs.inside.Parts.{part_pieces}
+use Rattle.cal_lower.specs.inside.Pieces.{Kind, Wire, Register, Piece, piece_cell, piece_set, enables_piece, piece_sets, acts_name, done_name, start_name, is_set}
 use Rattle.cal_lower.proofs.ListLemmas.{Each, each_append, each_weaker, each_from, each_at, each_flat_map, each_both}
 use Rattle.cal_lower.proofs.LocalLemmas.{IsOfOther, local_values-append, local_values-none, local_values-one}
 use Rattle.cal_lower.proofs.PlaceLemmas.{Apart, apart_append, third, is_letter, plan_apart, plan_letters, plan_reserved}

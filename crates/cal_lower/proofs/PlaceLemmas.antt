@@ -8,9 +8,9 @@ use Rattle.cal_ast.specs.Naming.{IsReserved}
 use Rattle.cal_ast.specs.Plan.{Plan, Enables, InTurn, AtOnce, Chooses, Repeats, Plans, NoPlans, MorePlans}
 use Rattle.cal_ast.specs.Tree.{PortName}
 use Rattle.cal_walk.specs.Left.{is_over}
-use Rattle.cal_token.specs.Tokens.{Token, Going, Starting, Ended, Again, size, sizes}
-use Rattle.cal_lower.specs.Pieces.{Piece, Register, piece, token_name, ends_name, has_token, reads, either, both, is_done}
-use Rattle.cal_lower.specs.Parts.{none_if_over, part_ends, tested_guard, ended_guard, again_guard, ends_wire, with_start, part_pieces, pieces_in_turn, pieces_after, pieces_at_once}
+use Rattle.cal_token.specs.inside.Tokens.{Token, Going, Starting, Ended, Again, size, sizes}
+use Rattle.cal_lower.specs.inside.Pieces.{Piece, Register, piece, token_name, ends_name, has_token, reads, either, both, is_done}
+use Rattle.cal_lower.specs.inside.Parts.{none_if_over, part_ends, tested_guard, ended_guard, again_guard, ends_wire, with_start, part_pieces, pieces_in_turn, pieces_after, pieces_at_once}
 use Rattle.cal_lower.proofs.ListLemmas.{Each, each_append, each_weaker}
 
 -- ---- names that are apart

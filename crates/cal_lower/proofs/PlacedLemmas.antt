@@ -24,11 +24,11 @@ use Rattle.cal_ast.specs.Statement.{IfCondition}
 use Rattle.cal_ast.specs.Tree.{PortName, port_of, Assignment, DoneLine, GroupDef, Statement, Enable, Seq, Par, If, While, Invoke, Component, Design}
 use Rattle.cal_ast.specs.Wires.{IsAssignmentOf, set_ports, done_ports}
 use Rattle.cal_group.proofs.EdgeLemmas.{own_is_group}
-use Rattle.cal_token.specs.Tokens.{Token, size}
+use Rattle.cal_token.specs.inside.Tokens.{Token, size}
 use Rattle.cal_walk.specs.Left.{is_over}
-use Rattle.cal_lower.specs.Lowered.{acts_guard, acts_wire, done_wire, group_pieces, control_ends, start_guard, instance_pieces, plan_pieces, control_pieces}
-use Rattle.cal_lower.specs.Parts.{part_ends, part_pieces, enabling, testing}
-use Rattle.cal_lower.specs.Pieces.{Piece, Wire, Register, piece, piece_set, token_name, ends_name, acts_name, done_name, start_name, busy_name, shown, is_set, either, both, any_of, is_done}
+use Rattle.cal_lower.specs.inside.Lowered.{acts_guard, acts_wire, done_wire, group_pieces, control_ends, start_guard, instance_pieces, plan_pieces, control_pieces}
+use Rattle.cal_lower.specs.inside.Parts.{part_ends, part_pieces, enabling, testing}
+use Rattle.cal_lower.specs.inside.Pieces.{Piece, Wire, Register, piece, piece_set, token_name, ends_name, acts_name, done_name, start_name, busy_name, shown, is_set, either, both, any_of, is_done}
 use Rattle.cal_lower.proofs.ActsReadLemmas.{enabling_reads, testing_reads}
 use Rattle.cal_lower.proofs.BitLemmas.{IsBitSource, IsBitGuard, IsBitOption, IsBitPiece, IsNamed, IsDoneSeen, EachPort, bit_ports, any_bits, part_bits}
 use Rattle.cal_lower.proofs.ConditionLemmas.{section_ports}

@@ -12,18 +12,17 @@ use Rattle.cal_ast.proofs.ItemLemmas.{done_names_known}
 use Rattle.cal_ast.proofs.ListLemmas.{place_of, Contains-here, Contains-there}
 use Rattle.cal_ast.specs.Naming.{AnyName}
 use Rattle.cal_ast.specs.NoInvoke.{IsPlainDesign}
-use Rattle.cal_ast.specs.Plain.{IsPlainPin, IsPlainCell, IsPlainComponent, HasPlainTree}
+use Rattle.cal_ast.specs.Plain.{IsPlainPin, IsPlainCell, IsPlainComponent, HasPlainTree, IsPlainGroup, AreGroupsPlain, HasPlainGroups}
 use Rattle.cal_ast.specs.Plan.{plan_of}
 use Rattle.cal_ast.specs.Ports.{is_bare, has_pin, with_pin}
 use Rattle.cal_ast.specs.Tree.{CellDef, DoneLine, GroupDef, Component, Design}
-use Rattle.cal_group.specs.Laws.{IsPlainGroup, AreGroupsPlain, HasPlainGroups}
-use Rattle.cal_token.specs.Tokens.{Going, Starting, Ended, Again, size}
+use Rattle.cal_token.specs.inside.Tokens.{Going, Starting, Ended, Again, size}
 use Rattle.cal_walk.specs.Left.{is_over}
 use Rattle.cal_lower.specs.inside.Added.{Additions, extended}
-use Rattle.cal_lower.specs.Laws.{LoweringsArePlain}
-use Rattle.cal_lower.specs.Lowered.{done_wire, group_pieces, instance_pieces, plan_pieces, control_pieces, HasFewParts}
-use Rattle.cal_lower.specs.Parts.{part_pieces}
-use Rattle.cal_lower.specs.Pieces.{Piece, piece_cell, done_name, start_name, is_set}
+use Rattle.cal_lower.specs.inside.Laws.{LoweringsArePlain}
+use Rattle.cal_lower.specs.inside.Lowered.{done_wire, group_pieces, instance_pieces, plan_pieces, control_pieces, HasFewParts}
+use Rattle.cal_lower.specs.inside.Parts.{part_pieces}
+use Rattle.cal_lower.specs.inside.Pieces.{Piece, piece_cell, done_name, start_name, is_set}
 use Rattle.cal_lower.proofs.ExtendedLemmas.{answer, extended_ins, extended_outs, extended_cells, added_cells}
 use Rattle.cal_lower.proofs.ListLemmas.{Each, each_append, each_from, each_map, each_flat_map}
 use Rattle.cal_lower.proofs.LoweredLemmas.{tokens}

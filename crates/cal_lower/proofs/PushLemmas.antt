@@ -13,7 +13,7 @@ use Rattle.cal_ast.specs.declared.tree.Assign.{Assign}
 use Rattle.cal_ast.specs.declared.tree.CalCell.{CalCell}
 use Rattle.cal_ast.specs.declared.tree.CalPort.{CalPort}
 use Rattle.cal_lower.specs.inside.Labels.{AreTexts}
-use Rattle.cal_lower.specs.Pieces.{Kind, Wire, Register, Piece, enables_piece, made_by, piece_cell, piece_set, piece_sets}
+use Rattle.cal_lower.specs.inside.Pieces.{Kind, Wire, Register, Piece, enables_piece, made_by, piece_cell, piece_set, piece_sets}
 use Rattle.cal_lower.specs.inside.Shown.{DriveTree, Shows, ShowAll, ShowsDrive, ShowsGuard, ShowsName, ShowsPieces, ShowsPort, ShowsSets, driven, one_when}
 use Rattle.cal_lower.specs.declared.labels.Texts.{Texts}
 use Rattle.cal_lower.specs.declared.pieces.Drive.{Drive}

@@ -6,8 +6,8 @@ use Rattle.std.proofs.lemmas.Option.{same_Some}
 use Rattle.hw_names.specs.Name.{Text}
 use Rattle.cal_ast.specs.Naming.{IsReserved}
 use Rattle.cal_ast.specs.Tree.{PortName, port_of}
-use Rattle.cal_token.specs.Tokens.{Token, Going, Starting, Ended, Again}
-use Rattle.cal_lower.specs.Pieces.{token_name, ends_name, busy_name, over_name, shown}
+use Rattle.cal_token.specs.inside.Tokens.{Token, Going, Starting, Ended, Again}
+use Rattle.cal_lower.specs.inside.Pieces.{token_name, ends_name, busy_name, over_name, shown}
 use Rattle.cal_lower.proofs.PlaceLemmas.{third}
 
 -- ---- ranks by letters

@@ -17,8 +17,8 @@ use Rattle.cal_ast.specs.Ports.{is_bare}
 use Rattle.cal_ast.specs.Rules.{C1}
 use Rattle.cal_ast.specs.Tree.{PortName, GroupDef, Component, Design}
 use Rattle.cal_lower.specs.inside.Added.{Additions, extended}
-use Rattle.cal_lower.specs.Lowered.{rule_of, rules_from}
-use Rattle.cal_lower.specs.Pieces.{acts_name, is_set, never}
+use Rattle.cal_lower.specs.inside.Lowered.{rule_of, rules_from}
+use Rattle.cal_lower.specs.inside.Pieces.{acts_name, is_set, never}
 use Rattle.cal_lower.proofs.ExtendedLemmas.{extended_name}
 use Rattle.cal_lower.proofs.SourceLemmas.{Contains-before}
 

@@ -11,7 +11,7 @@ use Rattle.cal_ast.proofs.ItemLemmas.{has_widths, known_cell, has_parameters, na
 use Rattle.cal_ast.proofs.ListLemmas.{place_of, Contains-at, Contains-none, Contains-cases_first}
 use Rattle.cal_ast.proofs.SideLemmas.{output_destination, some_found}
 use Rattle.cal_ast.specs.Items.{Item, TheSignature, TheGroup, TheAssignment, TheDone, items_of}
-use Rattle.cal_ast.specs.Naming.{AnyName, Unreserved, HasNewNames, IsKnownCell, IsKnownPort, Reaches, component_names, group_names}
+use Rattle.cal_ast.specs.Naming.{AnyName, Unreserved, HasNewNames, IsKnownCell, IsKnownPort, Involves, component_names, group_names}
 use Rattle.cal_ast.specs.NoInvoke.{IsPlainDesign}
 use Rattle.cal_ast.specs.Plain.{HasPlainTree}
 use Rattle.cal_ast.specs.Ports.{is_bare, outputs_in, has_pin, with_pin, SidedPin, port_in, width_in}
@@ -20,8 +20,8 @@ use Rattle.cal_ast.specs.Sides.{IsSource}
 use Rattle.cal_ast.specs.Tree.{own, CellDef, Assignment, GroupDef, Component, Design}
 use Rattle.cal_ast.specs.Typing.{HasParameters, HasWidth, HasWidths}
 use Rattle.cal_lower.specs.inside.Added.{Additions, extended}
-use Rattle.cal_lower.specs.Lowered.{done_set}
-use Rattle.cal_lower.specs.Pieces.{acts_name, shown, over_name}
+use Rattle.cal_lower.specs.inside.Lowered.{done_set}
+use Rattle.cal_lower.specs.inside.Pieces.{acts_name, shown, over_name}
 use Rattle.cal_lower.proofs.ExtendedLemmas.{AreOfPrimitives, AreNamed, answer, extended_bare, extended_is_bare, extended_name, extended_groups, extended_ins, extended_outs, extended_inputs, extended_outputs, extended_absent, extended_sets, extended_cells, added_cells, added_made, added_is_primitive, part_of-extended}
 use Rattle.cal_lower.proofs.GoodLemmas.{IsGoodSet, IsBitPort, is_width_one}
 use Rattle.cal_lower.proofs.ItemPlaceLemmas.{IsPlace, Signs, HasCell, HasGroup, Assigns, AssignsIn, IsDone, place_of_item}
@@ -97,7 +97,7 @@ module _ (add : Additions) (primitive : AreOfPrimitives add) (source : Design) (
                   extended add part,
                   part_of-extended add primitive source cell ∙ ap (option_map (extended add)) is,
                   λ reaches.
-                      let R : Text → Type 0 = λ x. Reaches low x (extended add part) in
+                      let R : Text → Type 0 = λ x. Involves low x (extended add part) in
                       none (reach_back add primitive source c.name (extended add part) (subst R (extended_name add c) reaches) part refl),
                 )
               ],

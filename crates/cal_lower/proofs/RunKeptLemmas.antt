@@ -36,9 +36,9 @@ use Rattle.cal_ast.specs.Tree.{PortName, own, port_of, CellDef, Assignment, Grou
 use Rattle.cal_walk.proofs.StageLemmas.{walking_is_the_schedule}
 use Rattle.cal_walk.specs.Stages.{progress_at, acts_now, is_done_now}
 use Rattle.cal_lower.specs.inside.Added.{Additions, extended}
-use Rattle.cal_lower.specs.Laws.{KeepsRunsFromEach}
-use Rattle.cal_lower.specs.Lowered.{done_set, rules_from}
-use Rattle.cal_lower.specs.Pieces.{never, is_set, acts_name, shown, over_name}
+use Rattle.cal_lower.specs.inside.Laws.{KeepsRunsFromEach}
+use Rattle.cal_lower.specs.inside.Lowered.{done_set, rules_from}
+use Rattle.cal_lower.specs.inside.Pieces.{never, is_set, acts_name, shown, over_name}
 use Rattle.cal_lower.proofs.ExtendedLemmas.{AreOfPrimitives, AreNamed, DrivesAdded, answer, extended_bare, extended_is_bare, extended_groups, extended_inputs, extended_outputs, primitive_kept, instance_kept, instance_of, part_kept, destination_kept, IsDriven, OfSource, OfControl, OfAdded, destination_of}
 use Rattle.cal_lower.proofs.ListLemmas.{Each, each_append, each_from, each_weaker, flat_map_none}
 use Rattle.cal_lower.proofs.LocalLemmas.{HasPlainPin, values_are_local, IsOfOther, local_values-append, local_values-none, other_port}

@@ -10,9 +10,9 @@ use Rattle.cal_ast.specs.Naming.{IsReserved}
 use Rattle.cal_ast.specs.Ports.{is_bare}
 use Rattle.cal_ast.specs.Tree.{CellDef, Component, Design}
 use Rattle.cal_lower.specs.inside.Added.{Additions, extended}
-use Rattle.cal_lower.specs.Laws.{LoweringsKeepShape}
-use Rattle.cal_lower.specs.Lowered.{control_pieces, HasFewParts}
-use Rattle.cal_lower.specs.Pieces.{Kind, Wire, Register, Piece, made_by, piece_cell}
+use Rattle.cal_lower.specs.inside.Laws.{LoweringsKeepShape}
+use Rattle.cal_lower.specs.inside.Lowered.{control_pieces, HasFewParts}
+use Rattle.cal_lower.specs.inside.Pieces.{Kind, Wire, Register, Piece, made_by, piece_cell}
 use Rattle.cal_lower.proofs.ExtendedLemmas.{answer, extended_name, extended_ins, extended_outs, extended_cells, added_cells}
 use Rattle.cal_lower.proofs.ListLemmas.{Each}
 use Rattle.cal_lower.proofs.LoweredLemmas.{tokens}

@@ -29,8 +29,8 @@ use Rattle.cal_ast.specs.Ports.{is_bare, cell_named, primitive_of, primitive_in,
 use Rattle.cal_ast.specs.Sides.{IsDestination}
 use Rattle.cal_ast.specs.Tree.{PortName, port_of, CellDef, Assignment, GroupDef, Component, Design}
 use Rattle.cal_lower.specs.inside.Added.{Additions, extended}
-use Rattle.cal_lower.specs.Lowered.{done_set, rules_from}
-use Rattle.cal_lower.specs.Pieces.{Kind, Wire, Register, Piece, piece_cell, piece_set, enables_piece, piece_sets, shown}
+use Rattle.cal_lower.specs.inside.Lowered.{done_set, rules_from}
+use Rattle.cal_lower.specs.inside.Pieces.{Kind, Wire, Register, Piece, piece_cell, piece_set, enables_piece, piece_sets, shown}
 use Rattle.cal_lower.proofs.ExtendedLemmas.{AreOfPrimitives, AreNamed, CellsApart, DrivesAdded, answer, lasting_sets, extended_sets, extended_groups, added_cells, cell_other, HasPlace, place_found, instance_kept}
 use Rattle.cal_lower.proofs.ListLemmas.{Each, each_append, each_weaker, each_from, each_at, each_flat_map}
 use Rattle.cal_lower.proofs.LocalLemmas.{HasPlainPin, values_are_local, IsOfOther, local_values-append, local_values-none, other_port}

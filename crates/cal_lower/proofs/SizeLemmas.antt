@@ -13,9 +13,9 @@ use Rattle.cal_ast.specs.declared.tree.Control.{Control}
 use Rattle.cal_ast.specs.declared.tree.Control.TheVariants as controls
 use Rattle.cal_ast.specs.declared.tree.ControlPart.{ControlPart}
 use Rattle.cal_ast.specs.declared.tree.ControlPart.TheVariants as part
-use Rattle.cal_token.specs.Tokens.{size, sizes}
+use Rattle.cal_token.specs.inside.Tokens.{size, sizes}
 use Rattle.cal_walk.specs.Left.{are_over, is_over}
-use Rattle.cal_lower.specs.Parts.{last_part}
+use Rattle.cal_lower.specs.inside.Parts.{last_part}
 use Rattle.cal_lower.specs.inside.Statements.{statements_from}
 use Rattle.cal_lower.proofs.StatementLemmas.{par_tree, seq_tree}
 

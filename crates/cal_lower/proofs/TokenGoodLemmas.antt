@@ -8,10 +8,10 @@ use Rattle.cal_ast.specs.Plain.{HasPlainTree}
 use Rattle.cal_ast.specs.Plan.{plan_of}
 use Rattle.cal_ast.specs.Ports.{is_bare, primitive_in}
 use Rattle.cal_ast.specs.Tree.{Assignment, Component, Design}
-use Rattle.cal_token.specs.Tokens.{size}
+use Rattle.cal_token.specs.inside.Tokens.{size}
 use Rattle.cal_lower.specs.inside.Added.{extended}
-use Rattle.cal_lower.specs.Lowered.{control_pieces}
-use Rattle.cal_lower.specs.Pieces.{Piece, piece_cell, piece_sets, shown}
+use Rattle.cal_lower.specs.inside.Lowered.{control_pieces}
+use Rattle.cal_lower.specs.inside.Pieces.{Piece, piece_cell, piece_sets, shown}
 use Rattle.cal_lower.proofs.ControlGoodLemmas.{acts_bit, over_bit, pieces_good}
 use Rattle.cal_lower.proofs.ExtendedLemmas.{answer}
 use Rattle.cal_lower.proofs.GoodLemmas.{IsBitPort, IsGoodPiece, IsGoodSet, sets_good, shown_bit}

@@ -9,9 +9,9 @@ use Rattle.cal_ast.specs.NoInvoke.{IsPlainDesign}
 use Rattle.cal_ast.specs.Plain.{HasPlainTree}
 use Rattle.cal_ast.specs.Plan.{plan_of}
 use Rattle.cal_ast.specs.Tree.{CellDef, Component, Design}
-use Rattle.cal_token.specs.Tokens.{size}
-use Rattle.cal_lower.specs.Lowered.{control_pieces}
-use Rattle.cal_lower.specs.Pieces.{Kind, Wire, Register, Piece, piece_cell, piece_set, enables_piece, piece_sets}
+use Rattle.cal_token.specs.inside.Tokens.{size}
+use Rattle.cal_lower.specs.inside.Lowered.{control_pieces}
+use Rattle.cal_lower.specs.inside.Pieces.{Kind, Wire, Register, Piece, piece_cell, piece_set, enables_piece, piece_sets}
 use Rattle.cal_lower.proofs.ExtendedLemmas.{AreNamed, CellsApart, DrivesAdded}
 use Rattle.cal_lower.proofs.ListLemmas.{Each, each_weaker, each_map, each_flat_map}
 use Rattle.cal_lower.proofs.LoweredLemmas.{tokens}

@@ -5,7 +5,7 @@ use Rattle.net_core.specs.Guard.{GuardTree}
 use Rattle.cal_ast.specs.Plan.{Plans, NoPlans, MorePlans}
 use Rattle.cal_ast.specs.Tree.{PortName}
 use Rattle.cal_ast.specs.declared.tree.Control.{Control}
-use Rattle.cal_token.specs.Tokens.{size}
+use Rattle.cal_token.specs.inside.Tokens.{size}
 use Rattle.cal_walk.specs.Left.{is_over}
 use Rattle.cal_lower.specs.inside.Making.{Made, ShowsParts, with_made, in_turn_made, at_once_made, turn_made}
 use Rattle.cal_lower.specs.declared.made.Parts.{Parts}

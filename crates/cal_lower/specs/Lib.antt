@@ -1,5 +1,2 @@
 pub mod inside
-pub mod Pieces
-pub mod Parts
-pub mod Lowered
-pub mod Laws
+pub mod ReplacesControl

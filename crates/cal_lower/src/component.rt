@@ -7,7 +7,7 @@ ghost use Rattle.cal_ast.specs.Numbers.{ComponentHasNumbers, SetHasNumbers};
 ghost use Rattle.cal_ast.specs.Ports.{is_bare};
 ghost use Rattle.cal_ast.specs.Tree.{Absent, assignment_tree, component_tree, group_tree};
 ghost use Rattle.cal_lower.specs.inside.Labels.{AreTexts, KeepsLabels};
-ghost use Rattle.cal_lower.specs.Lowered.{HasFewParts, done_set, lowered, rule_of, with_registers};
+ghost use Rattle.cal_lower.specs.inside.Lowered.{HasFewParts, done_set, lowered, rule_of, with_registers};
 ghost use Rattle.cal_lower.specs.inside.Making.{ShowRules, rule_when};
 ghost use Rattle.cal_lower.specs.inside.Shown.{Shows, ShowsGuard};
 ghost use Rattle.cal_lower.specs.inside.Statements.{CanLowerComponent};

@@ -6,11 +6,11 @@ ghost use Rattle.net_core.specs.Numbers.{IsNumberOf};
 ghost use Rattle.cal_ast.specs.Actors.{GroupNamed};
 ghost use Rattle.cal_ast.specs.Plan.{AtOnce, Enables, InTurn, plan_at, plans_from};
 ghost use Rattle.cal_ast.specs.Tree.{PortName, statement_tree};
-ghost use Rattle.cal_token.specs.Tokens.{Ended, Going};
+ghost use Rattle.cal_token.specs.inside.Tokens.{Ended, Going};
 ghost use Rattle.cal_lower.specs.inside.Labels.{AreTexts, KeepsLabels, LabelHasNumber, label_text};
 ghost use Rattle.cal_lower.specs.inside.Making.{IsChoiceAt, Made, ShowsParts, by_group, choice_made, choice_plan, loop_made, part_made, tests_group, with_made};
-ghost use Rattle.cal_lower.specs.Parts.{again_guard, chooses_nothing, ended_guard, ended_guards, ends_guard, ends_wire, none_if_over, part_ends, tested_guard};
-ghost use Rattle.cal_lower.specs.Pieces.{Piece, Register, either, has_token, is_set, piece, reads, token_name};
+ghost use Rattle.cal_lower.specs.inside.Parts.{again_guard, chooses_nothing, ended_guard, ended_guards, ends_guard, ends_wire, none_if_over, part_ends, tested_guard};
+ghost use Rattle.cal_lower.specs.inside.Pieces.{Piece, Register, either, has_token, is_set, piece, reads, token_name};
 ghost use Rattle.cal_lower.specs.inside.Shown.{Guards, ShowsActs, ShowsGuard, ShowsGuards, ShowsPieces, ShowsPort};
 ghost use Rattle.cal_lower.specs.inside.Statements.{statements_from};
 

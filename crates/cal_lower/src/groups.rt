@@ -5,9 +5,9 @@ ghost use Rattle.cal_ast.specs.Numbers.{DoneHasNumbers};
 ghost use Rattle.cal_ast.specs.Plan.{Plan};
 ghost use Rattle.cal_ast.specs.Tree.{done_tree, group_tree};
 ghost use Rattle.cal_lower.specs.inside.Labels.{AreTexts, KeepsLabels};
-ghost use Rattle.cal_lower.specs.Lowered.{acts_guard, done_wire, group_pieces};
+ghost use Rattle.cal_lower.specs.inside.Lowered.{acts_guard, done_wire, group_pieces};
 ghost use Rattle.cal_lower.specs.inside.Making.{CanLowerGroup};
-ghost use Rattle.cal_lower.specs.Pieces.{Piece};
+ghost use Rattle.cal_lower.specs.inside.Pieces.{Piece};
 ghost use Rattle.cal_lower.specs.inside.Shown.{ShowsGuard, ShowsPieces};
 
 use crate::acts::Acts;

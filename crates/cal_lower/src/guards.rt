@@ -3,7 +3,7 @@ ghost use Rattle.std.specs.Prelude.{◌≡◌, [], ◌∷◌, List, IfOk};
 ghost use Rattle.hw_names.specs.Name.{Text};
 ghost use Rattle.net_core.specs.Guard.{GuardTree, Negates};
 ghost use Rattle.cal_ast.specs.Tree.{PortName};
-ghost use Rattle.cal_lower.specs.Pieces.{all_of, any_of, both, either, never, reads};
+ghost use Rattle.cal_lower.specs.inside.Pieces.{all_of, any_of, both, either, never, reads};
 ghost use Rattle.cal_lower.specs.inside.Shown.{ShowsGuard, ShowsGuards, ShowsPort};
 
 use cal_ast::CalPort;

@@ -3,7 +3,7 @@ ghost use Rattle.std.specs.Prelude.{◌≡◌, IfOk, Some, slice_get};
 ghost use Rattle.hw_names.specs.Name.{KeepsTexts};
 ghost use Rattle.cal_ast.specs.Tree.{own};
 ghost use Rattle.cal_lower.specs.inside.Labels.{AreTexts, KeepsLabels, LabelHasNumber, label_text};
-ghost use Rattle.cal_lower.specs.Pieces.{shown};
+ghost use Rattle.cal_lower.specs.inside.Pieces.{shown};
 ghost use Rattle.cal_lower.specs.inside.Shown.{ShowsPort};
 
 use crate::texts::{Label, label_name};

@@ -18,9 +18,9 @@
 //! the rows in which a part ends, `acts` gathers for each group the guards under which it is wanted, `instance` has what belongs
 //! to a component as a whole. A bare component, which nothing starts, only loses its control (`bare`).
 //!
-//! What the layer above uses: `lower_control` makes exactly what `IsLoweringOf` says, and the laws say what that keeps: the
-//! shape (`lowerings_keep_shape`), the rules of a design without control (`lowerings_are_holes`), plain names
-//! (`lowerings_are_plain`), and every run (`lowerings_keep_runs`).
+//! What the layer above uses: `lower_control` makes a design that keeps what its source has (`ReplacesControl`): the components
+//! with their ports and cells, the rules of a design without control, plain names, and every run. How it is made, which `cal_state`
+//! goes by, stands in `specs/inside` (`IsLoweringOf`).
 #![tactic(auto)]
 
 mod acts;
@@ -31,7 +31,6 @@ mod groups;
 mod guards;
 mod instance;
 mod labels;
-mod laws;
 mod lower;
 mod made;
 mod parts;
@@ -39,8 +38,5 @@ mod pieces;
 mod sizes;
 mod texts;
 
-pub use laws::{
-    lowerings_are_holes, lowerings_are_plain, lowerings_keep_runs, lowerings_keep_shape,
-};
 pub use lower::lower_control;
 pub use sizes::{after_part, is_over};

@@ -6,8 +6,8 @@ ghost use Rattle.cal_ast.specs.Plan.{plan_at, plans_from};
 ghost use Rattle.cal_ast.specs.Tree.{PortName, statement_tree};
 ghost use Rattle.cal_lower.specs.inside.Labels.{AreTexts, KeepsLabels};
 ghost use Rattle.cal_lower.specs.inside.Making.{Made, ShowsParts, at_once_made, in_turn_made, later_made, part_made, turn_made, with_made};
-ghost use Rattle.cal_lower.specs.Parts.{part_ends};
-ghost use Rattle.cal_lower.specs.Pieces.{reads};
+ghost use Rattle.cal_lower.specs.inside.Parts.{part_ends};
+ghost use Rattle.cal_lower.specs.inside.Pieces.{reads};
 ghost use Rattle.cal_lower.specs.inside.Shown.{ShowsGuard, ShowsPort};
 ghost use Rattle.cal_lower.specs.inside.Statements.{CanLower, CanLowerAll, statements_from};
 

@@ -5,7 +5,7 @@ ghost use Rattle.net_core.specs.Guard.{GuardTree};
 ghost use Rattle.cal_ast.specs.Numbers.{CellHasNumbers};
 ghost use Rattle.cal_ast.specs.Tree.{PortName, cell_tree};
 ghost use Rattle.cal_lower.specs.inside.Labels.{AreTexts, KeepsLabels, LabelHasNumber, is_register, kind_of, label_text};
-ghost use Rattle.cal_lower.specs.Pieces.{Piece, enables_piece, made_by, piece_cell};
+ghost use Rattle.cal_lower.specs.inside.Pieces.{Piece, enables_piece, made_by, piece_cell};
 ghost use Rattle.cal_lower.specs.inside.Shown.{DriveTree, Shows, ShowsDrive, ShowsGuard, ShowsName, ShowsPieces, ShowsSets, driven, one_when};
 
 use crate::labels::{Labels, Texts, port_of};

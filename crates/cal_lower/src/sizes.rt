@@ -3,9 +3,9 @@ ghost use Rattle.std.specs.Prelude.{◌≡◌, ◌+◌, ◌^◌, ◌≤◌, ℕ,
 ghost use Rattle.hw_names.specs.Name.{Text};
 ghost use Rattle.cal_ast.specs.Plan.{plan_at, plans_from, section_plan};
 ghost use Rattle.cal_ast.specs.Tree.{control_tree, statement_tree};
-ghost use Rattle.cal_token.specs.Tokens.{size, sizes};
+ghost use Rattle.cal_token.specs.inside.Tokens.{size, sizes};
 ghost use Rattle.cal_walk.specs.Left.{are_over, is_over};
-ghost use Rattle.cal_lower.specs.Parts.{last_part};
+ghost use Rattle.cal_lower.specs.inside.Parts.{last_part};
 ghost use Rattle.cal_lower.specs.inside.Statements.{statements_from};
 
 use cal_ast::{Control, ControlPart};

@@ -10,7 +10,7 @@ use Rattle.cal_ast.proofs.ItemLemmas.{known_cell}
 use Rattle.cal_ast.proofs.ListLemmas.{place_of, Contains-at}
 use Rattle.cal_ast.proofs.LookupLemmas.{cell_named-Some, component_named-Some, part_in-design, part_of-Some}
 use Rattle.cal_ast.specs.Instances.{component_at}
-use Rattle.cal_ast.specs.Naming.{GroupNaming, Unreserved, IsKnownCell, Reaches, Itself, Over}
+use Rattle.cal_ast.specs.Naming.{GroupNaming, Unreserved, IsKnownCell, Involves, Itself, Over}
 use Rattle.cal_ast.specs.Ports.{cell_named, component_named, part_in, part_of}
 use Rattle.cal_ast.specs.Rules.{KeepsComponent, KeepsRules, KeepsRulesUnder, HasNoLoops}
 use Rattle.cal_ast.specs.Tree.{CellDef, Component, Design}
@@ -85,7 +85,7 @@ module _ (front more : Design) where
     front_same c in_front = same_below-equal front (front ++ more) c c (λ path. sym (instance_same path c in_front))
 
     -- what reaches a name in the whole reaches it in the front
-    reaches_before : (name : Text) (c : Component) → Reaches (front ++ more) name c → Contains front c → Reaches front name c
+    reaches_before : (name : Text) (c : Component) → Involves (front ++ more) name c → Contains front c → Involves front name c
     reaches_before name c (Itself x is) in_front = Itself x is
     reaches_before name c (Over x part cell has made rest) in_front =
         let is : part_of front cell ≡ Some part = sym (part_same x in_front cell has) ∙ made in

@@ -6,7 +6,7 @@ use Rattle.hw_prims.specs.Table.{Pin, pin_names}
 use Rattle.cal_ast.specs.Actors.{ActorGroup}
 use Rattle.cal_ast.specs.Ports.{part_in}
 use Rattle.cal_ast.specs.Tree.{PortName, own, Assignment, GroupDef, Component, Design}
-use Rattle.cal_ast.specs.Wires.{IsGroupOf, IsAssignmentOf, ReadsByAssignment, IsAssignedIn, ReadsByDone, ReadsByGo, ReadsByPrimitive, CrossesCell, ReadsPort, ByAssignment, ByDone, ByGo, ByPrimitive, ByComponent, Reaches, AtOnce, Over, ReadsAlong, HasNoLoop}
+use Rattle.cal_ast.specs.Wires.{IsGroupOf, IsAssignmentOf, ReadsByAssignment, IsAssignedIn, ReadsByDone, ReadsByGo, ReadsByPrimitive, CrossesCell, ReadsPort, ByAssignment, ByDone, ByGo, ByPrimitive, ByComponent, Reaches, Straight, Over, ReadsAlong, HasNoLoop}
 use Rattle.cal_part.specs.SameHierarchy.{IsSameBelow}
 use Rattle.cal_part.proofs.PlaceLemmas.{and_then-itself, looks_alike, primitives_same, same_below-sym, same_inputs, same_itself, same_outputs, same_place}
 use Rattle.cal_part.proofs.RuleLemmas.{source_kept}
@@ -83,7 +83,7 @@ module _ (design other : Design) where
         (reaches part (own output) (own input) rest s.there s.same)
 
     reaches : (c : Component) (port to : PortName) → Reaches design c port to → (d : Component) → IsSameBelow design c other d → Reaches other d port to
-    reaches c port to (AtOnce x p q r) d same = AtOnce d p q (reads x p q r d same)
+    reaches c port to (Straight x p q r) d same = Straight d p q (reads x p q r d same)
     reaches c port to (Over x p between q r rest) d same = Over d p between q (reads x p between r d same) (reaches x between q rest d same)
 
   along : (c d : Component) → IsSameBelow design c other d → (ports : List PortName) (back : PortName) → ReadsAlong design c ports back → ReadsAlong other d ports back

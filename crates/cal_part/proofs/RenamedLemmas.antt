@@ -15,7 +15,7 @@ use Rattle.cal_ast.proofs.LookupLemmas.{cell_named-Some, component_named-Some, p
 use Rattle.cal_ast.proofs.SideLemmas.{some_found}
 use Rattle.cal_ast.specs.Instances.{component_at}
 use Rattle.cal_ast.specs.Items.{Item, TheSignature, TheCell, TheGroup, TheAssignment, TheDone, TheStatement, each, each_after, group_items, control_statements, items_of}
-use Rattle.cal_ast.specs.Naming.{GroupNaming, Unreserved, HasNewNames, IsNewCell, IsKnownCell, Reaches, Itself, Over, cell_names, component_names}
+use Rattle.cal_ast.specs.Naming.{GroupNaming, Unreserved, HasNewNames, IsNewCell, IsKnownCell, Involves, Itself, Over, cell_names, component_names}
 use Rattle.cal_ast.specs.Plain.{IsPlainCell, IsPlainComponent}
 use Rattle.cal_ast.specs.Ports.{cell_named, component_named, is_bare, part_in, part_of}
 use Rattle.cal_ast.specs.Rules.{Rule, C1, C2, C3, C4, Keeps, KeepsComponent, KeepsRulesUnder, all_rules}
@@ -212,7 +212,7 @@ module _ (rename : Text → Text) where
 
 module _ (design : Design) (rename : Text → Text) (renaming : IsRenaming design rename) (naming : GroupNaming) (keeps : KeepsRulesUnder naming design) where
   -- what reaches a new name reached the old one
-  reaches_before : (name : Text) → Contains (component_names design) name → (d : Component) → Reaches (renamed_design rename design) (rename name) d → (c : Component) → Contains design c → renamed rename c ≡ d → Reaches design name c
+  reaches_before : (name : Text) → Contains (component_names design) name → (d : Component) → Involves (renamed_design rename design) (rename name) d → (c : Component) → Contains design c → renamed rename c ≡ d → Involves design name c
   reaches_before name named d (Itself x is) c in_design same =
       Itself c (renaming.one_to_one c.name name (component_name design c in_design) named (ap (λ (y : Component). y.name) same ∙ is))
   reaches_before name named d (Over x part cell has made rest) c in_design same =

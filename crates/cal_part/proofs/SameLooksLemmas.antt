@@ -7,7 +7,7 @@ use Rattle.cal_ast.specs.Items.{Item, TheSignature, TheCell, TheGroup, TheAssign
 use Rattle.cal_ast.specs.Naming.{GroupNaming, HasNewNames, IsKnownCell}
 use Rattle.cal_ast.specs.Rules.{Rule, C1, C2, C3, C4, Keeps, all_rules}
 use Rattle.cal_ast.specs.Tree.{PortName, own, Assignment, CellDef, GroupDef, Component, Design}
-use Rattle.cal_ast.specs.Wires.{IsGroupOf, IsAssignmentOf, IsAssignedIn, ReadsPort, ByAssignment, ByDone, ByGo, ByPrimitive, ByComponent, Reaches, AtOnce, Over, ReadsAlong}
+use Rattle.cal_ast.specs.Wires.{IsGroupOf, IsAssignmentOf, IsAssignedIn, ReadsPort, ByAssignment, ByDone, ByGo, ByPrimitive, ByComponent, Reaches, Straight, Over, ReadsAlong}
 use Rattle.cal_part.specs.Laws.{LooksKeepNoLoop, LooksKeepRules}
 use Rattle.cal_part.specs.SameLooks.{LooksTheSame, PassNoMore}
 use Rattle.cal_part.proofs.PlaceLemmas.{LooksAlike}
@@ -91,7 +91,7 @@ module _ (first second these : Design) (pass : PassNoMore first second these) wh
         ]
 
     reaches : (c : Component) (port to : PortName) → Reaches second c port to → Contains these c → Reaches first c port to
-    reaches c port to (AtOnce x p q r) has = AtOnce x p q (reads x p q r has)
+    reaches c port to (Straight x p q r) has = Straight x p q (reads x p q r has)
     reaches c port to (Over x p between q r rest) has = Over x p between q (reads x p between r has) (reaches x between q rest has)
 
   along : (c : Component) → Contains these c → (ports : List PortName) (back : PortName) → ReadsAlong second c ports back → ReadsAlong first c ports back

@@ -11,7 +11,7 @@ use Rattle.cal_ast.specs.Tree.{Component, Design}
 use Rattle.cal_place.specs.inside.Entries.{AreNumerals, IsFirstOnCycle, IsOrderOf}
 use Rattle.cal_place.specs.FirstPlaces.{IsFirst}
 use Rattle.cal_place.specs.Holders.{AreHolders}
-use Rattle.cal_place.specs.Nesting.{ArePartsFirst, HasPart, IsInside, AtOnce, Over, ShowsOrder}
+use Rattle.cal_place.specs.Nesting.{ArePartsFirst, HasPart, IsInside, ByCell, Over, ShowsOrder}
 use Rattle.cal_place.specs.declared.nesting.PartOrder.{PartOrder}
 use Rattle.cal_place.specs.declared.nesting.PartOrder.TheVariants.{Parts, Loop}
 use Rattle.cal_place.proofs.NestLemmas.{inside_reaches, reaches_inside}
@@ -32,11 +32,11 @@ first_on_cycle reads names ports are cycle =
 
 module _ (design : Design) (reads : List (List ℕ)) (are : (n m : ℕ) → HasRead reads n m ↔ HasPart design n m) where
   inside_of : (n m : ℕ) → graph.Reaches reads n m → IsInside design n m
-  inside_of n m (Directly p o has) = AtOnce p o ((are p o).0 has)
+  inside_of n m (Directly p o has) = ByCell p o ((are p o).0 has)
   inside_of n m (Through p next o has rest) = Over p next o ((are p next).0 has) (inside_of next o rest)
 
   reach_of : (n m : ℕ) → IsInside design n m → graph.Reaches reads n m
-  reach_of n m (AtOnce p o part) = Directly p o ((are p o).1 part)
+  reach_of n m (ByCell p o part) = Directly p o ((are p o).1 part)
   reach_of n m (Over p next o part rest) = Through p next o ((are p next).1 part) (reach_of next o rest)
 
   pub shows_order : length reads ≡ length design → (order : PartOrder) → IsOrderOf reads order → ShowsOrder design order
@@ -55,11 +55,11 @@ module _ (design : Design) (reads : List (List ℕ)) (are : (n m : ℕ) → HasR
 -- the same of the graph turned round
 module _ (design : Design) (holders : List (List ℕ)) (are : (n m : ℕ) → HasRead holders m n ↔ HasPart design n m) where
   inside_on : (n between m : ℕ) → IsInside design n between → HasPart design between m → IsInside design n m
-  inside_on n between m (AtOnce p o first) part = Over p o m first (AtOnce o m part)
+  inside_on n between m (ByCell p o first) part = Over p o m first (ByCell o m part)
   inside_on n between m (Over p next o first rest) part = Over p next m first (inside_on next o m rest part)
 
   pub holder_inside : (m n : ℕ) → graph.Reaches holders m n → IsInside design n m
-  holder_inside m n (Directly p o has) = AtOnce o p ((are o p).0 has)
+  holder_inside m n (Directly p o has) = ByCell o p ((are o p).0 has)
   holder_inside m n (Through p next o has rest) = inside_on o next p (holder_inside next o rest) ((are next p).0 has)
 
   holder_on : (m between n : ℕ) → graph.Reaches holders m between → HasRead holders between n → graph.Reaches holders m n
@@ -67,7 +67,7 @@ module _ (design : Design) (holders : List (List ℕ)) (are : (n m : ℕ) → Ha
   holder_on m between n (Through p next o first rest) has = Through p next n first (holder_on next o n rest has)
 
   pub inside_holder : (n m : ℕ) → IsInside design n m → graph.Reaches holders m n
-  inside_holder n m (AtOnce p o part) = Directly o p ((are p o).1 part)
+  inside_holder n m (ByCell p o part) = Directly o p ((are p o).1 part)
   inside_holder n m (Over p next o part rest) = holder_on o next p (inside_holder next o rest) ((are p next).1 part)
 
 -- where each component comes after its parts, none is a part of itself
@@ -80,7 +80,7 @@ module _ (design : Design) (order : List ℕ) (first : ArePartsFirst design orde
       (has.0, less, get_or_default order has.0 0 m in_order ∙ sym (get_or-take i order has.0 m less) ∙ has.2)
 
   inside_before : (n m : ℕ) → IsInside design n m → (i : ℕ) → i < length order → get_or order i 0 ≡ n → (j : ℕ) × (j < i) × (get_or order j 0 ≡ m)
-  inside_before n m (AtOnce p o part) i within at = part_before i o within (subst (λ k. HasPart design k o) (sym at) part)
+  inside_before n m (ByCell p o part) i within at = part_before i o within (subst (λ k. HasPart design k o) (sym at) part)
   inside_before n m (Over p next o part rest) i within at =
       let one = part_before i next within (subst (λ k. HasPart design k next) (sym at) part) in
       let two = inside_before next o rest one.0 (omega (arith, one.1, within)) one.2 in
@@ -102,7 +102,7 @@ no_marks design number marks none outside = record {
   marked = λ c part m at first has there. (
     λ mark. let bad : false ≡ true = sym (ap (λ (l : List Bool). get_or l m false) none) ∙ mark in absurd (cc),
     λ reaches. absurd (outside (elim (reaches_inside design c.name number first m part there (part_first m has part there) reaches) [
-      | inl same ↦ AtOnce number number (subst (HasPart design number) same has)
+      | inl same ↦ ByCell number number (subst (HasPart design number) same has)
       | inr inside ↦ Over number m number has inside
     ])),
   );

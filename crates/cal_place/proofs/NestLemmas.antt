@@ -5,12 +5,12 @@ use Rattle.std.proofs.lemmas.Slice.Eq.{bytes_eq-Decides}
 use Rattle.hw_names.specs.Name.{Text}
 use Rattle.cal_ast.proofs.ListLemmas.{Contains-cases_first, Contains-none}
 use Rattle.cal_ast.proofs.LookupLemmas.{component_named-Some, part_of-Some}
-use Rattle.cal_ast.specs.Naming.{Reaches, Itself, Over, component_names}
+use Rattle.cal_ast.specs.Naming.{Involves, Itself, Over, component_names}
 use Rattle.cal_ast.specs.Ports.{part_of}
 use Rattle.cal_ast.specs.Tree.{CellDef, Component, Design}
 use Rattle.cal_place.specs.FirstPlaces.{IsFirst}
 use Rattle.cal_place.specs.Prototypes.{IsMadeOf, made_component}
-use Rattle.cal_place.specs.Nesting.{HasPart, IsInside, AtOnce}
+use Rattle.cal_place.specs.Nesting.{HasPart, IsInside, ByCell}
 use Rattle.cal_place.specs.Nesting as nests
 use Rattle.cal_place.specs.declared.prototype.Prototype.{Prototype}
 use Rattle.cal_place.specs.declared.prototype.Prototype.TheVariants as made
@@ -95,21 +95,21 @@ part_of_cell design m c cell part at has made =
 
 -- what a component reaches by name it is, or has inside, where the name is that of the first component of the name
 module _ (design : Design) (name : Text) (n : ℕ) (first : IsFirst (component_names design) name n) where
-  pub reaches_inside : (m : ℕ) (part : Component) → slice_get design m ≡ Some part → IsFirst (component_names design) part.name m → Reaches design name part → (m ≡ n) ⊎ IsInside design m n
+  pub reaches_inside : (m : ℕ) (part : Component) → slice_get design m ≡ Some part → IsFirst (component_names design) part.name m → Involves design name part → (m ≡ n) ⊎ IsInside design m n
   reaches_inside m part at own (Itself c named) =
       inl (one_first (component_names design) name m n (subst (λ t. IsFirst (component_names design) t m) named own) first)
   reaches_inside m part at own (Over c inner cell has made rest) =
       let p = part_of_cell design m part cell inner at has made in
       elim (reaches_inside p.0 inner p.1 p.2 rest) [
-        | inl same ↦ inr (AtOnce m n (subst (λ k. HasPart design m k) same p.3))
+        | inl same ↦ inr (ByCell m n (subst (λ k. HasPart design m k) same p.3))
         | inr inside ↦ inr (nests.Over m p.0 n p.3 inside)
       ]
 
-  pub inside_reaches : (m : ℕ) (part : Component) → slice_get design m ≡ Some part → IsInside design m n → Reaches design name part
-  inside_reaches m part at (AtOnce j k p) =
+  pub inside_reaches : (m : ℕ) (part : Component) → slice_get design m ≡ Some part → IsInside design m n → Involves design name part
+  inside_reaches m part at (ByCell j k p) =
       let same : p.c ≡ part = (let e = p.at in cc) in
       let named : p.part.name ≡ name = (let e = p.first.here in let f = first.here in cc) in
-      subst (λ c. Reaches design name c) same (Over p.c p.part p.cell p.has p.made (Itself p.part named))
+      subst (λ c. Involves design name c) same (Over p.c p.part p.cell p.has p.made (Itself p.part named))
   inside_reaches m part at (nests.Over j between k p rest) =
       let same : p.c ≡ part = (let e = p.at in cc) in
-      subst (λ c. Reaches design name c) same (Over p.c p.part p.cell p.has p.made (inside_reaches between p.part p.there rest))
+      subst (λ c. Involves design name c) same (Over p.c p.part p.cell p.has p.made (inside_reaches between p.part p.there rest))

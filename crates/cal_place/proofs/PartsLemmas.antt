@@ -5,11 +5,11 @@ use Rattle.cal_ast.proofs.ItemLemmas.{known_cell, signature_item}
 use Rattle.cal_ast.proofs.ListLemmas.{place_of}
 use Rattle.cal_ast.proofs.LookupLemmas.{part_of-Some}
 use Rattle.cal_ast.specs.Items.{TheSignature, items_of}
-use Rattle.cal_ast.specs.Naming.{HasNewNames, IsKnownCell, Itself, Reaches, Unreserved, component_names}
+use Rattle.cal_ast.specs.Naming.{HasNewNames, IsKnownCell, Itself, Involves, Unreserved, component_names}
 use Rattle.cal_ast.specs.Rules.{C1, KeepsRules}
 use Rattle.cal_ast.specs.Tree.{Component, Design}
 use Rattle.cal_place.specs.FirstPlaces.{IsFirst}
-use Rattle.cal_place.specs.Nesting.{HasPart, IsInside, IsFirstInside, AtOnce, Over}
+use Rattle.cal_place.specs.Nesting.{HasPart, IsInside, IsFirstInside, ByCell, Over}
 use Rattle.cal_place.proofs.FoundLemmas.{first_at}
 use Rattle.cal_place.proofs.NestLemmas.{inside_reaches}
 
@@ -22,7 +22,7 @@ module _ (design : Design) (keeps : KeepsRules design) where
       (first_at (λ (d : Component). d.name) design n c at).1 names.new
 
   -- no part leads back
-  part_away : (n m : ℕ) (part : HasPart design n m) → Reaches design part.c.name part.part → ⊥
+  part_away : (n m : ℕ) (part : HasPart design n m) → Involves design part.c.name part.part → ⊥
   part_away n m part reaches =
       let j = place_of part.c.cells part.cell part.has in
       by (known_cell Unreserved design keeps n part.c part.at j.0 part.cell j.1)
@@ -31,13 +31,13 @@ module _ (design : Design) (keeps : KeepsRules design) where
       by (inl is) = let no' = (part_of-Some design part.cell part.part part.made).0 in cc
       by (inr known) =
           let same : known.0 ≡ part.part = same_Some known.0 part.part (sym known.1 ∙ part.made) in
-          known.2 (subst (λ d. Reaches design part.c.name d) (sym same) reaches)
+          known.2 (subst (λ d. Involves design part.c.name d) (sym same) reaches)
 
   pub none_inside : (n : ℕ) → IsInside design n n → ⊥
   none_inside n inside = by n n inside refl
     where
       by : (a b : ℕ) → IsInside design a b → a ≡ b → ⊥
-      by a b (AtOnce p o part) same =
+      by a b (ByCell p o part) same =
           let there : slice_get design p ≡ Some part.part = ap (slice_get design) same ∙ part.there in
           let one : part.c ≡ part.part = same_Some part.c part.part (sym part.at ∙ there) in
           part_away p o part (Itself part.part (ap (λ (d : Component). d.name) (sym one)))

@@ -3,7 +3,7 @@ use Rattle.std.proofs.Common.{◌≡◌, ◌↔◌, ℕ, ◌<◌, Bool, true, fa
 use Rattle.std.specs.Option.{option_flatten}
 use Rattle.std.proofs.lemmas.Option.{get_or_from_slice_get, slice_get_within}
 use Rattle.hw_names.specs.Name.{Text, text_of}
-use Rattle.cal_ast.specs.Naming.{HasNewNames, Reaches, cell_names, component_names, group_names}
+use Rattle.cal_ast.specs.Naming.{HasNewNames, Involves, cell_names, component_names, group_names}
 use Rattle.cal_ast.specs.Numbers.{ComponentHasNumbers}
 use Rattle.cal_ast.specs.Tree.{CellDef, Component, Design, component_tree, group_tree}
 use Rattle.cal_place.specs.Around.{Around, comp_at, design_at, earlier_at, names_at}
@@ -92,7 +92,7 @@ module _ (p : Around) (shown : Tables) (cell_places group_places : FirstPlaces) 
 
   -- its mark
   pub mark_told : (part : ℕ) (c : Component) → HasNewNames (earlier_at p) (comp_at p) → HasPart (design_at p) p.number part → slice_get (design_at p) part ≡ Some c
-      → (get_or marks part false ≡ true) ↔ Reaches (design_at p) (comp_at p).name c
+      → (get_or marks part false ≡ true) ↔ Involves (design_at p) (comp_at p).name c
   mark_told part c new has at =
       known.holders.marked (comp_at p) c part known.here ((new_name p known.here).1 new.new) has at
 

@@ -22,7 +22,7 @@ pub record HasPart (design : Design) (n m : ℕ) : Type 0 where
 
 -- component m is a part of component n, over any number of cells
 pub data IsInside (design : Design) : ℕ → ℕ → Type 0 where
-  AtOnce : (n m : ℕ) → HasPart design n m → IsInside design n m
+  ByCell : (n m : ℕ) → HasPart design n m → IsInside design n m
   Over : (n between m : ℕ) → HasPart design n between → IsInside design between m → IsInside design n m
 
 -- each component after those that it has cells of

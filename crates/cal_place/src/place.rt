@@ -91,7 +91,7 @@ impl<'a> Place<'a> {
     ghost use Rattle.hw_prims.specs.Table.{IsMade};
     ghost use Rattle.cal_ast.specs.Controlling.{group_named};
     ghost use Rattle.cal_ast.specs.Invoking as invoking;
-    ghost use Rattle.cal_ast.specs.Naming.{HasNewNames, Reaches, cell_names, component_names, group_names};
+    ghost use Rattle.cal_ast.specs.Naming.{HasNewNames, Involves, cell_names, component_names, group_names};
     ghost use Rattle.net_core.specs.Numbers.{IsNumberOf};
     ghost use Rattle.cal_ast.specs.Numbers.{ComponentHasNumbers, HasNumbers, PortHasNumbers};
     ghost use Rattle.cal_ast.specs.Ports.{cell_named, part_in, port_in, primitive_in};
@@ -221,7 +221,7 @@ impl<'a> Place<'a> {
     pub fn comes_back(&self, part: usize) -> bool
         requires new { HasNewNames (earlier_at self.now) (comp_at self.now) }
         requires cell { (cell : CellDef) × Contains (comp_at self.now).cells cell × IsMadeOf (design_at self.now) cell (Some (Prototype.Component part)) }
-        ensures { (c : Component) → slice_get (design_at self.now) part ≡ Some c → IsTrue result ↔ Reaches (design_at self.now) (comp_at self.now).name c }
+        ensures { (c : Component) → slice_get (design_at self.now) part ≡ Some c → IsTrue result ↔ Involves (design_at self.now) (comp_at self.now).name c }
     {
         self.holders.get(part).copied().unwrap_or(false)
     }

@@ -10,7 +10,7 @@ use Rattle.hw_prims.specs.Table.{is_primitive}
 use Rattle.hw_prims.specs.declared.prim.Primitive.{Primitive}
 use Rattle.cal_ast.proofs.ListLemmas.{Contains-at}
 use Rattle.cal_ast.proofs.LookupLemmas.{part_of-Some, primitive_of-Some}
-use Rattle.cal_ast.specs.Naming.{IsKnownCell, IsReserved, IsUnreserved, Reaches}
+use Rattle.cal_ast.specs.Naming.{IsKnownCell, IsReserved, IsUnreserved, Involves}
 use Rattle.cal_ast.specs.Ports.{is_bare, part_of}
 use Rattle.cal_ast.specs.Tree.{CellDef, Component, Design}
 use Rattle.cal_place.specs.FirstPlaces.{IsFirst}
@@ -67,7 +67,7 @@ module _ (design : Design) (c : Component) (cell : CellDef) where
 
   -- a cell of a component is known where that does not lead back
   pub known_part : (o : Option Prototype) (number : ℕ) (back : Bool) → o ≡ Some (made.Component number) → IsMadeOf design cell o
-      → ((part : Component) → slice_get design number ≡ Some part → IsTrue back ↔ Reaches design c.name part) → IsTrue (not back) ↔ IsKnownCell design c cell
+      → ((part : Component) → slice_get design number ≡ Some part → IsTrue back ↔ Involves design c.name part) → IsTrue (not back) ↔ IsKnownCell design c cell
   known_part o number true is of told = (
     λ t. let bad : false ≡ true = t in absurd (cc),
     λ known.
@@ -78,7 +78,7 @@ module _ (design : Design) (c : Component) (cell : CellDef) where
           | inl primitive ↦ (let other = (part_of-Some design cell part.0 made_so).0 in absurd (cc))
           | inr that ↦
               let same : part.0 ≡ that.0 = (let e : Some part.0 ≡ Some that.0 = sym made_so ∙ that.1 in cc) in
-              absurd (that.2 (subst (λ (p : Component). Reaches design c.name p) same ((told part.0 part.1).0 refl)))
+              absurd (that.2 (subst (λ (p : Component). Involves design c.name p) same ((told part.0 part.1).0 refl)))
         ],
   )
   known_part o number false is of told = (

@@ -11,7 +11,7 @@ use Rattle.cal_ast.proofs.ListLemmas.{place_of, Contains-none, Contains-here, Co
 use Rattle.cal_ast.proofs.LookupLemmas.{cell_named-Some, part_of-Some, primitive_in-Some, part_in-Some, cell_input_cases, cell_output_cases, component_named-Some}
 use Rattle.cal_ast.proofs.SideLemmas.{known_pin}
 use Rattle.cal_ast.specs.Instances.{component_at, port_name}
-use Rattle.cal_ast.specs.Naming.{GroupNaming, IsKnownPort, IsKnownCell, Reaches, Itself, Over, component_names}
+use Rattle.cal_ast.specs.Naming.{GroupNaming, IsKnownPort, IsKnownCell, Involves, Itself, Over, component_names}
 use Rattle.cal_ast.specs.Ports.{inputs_in, outputs_in, cell_named, part_of, cell_inputs, cell_outputs}
 use Rattle.cal_ast.specs.Rules.{KeepsRulesUnder}
 use Rattle.cal_ast.specs.Tree.{PortName, CellDef, Component, Design}
@@ -26,7 +26,7 @@ below_on : (design : Design) (c d e : Component) → Below design c d → Below 
 below_on design c d e (AtOnce c' d' cell has of_c made) more = Deeper c' d' e cell has of_c made more
 below_on design c d e (Deeper c' part d' cell has of_c made rest) more = Deeper c' part e cell has of_c made (below_on design part d' e rest more)
 
-below_reaches : (design : Design) (c d : Component) → Below design c d → Reaches design d.name c
+below_reaches : (design : Design) (c d : Component) → Below design c d → Involves design d.name c
 below_reaches design c d (AtOnce c' d' cell has of_c made) = Over c' d' cell of_c made (Itself d' refl)
 below_reaches design c d (Deeper c' part d' cell has of_c made rest) = Over c' part cell of_c made (below_reaches design part d' rest)
 
@@ -65,7 +65,7 @@ gather W (x ∷ xs) each =
 
 module _ (naming : GroupNaming) (design : Design) (keeps : KeepsRulesUnder naming design) where
   -- a part is a component that doesn't reach the one that it is in
-  no_way_back : (c part : Component) (cell : CellDef) → Contains design c → Contains c.cells cell → part_of design cell ≡ Some part → Reaches design c.name part → ⊥
+  no_way_back : (c part : Component) (cell : CellDef) → Contains design c → Contains c.cells cell → part_of design cell ≡ Some part → Involves design c.name part → ⊥
   no_way_back c part cell has of_c made reaches =
       let n = place_of design c has in
       let k = place_of c.cells cell of_c in
@@ -75,11 +75,11 @@ module _ (naming : GroupNaming) (design : Design) (keeps : KeepsRulesUnder namin
       by (inl is) = let no' = (part_of-Some design cell part made).0 in cc
       by (inr (other, same, none)) =
           let e : other ≡ part = same_Some other part (sym same ∙ made) in
-          none (subst (λ (d : Component). Reaches design c.name d) (sym e) reaches)
+          none (subst (λ (d : Component). Involves design c.name d) (sym e) reaches)
 
   below_apart : (c d : Component) → Below design c d → c.name ≢ d.name
   below_apart c d (AtOnce c' d' cell has of_c made) = λ same. no_way_back c' d' cell has of_c made (Itself d' (sym same))
-  below_apart c d (Deeper c' part d' cell has of_c made rest) = λ same. no_way_back c' part cell has of_c made (subst (λ (name : Text). Reaches design name part) (sym same) (below_reaches design part d' rest))
+  below_apart c d (Deeper c' part d' cell has of_c made rest) = λ same. no_way_back c' part cell has of_c made (subst (λ (name : Text). Involves design name part) (sym same) (below_reaches design part d' rest))
 
   below_named : (c d : Component) → Below design c d → Contains (component_names design) d.name
   below_named c d (AtOnce c' d' cell has of_c made) =

@@ -9,7 +9,7 @@ use Rattle.cal_ast.specs.Plan.{Plan, Enables, InTurn, AtOnce, Chooses, Repeats, 
 use Rattle.cal_ast.specs.Statement.{IfCondition}
 use Rattle.cal_ast.specs.Tree.{PortName, Statement, Enable, Seq, Par, If, While, Invoke, Statements, NoStatements, MoreStatements, ControlSection, Absent, Empty, Body}
 use Rattle.cal_walk.specs.Left.{Sight, is_over, nothing, before_others, left, left_in_turn, left_at_once}
-use Rattle.cal_walk.specs.Stages.{Progress, Waits, Runs, Ends, progress_of, next_progress}
+use Rattle.cal_walk.specs.Stages.{Progress, Waits, GoesOn, Ends, progress_of, next_progress}
 
 module _ (K : PortName → Type 0) where
   -- the ports of the plan's conditions are such ports
@@ -28,7 +28,7 @@ module _ (K : PortName → Type 0) where
   -- so are those of what is left to do
   abbrev pub ProgressTests : Progress → Type 0
   ProgressTests Waits = Unit {0}
-  ProgressTests (Runs p) = Tests p
+  ProgressTests (GoesOn p) = Tests p
   ProgressTests Ends = Unit {0}
 
   -- ---- plans of statements
@@ -105,7 +105,7 @@ module _ (K : PortName → Type 0) where
     progress_of-tests : (p : Plan) → Tests p → ProgressTests (progress_of p)
     progress_of-tests p h = by (is_over p)
       where
-        by : (b : Bool) → ProgressTests (if b then Ends else Runs p)
+        by : (b : Bool) → ProgressTests (if b then Ends else GoesOn p)
         by true = tt
         by false = h
 
@@ -115,7 +115,7 @@ module _ (K : PortName → Type 0) where
         by : (b : Bool) → ProgressTests (if b then progress_of (left s plan) else Waits)
         by true = progress_of-tests (left s plan) (left_tests plan whole)
         by false = tt
-    next_tests plan go (Runs p) whole h = progress_of-tests (left s p) (left_tests p h)
+    next_tests plan go (GoesOn p) whole h = progress_of-tests (left s p) (left_tests p h)
     next_tests plan go Ends whole h = tt
 
   -- ---- sights that agree
@@ -145,5 +145,5 @@ module _ (K : PortName → Type 0) where
 
     pub next_same : (plan : Plan) (go go' : Bool) (x : Progress) → Tests plan → ProgressTests x → go ≡ go' → next_progress plan s go x ≡ next_progress plan s' go' x
     next_same plan go go' Waits whole h same = ap₂ (λ (b : Bool) (p : Plan). if b then progress_of p else Waits) same (left_same plan whole)
-    next_same plan go go' (Runs p) whole h same = ap progress_of (left_same p h)
+    next_same plan go go' (GoesOn p) whole h same = ap progress_of (left_same p h)
     next_same plan go go' Ends whole h same = refl

@@ -5,7 +5,7 @@ use Rattle.std.proofs.lemmas.List.{get_or-replicate, length-replicate}
 use Rattle.cal_ast.specs.Actors.{Actor}
 use Rattle.cal_ast.specs.Plan.{Plan}
 use Rattle.cal_walk.specs.Marking.{AddsMarks, AddsWanted}
-use Rattle.cal_walk.specs.Stages.{Progress, Waits, Runs, Ends, acts_now, enabled_now, tested_now}
+use Rattle.cal_walk.specs.Stages.{Progress, Waits, GoesOn, Ends, acts_now, enabled_now, tested_now}
 use Rattle.cal_walk.specs.declared.marks.Marks.{Marks}
 use Rattle.cal_sched.specs.Walking.{ClearsMarks, acts_by, runs_now}
 
@@ -13,7 +13,7 @@ use Rattle.cal_sched.specs.Walking.{ClearsMarks, acts_by, runs_now}
 acts_where : (plan : Plan) (p : Progress) (actor : Actor) (go done : Bool)
     → (runs_now p go && (tested_now plan p actor || (enabled_now plan p actor && not done))) ≡ acts_now plan p actor go done
 acts_where plan Waits actor go done = refl
-acts_where plan (Runs p) actor go done = refl
+acts_where plan (GoesOn p) actor go done = refl
 acts_where plan Ends actor go done = refl
 
 -- marks that were cleared and then set are of what is wanted

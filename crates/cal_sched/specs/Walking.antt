@@ -18,7 +18,7 @@ use Rattle.cal_ast.specs.declared.tree.CalPort.{CalPort}
 use Rattle.cal_walk.specs.Left.{Sight}
 use Rattle.cal_walk.specs.Planning.{IsControlOf}
 use Rattle.cal_walk.specs.StageTrees.{StageIsWithin, progress_tree}
-use Rattle.cal_walk.specs.Stages.{Progress, Waits, Runs, Ends, acts_now, next_progress}
+use Rattle.cal_walk.specs.Stages.{Progress, Waits, GoesOn, Ends, acts_now, next_progress}
 use Rattle.cal_walk.specs.declared.marks.Marks.{Marks}
 use Rattle.cal_walk.specs.declared.planning.Controlled.{Controlled}
 use Rattle.cal_walk.specs.declared.seen.Seen.{Seen}
@@ -101,7 +101,7 @@ pub record ClearsMarks (old new : Marks) : Type 0 where
 -- control runs in a row with this go: it has come so far, or it starts there
 abbrev pub runs_now : Progress → Bool → Bool
 runs_now Waits go = go
-runs_now (Runs p) go = true
+runs_now (GoesOn p) go = true
 runs_now Ends go = false
 
 -- the actor with this number acts, by its marks, in a row in which control runs or not

@@ -21,11 +21,11 @@ use Rattle.cal_ast.specs.Plan.{Plan, plan_of}
 use Rattle.cal_ast.specs.Ports.{is_bare, inputs_in, outputs_in, primitive_of}
 use Rattle.cal_ast.specs.Tree.{PortName, port_of, CellDef, Assignment, DoneLine, GroupDef, Absent, Component, Design}
 use Rattle.cal_walk.specs.Left.{is_over}
-use Rattle.cal_token.specs.Tokens.{size}
+use Rattle.cal_token.specs.inside.Tokens.{size}
 use Rattle.cal_lower.specs.inside.Added.{Additions, with_added, extended}
-use Rattle.cal_lower.specs.Lowered.{control_pieces, done_set, done_wire, group_pieces, instance_pieces, plan_pieces}
-use Rattle.cal_lower.specs.Parts.{part_pieces}
-use Rattle.cal_lower.specs.Pieces.{Kind, Wire, Register, Piece, piece_cell, piece_set, enables_piece, piece_sets, is_set, start_name}
+use Rattle.cal_lower.specs.inside.Lowered.{control_pieces, done_set, done_wire, group_pieces, instance_pieces, plan_pieces}
+use Rattle.cal_lower.specs.inside.Parts.{part_pieces}
+use Rattle.cal_lower.specs.inside.Pieces.{Kind, Wire, Register, Piece, piece_cell, piece_set, enables_piece, piece_sets, is_set, start_name}
 use Rattle.cal_lower.proofs.ExtendedLemmas.{AreOfPrimitives, AreNamed, CellsApart, DrivesAdded, answer}
 use Rattle.cal_lower.proofs.ListLemmas.{Each, each_append, each_at, each_flat_map, each_from, each_map, each_weaker}
 use Rattle.cal_lower.proofs.LocalLemmas.{IsOfOther, local_values-append, local_values-none}
@@ -33,9 +33,9 @@ use Rattle.cal_lower.proofs.LoweredLemmas.{piece_made, prim_for}
 use Rattle.cal_lower.proofs.PieceLemmas.{driven_alone, few_drive, other_name, pieces_apart, pieces_reserved}
 use Rattle.cal_lower.proofs.PlaceLemmas.{Apart, third, is_letter, plan_letters}
 use Rattle.cal_lower.proofs.ShownLemmas.{IsAddedPiece}
-use Rattle.cal_state.specs.Encoded.{encoded, over_set, thread_sets, wires, with_states}
-use Rattle.cal_state.specs.States.{all_next_sets, thread_cell, thread_enable, thread_name, width_of}
-use Rattle.cal_state.specs.Threads.{Thread, Place, NoState, IsIn, plan_places, thread_of, threads}
+use Rattle.cal_state.specs.inside.Encoded.{encoded, over_set, thread_sets, wires, with_states}
+use Rattle.cal_state.specs.inside.States.{all_next_sets, thread_cell, thread_enable, thread_name, width_of}
+use Rattle.cal_state.specs.inside.Threads.{Thread, Place, NoState, IsIn, plan_places, thread_of, threads}
 use Rattle.cal_state.proofs.EncodedLemmas.{piece_names, wires_named}
 use Rattle.cal_state.proofs.NextStateLemmas.{same_thread}
 use Rattle.cal_state.proofs.ThreadLemmas.{InRange, IsOfPlan, PartsApart, of_plan, threads_are}

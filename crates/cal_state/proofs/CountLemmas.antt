@@ -6,10 +6,11 @@ use Rattle.cal_ast.specs.Items.{control_statements, statements_in, statements_of
 use Rattle.cal_ast.specs.Plan.{Plan, Enables, InTurn, AtOnce, Chooses, Repeats, Plans, NoPlans, MorePlans, plan_at, plans_from, section_plan}
 use Rattle.cal_ast.specs.Tree.{Statement, Enable, Seq, Par, If, While, Invoke, Statements, NoStatements, MoreStatements, ControlSection, Absent, Empty, Body}
 use Rattle.cal_walk.specs.Left.{is_over}
-use Rattle.cal_token.specs.Tokens.{size}
-use Rattle.cal_lower.specs.Parts.{none_if_over}
-use Rattle.cal_state.specs.Registers.{count, in_par, parallel}
-use Rattle.cal_state.specs.Threads.{Thread, inner_threads, lasting_states, states, states_in, thread_of, threads, threads_at_once, threads_in_turn, zero_if_over}
+use Rattle.cal_token.specs.inside.Tokens.{size}
+use Rattle.cal_group.proofs.ManyLemmas.{parallel-append}
+use Rattle.cal_lower.specs.inside.Parts.{none_if_over}
+use Rattle.cal_ast.specs.Registers.{count, in_par, parallel}
+use Rattle.cal_state.specs.inside.Threads.{Thread, inner_threads, lasting_states, states, states_in, thread_of, threads, threads_at_once, threads_in_turn, zero_if_over}
 
 zero_or_less : (p : Plan) (n : ℕ) → zero_if_over p n ≤ n
 zero_or_less p n = by (is_over p)
@@ -34,10 +35,6 @@ fewer_unless (Par ss) xs = omega arith
 fewer_unless (If port by s t) xs = omega arith
 fewer_unless (While port by s) xs = omega arith
 fewer_unless (Invoke cell ins outs) xs = omega arith
-
-pub parallel-append : (xs ys : List Statement) → parallel (xs ++ ys) ≡ parallel xs + parallel ys
-parallel-append [] ys = omega arith
-parallel-append (x ∷ xs) ys = let rest = parallel-append xs ys in omega (arith, rest)
 
 -- ---- states
 

@@ -6,11 +6,11 @@ use Rattle.hw_names.specs.Name.{Text}
 use Rattle.cal_ast.specs.Plan.{plan_of}
 use Rattle.cal_ast.specs.Ports.{is_bare}
 use Rattle.cal_ast.specs.Tree.{Absent, Component}
-use Rattle.cal_lower.specs.Lowered.{control_pieces, group_pieces, instance_pieces, plan_pieces}
-use Rattle.cal_lower.specs.Pieces.{Piece}
-use Rattle.cal_state.specs.Encoded.{encoded, instance_wires, wires, with_states}
-use Rattle.cal_state.specs.States.{as_wires}
-use Rattle.cal_state.specs.Threads.{Place, NoState, IsIn, plan_places}
+use Rattle.cal_lower.specs.inside.Lowered.{control_pieces, group_pieces, instance_pieces, plan_pieces}
+use Rattle.cal_lower.specs.inside.Pieces.{Piece}
+use Rattle.cal_state.specs.inside.Encoded.{encoded, instance_wires, wires, with_states}
+use Rattle.cal_state.specs.inside.States.{as_wires}
+use Rattle.cal_state.specs.inside.Threads.{Place, NoState, IsIn, plan_places}
 use Rattle.cal_state.proofs.PlaceLemmas.{Aligned}
 use Rattle.cal_state.proofs.RegisterLemmas.{plan_aligned}
 

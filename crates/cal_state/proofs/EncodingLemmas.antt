@@ -12,13 +12,13 @@ use Rattle.cal_ast.specs.Numbers.{SetHasNumbers}
 use Rattle.cal_ast.specs.Tree.{Assignment, PortName, assignment_tree, port_of}
 use Rattle.cal_ast.specs.declared.tree.Assign.{Assign}
 use Rattle.cal_ast.specs.declared.tree.CalPort.{CalPort}
-use Rattle.cal_lower.specs.Pieces.{Kind, Piece, Wire, Register, enables_piece, piece, piece_set, piece_sets}
+use Rattle.cal_lower.specs.inside.Pieces.{Kind, Piece, Wire, Register, enables_piece, piece, piece_set, piece_sets}
 use Rattle.cal_lower.specs.inside.Shown.{Shows, ShowAll, ShowsGuard, ShowsPort}
 use Rattle.cal_lower.proofs.GrownLemmas.{show_append, show_push}
 use Rattle.cal_lower.proofs.StableLemmas.{KeepsTexts-refl}
 use Rattle.cal_state.specs.inside.Making.{Encoding, HasKind, ShowSets, ShowsEncoding, ShowsWhen}
-use Rattle.cal_state.specs.States.{all_next_sets, as_wire, as_wires, next_sets}
-use Rattle.cal_state.specs.Threads.{Place, NoState, IsIn}
+use Rattle.cal_state.specs.inside.States.{all_next_sets, as_wire, as_wires, next_sets}
+use Rattle.cal_state.specs.inside.Threads.{Place, NoState, IsIn}
 use Rattle.cal_state.specs.declared.component.Sets.{Sets}
 use Rattle.cal_state.proofs.MadeLemmas.{literal_set, one_guard}
 

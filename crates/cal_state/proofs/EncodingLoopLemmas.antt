@@ -9,12 +9,12 @@ use Rattle.cal_ast.specs.Plan.{Plan}
 use Rattle.cal_ast.specs.Tree.{Assignment, DoneLine, GroupDef, done_tree, group_tree}
 use Rattle.cal_ast.specs.declared.tree.DoneSet.{DoneSet}
 use Rattle.cal_ast.specs.declared.tree.Group.{Group}
-use Rattle.cal_lower.specs.Lowered.{acts_wire, done_wire, group_pieces}
-use Rattle.cal_lower.specs.Pieces.{Piece, piece_set, piece_sets}
+use Rattle.cal_lower.specs.inside.Lowered.{acts_wire, done_wire, group_pieces}
+use Rattle.cal_lower.specs.inside.Pieces.{Piece, piece_set, piece_sets}
 use Rattle.cal_lower.proofs.NextLemmas.{drop_next, one_more}
 use Rattle.cal_state.specs.inside.Making.{Encoding, HasKind, ShowsEncoding, ShowsPlace}
-use Rattle.cal_state.specs.States.{all_next_sets, as_wire, as_wires, next_sets}
-use Rattle.cal_state.specs.Threads.{Place, NoState, IsIn}
+use Rattle.cal_state.specs.inside.States.{all_next_sets, as_wire, as_wires, next_sets}
+use Rattle.cal_state.specs.inside.Threads.{Place, NoState, IsIn}
 use Rattle.cal_state.specs.declared.component.Sets.{Sets}
 use Rattle.cal_state.specs.declared.threads.State as state
 

@@ -3,14 +3,14 @@ use Rattle.std.proofs.Common.{◌≡◌, ℕ, ◌+◌, ◌≤◌, ◌<◌, ◌^�
 use Rattle.std.specs.Prelude.{if◌then◌else◌}
 use Rattle.cal_ast.specs.Plan.{Plan, Enables, InTurn, AtOnce, Chooses, Repeats, Plans, NoPlans, MorePlans}
 use Rattle.cal_ast.specs.Typing.{LiteralFits}
-use Rattle.cal_token.specs.Tokens.{Starting, size, sizes}
+use Rattle.cal_token.specs.inside.Tokens.{Starting, size, sizes}
 use Rattle.cal_walk.specs.Left.{is_over}
-use Rattle.cal_lower.specs.Parts.{none_if_over}
+use Rattle.cal_lower.specs.inside.Parts.{none_if_over}
 use Rattle.cal_lower.proofs.ListLemmas.{Each, each_append}
 use Rattle.net_core.specs.declared.net.Src.TheVariants.{Lit}
-use Rattle.cal_state.specs.States.{width_of}
-use Rattle.cal_state.specs.Threads.{Thread, Place, NoState, IsIn, place_in, with_start_in, places, places_in_turn, places_after, places_at_once, plan_places}
-use Rattle.cal_state.specs.Threads.{thread_of, first_state, lasting_states, states, states_in, zero_if_over}
+use Rattle.cal_state.specs.inside.States.{width_of}
+use Rattle.cal_state.specs.inside.Threads.{Thread, Place, NoState, IsIn, place_in, with_start_in, places, places_in_turn, places_after, places_at_once, plan_places}
+use Rattle.cal_state.specs.inside.Threads.{thread_of, first_state, lasting_states, states, states_in, zero_if_over}
 use Rattle.cal_state.proofs.PlaceLemmas.{branch, lasting_is, over_none, some_states}
 use Rattle.cal_state.proofs.WidthLemmas.{width_is}
 

@@ -5,10 +5,10 @@ use Rattle.std.proofs.lemmas.Bool.{cases_Bool}
 use Rattle.cal_ast.specs.Actors.{Actor, same_actor}
 use Rattle.cal_ast.specs.Plan.{Plan, Enables, InTurn, AtOnce, Chooses, Repeats, Plans, NoPlans, MorePlans}
 use Rattle.cal_walk.specs.Left.{Sight, is_over, are_over, is_by}
-use Rattle.cal_token.specs.Tokens.{Tokens, Going, Starting, Ended, Again, size, unless_over, WithStart, is_tested}
-use Rattle.cal_token.specs.Tokens.{ends, ends_in_turn, the_last_ends, have_ended, ends_later}
-use Rattle.cal_token.specs.Tokens.{enables_by, enables_by_in_turn, others_enable, enables_by_at_once, tests_by, tests_by_in_turn, others_test, tests_by_at_once}
-use Rattle.cal_token.specs.Tokens.{Steps, StepInTurn, OthersStep, StepAtOnce, StepsLater}
+use Rattle.cal_token.specs.inside.Tokens.{Tokens, Going, Starting, Ended, Again, size, unless_over, WithStart, is_tested}
+use Rattle.cal_token.specs.inside.Tokens.{ends, ends_in_turn, the_last_ends, have_ended, ends_later}
+use Rattle.cal_token.specs.inside.Tokens.{enables_by, enables_by_in_turn, others_enable, enables_by_at_once, tests_by, tests_by_in_turn, others_test, tests_by_at_once}
+use Rattle.cal_token.specs.inside.Tokens.{Steps, StepInTurn, OthersStep, StepAtOnce, StepsLater}
 use Rattle.cal_token.proofs.TestLemmas.{or_same, and_same, at_true, at_false, of_true, of_false}
 
 -- what follows of a part unless it takes no row

@@ -28,3 +28,6 @@ pub mod StateLoopLemmas
 pub mod StateHoleLemmas
 pub mod StateControlLemmas
 pub mod StateRunLemmas
+pub mod WrittenStates
+pub mod WrittenComponents
+pub mod MakesLemmas

@@ -16,12 +16,12 @@ use Rattle.cal_ast.specs.Tree.{PortName, port_of, port_tree, assignment_tree, ce
 use Rattle.cal_ast.specs.declared.tree.Assign.{Assign}
 use Rattle.cal_ast.specs.declared.tree.CalCell.{CalCell}
 use Rattle.cal_ast.specs.declared.tree.CalPort.{CalPort}
-use Rattle.cal_lower.specs.Pieces.{shown}
+use Rattle.cal_lower.specs.inside.Pieces.{shown}
 use Rattle.cal_lower.specs.inside.Shown.{Shows, ShowAll, ShowsGuard, ShowsGuards, ShowsName, ShowsPort, seen_guard}
 use Rattle.cal_lower.proofs.GrownLemmas.{name_number, name_text, show_all_kept, show_none, show_one, show_push}
 use Rattle.cal_state.specs.inside.Making.{AreTexts, ShowsPlace, ShowsPlaces, ShowsRegisters, ShowsState, ShowsThread, ShowsWhen, Walk, one_place, with_walk}
-use Rattle.cal_state.specs.States.{is_on, thread_cell, thread_enable, thread_name, width_of}
-use Rattle.cal_state.specs.Threads.{Thread, State, Place, NoState, IsIn}
+use Rattle.cal_state.specs.inside.States.{is_on, thread_cell, thread_enable, thread_name, width_of}
+use Rattle.cal_state.specs.inside.Threads.{Thread, State, Place, NoState, IsIn}
 use Rattle.cal_state.specs.declared.places.Places.{Places}
 use Rattle.cal_state.specs.declared.places.Registers.{Registers}
 use Rattle.cal_state.specs.declared.threads.State as state

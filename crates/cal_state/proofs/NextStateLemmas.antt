@@ -16,19 +16,19 @@ use Rattle.cal_ast.specs.Plan.{Plan, Enables, InTurn, AtOnce, Chooses, Repeats, 
 use Rattle.cal_ast.specs.Tree.{PortName, port_of, Assignment}
 use Rattle.cal_walk.specs.Left.{is_over}
 use Rattle.cal_token.proofs.TestLemmas.{and_same, and_true}
-use Rattle.cal_token.specs.Tokens.{Starting, size}
-use Rattle.cal_lower.specs.Lowered.{control_ends, plan_pieces}
-use Rattle.cal_lower.specs.Parts.{none_if_over, part_ends, with_start, part_pieces, pieces_in_turn, pieces_after, pieces_at_once}
-use Rattle.cal_lower.specs.Pieces.{Piece, has_token, is_set, reads, both, shown, start_name}
+use Rattle.cal_token.specs.inside.Tokens.{Starting, size}
+use Rattle.cal_lower.specs.inside.Lowered.{control_ends, plan_pieces}
+use Rattle.cal_lower.specs.inside.Parts.{none_if_over, part_ends, with_start, part_pieces, pieces_in_turn, pieces_after, pieces_at_once}
+use Rattle.cal_lower.specs.inside.Pieces.{Piece, has_token, is_set, reads, both, shown, start_name}
 use Rattle.net_core.specs.Guard.{Negates}
 use Rattle.cal_lower.proofs.ListLemmas.{Each, each_append, each_at, each_from}
 use Rattle.cal_lower.proofs.LocalLemmas.{IsOfOther, local_values-append, local_values-none}
 use Rattle.cal_lower.proofs.PartLemmas.{shows_bit, tokens_in, is_driven}
 use Rattle.cal_lower.proofs.PieceLemmas.{other_name}
 use Rattle.cal_lower.proofs.PlaceLemmas.{Apart}
-use Rattle.cal_state.specs.Encoded.{thread_sets}
-use Rattle.cal_state.specs.States.{all_next_sets, thread_enable, thread_name}
-use Rattle.cal_state.specs.Threads.{Thread, Place, NoState, IsIn, ended_state, plan_places, thread_of, threads}
+use Rattle.cal_state.specs.inside.Encoded.{thread_sets}
+use Rattle.cal_state.specs.inside.States.{all_next_sets, thread_enable, thread_name}
+use Rattle.cal_state.specs.inside.Threads.{Thread, Place, NoState, IsIn, ended_state, plan_places, thread_of, threads}
 use Rattle.cal_state.proofs.OnLemmas.{on}
 use Rattle.cal_state.proofs.PlaceLemmas.{Aligned}
 use Rattle.cal_state.proofs.RegisterLemmas.{plan_aligned}

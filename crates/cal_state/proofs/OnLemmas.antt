@@ -6,15 +6,15 @@ use Rattle.cal_ast.specs.Actors.{Actor}
 use Rattle.cal_ast.specs.Plan.{Plan, Enables, InTurn, AtOnce, Chooses, Repeats, Plans, NoPlans, MorePlans}
 use Rattle.cal_ast.specs.Tree.{PortName}
 use Rattle.cal_walk.specs.Left.{is_over, are_over}
-use Rattle.cal_token.specs.Coming.{IsOff, FirstIsOff, OthersAreOff, AllAreOff, IsLaterOff}
-use Rattle.cal_token.specs.Coming.{Leaves, GoesOn, InOrder, Together, OnBranch, OffBranch, InBody, AtTest, LeavesLater, IsStarting, IsOn}
-use Rattle.cal_token.specs.Coming.{LeavesInTurn, PastOne, InFirst, InOthers, LeaveOthers, Here, AfterEnded, Later, FirstStarts, Over, ByToken}
-use Rattle.cal_token.specs.Coming.{LeaveAtOnce, NoneLeft, OneOver, OneEnded, OneOn}
-use Rattle.cal_token.specs.Tokens.{Token, Tokens, Going, Starting, Ended, Again, WithStart, size, sizes}
+use Rattle.cal_token.specs.inside.Coming.{IsOff, FirstIsOff, OthersAreOff, AllAreOff, IsLaterOff}
+use Rattle.cal_token.specs.inside.Coming.{Leaves, GoesOn, InOrder, Together, OnBranch, OffBranch, InBody, AtTest, LeavesLater, IsStarting, IsOn}
+use Rattle.cal_token.specs.inside.Coming.{LeavesInTurn, PastOne, InFirst, InOthers, LeaveOthers, Here, AfterEnded, Later, FirstStarts, Over, ByToken}
+use Rattle.cal_token.specs.inside.Coming.{LeaveAtOnce, NoneLeft, OneOver, OneEnded, OneOn}
+use Rattle.cal_token.specs.inside.Tokens.{Token, Tokens, Going, Starting, Ended, Again, WithStart, size, sizes}
 use Rattle.cal_token.proofs.TestLemmas.{of_true, of_false}
-use Rattle.cal_lower.specs.Parts.{none_if_over}
-use Rattle.cal_state.specs.Threads.{Thread, State, Place, NoState, IsIn, place_in, with_start_in, places, places_in_turn, places_after, places_at_once}
-use Rattle.cal_state.specs.Threads.{thread_of, ended_state, first_state, lasting_states, states, states_in}
+use Rattle.cal_lower.specs.inside.Parts.{none_if_over}
+use Rattle.cal_state.specs.inside.Threads.{Thread, State, Place, NoState, IsIn, place_in, with_start_in, places, places_in_turn, places_after, places_at_once}
+use Rattle.cal_state.specs.inside.Threads.{thread_of, ended_state, first_state, lasting_states, states, states_in}
 use Rattle.cal_state.proofs.PlaceLemmas.{Lies, EachLies, branch, branch_lies, lies_at_once}
 
 -- the states of the thread with this part whose tokens are there

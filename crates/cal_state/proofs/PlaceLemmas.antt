@@ -6,11 +6,11 @@ use Rattle.net_core.specs.Guard.{GuardTree, Negates}
 use Rattle.cal_ast.specs.Plan.{Plan, Enables, InTurn, AtOnce, Chooses, Repeats, Plans, NoPlans, MorePlans}
 use Rattle.cal_ast.specs.Tree.{PortName}
 use Rattle.cal_walk.specs.Left.{is_over}
-use Rattle.cal_token.specs.Tokens.{Token, Starting, Ended, size, sizes}
-use Rattle.cal_lower.specs.Parts.{none_if_over, part_ends, ended_guard, tested_guard, with_start, part_pieces, pieces_in_turn, pieces_after, pieces_at_once}
-use Rattle.cal_lower.specs.Pieces.{Piece, Wire, Register, piece, token_name, has_token, reads, both}
-use Rattle.cal_state.specs.Threads.{Thread, State, Place, NoState, IsIn, place_in, with_start_in, places, places_in_turn, places_after, places_at_once}
-use Rattle.cal_state.specs.Threads.{thread_of, ended_state, first_state, lasting_states, states, states_in, zero_if_over}
+use Rattle.cal_token.specs.inside.Tokens.{Token, Starting, Ended, size, sizes}
+use Rattle.cal_lower.specs.inside.Parts.{none_if_over, part_ends, ended_guard, tested_guard, with_start, part_pieces, pieces_in_turn, pieces_after, pieces_at_once}
+use Rattle.cal_lower.specs.inside.Pieces.{Piece, Wire, Register, piece, token_name, has_token, reads, both}
+use Rattle.cal_state.specs.inside.Threads.{Thread, State, Place, NoState, IsIn, place_in, with_start_in, places, places_in_turn, places_after, places_at_once}
+use Rattle.cal_state.specs.inside.Threads.{thread_of, ended_state, first_state, lasting_states, states, states_in, zero_if_over}
 
 -- ---- pieces and their places
 

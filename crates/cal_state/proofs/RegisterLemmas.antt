@@ -17,16 +17,16 @@ use Rattle.cal_ast.specs.Plan.{Plan, plan_of}
 use Rattle.cal_ast.specs.Ports.{is_bare}
 use Rattle.cal_ast.specs.Tree.{CellDef, DoneLine, GroupDef, Absent, Component, Design}
 use Rattle.cal_walk.specs.Left.{is_over}
-use Rattle.cal_lower.specs.Lowered.{done_wire, group_pieces, plan_pieces}
-use Rattle.cal_lower.specs.Parts.{part_pieces}
-use Rattle.cal_lower.specs.Pieces.{Kind, Wire, Register, Piece, made_by, piece_cell, is_set, start_name}
+use Rattle.cal_lower.specs.inside.Lowered.{done_wire, group_pieces, plan_pieces}
+use Rattle.cal_lower.specs.inside.Parts.{part_pieces}
+use Rattle.cal_lower.specs.inside.Pieces.{Kind, Wire, Register, Piece, made_by, piece_cell, is_set, start_name}
 use Rattle.cal_lower.proofs.ListLemmas.{Each, each_append, each_at, each_flat_map, each_from, each_map}
 use Rattle.cal_lower.proofs.LoweredLemmas.{prim_for, piece_made}
-use Rattle.cal_state.specs.Encoded.{IsStatesOf, encoded, instance_wires, wires, with_states}
-use Rattle.cal_state.specs.Laws.{StatesAreFew}
-use Rattle.cal_state.specs.Registers.{HasFewRegisters, IsNarrow, is_register, parallel}
-use Rattle.cal_state.specs.States.{as_wire, as_wires, thread_cell, width_of}
-use Rattle.cal_state.specs.Threads.{Place, NoState, IsIn, Thread, first_state, places, plan_places, thread_of, threads}
+use Rattle.cal_state.specs.inside.Encoded.{IsStatesOf, encoded, instance_wires, wires, with_states}
+use Rattle.cal_state.specs.inside.Laws.{StatesAreFew}
+use Rattle.cal_ast.specs.Registers.{HasFewRegisters, IsNarrow, is_register, parallel}
+use Rattle.cal_state.specs.inside.States.{as_wire, as_wires, thread_cell, width_of}
+use Rattle.cal_state.specs.inside.Threads.{Place, NoState, IsIn, Thread, first_state, places, plan_places, thread_of, threads}
 use Rattle.cal_state.proofs.CountLemmas.{EachFew, each_thread_few, few_section_threads}
 use Rattle.cal_state.proofs.PlaceLemmas.{Fits, Aligned, aligned}
 use Rattle.cal_state.proofs.WidthLemmas.{narrow_enough}

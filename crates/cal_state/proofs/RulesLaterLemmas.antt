@@ -10,7 +10,7 @@ use Rattle.hw_names.specs.Name.{KeepsTexts, Text}
 use Rattle.hw_prims.specs.Table.{Pin}
 use Rattle.net_core.specs.Guard.{GuardTree}
 use Rattle.cal_ast.specs.Holes.{ActivityRule, rule_tree}
-use Rattle.cal_ast.specs.Numbers.{ComponentHasNumbers, ControlHasNumbers}
+use Rattle.cal_ast.specs.Numbers.{ComponentHasNumbers, ControlHasNumbers, RuleHasNumbers}
 use Rattle.cal_ast.specs.Ports.{is_bare}
 use Rattle.cal_ast.specs.Tree.{PortName, Absent, Assignment, CellDef, Component, ControlSection, GroupDef, assignment_tree, cell_tree, component_tree, control_tree, design_of, group_tree, pin_tree}
 use Rattle.cal_ast.specs.declared.lowered.ActRule.{ActRule}
@@ -18,14 +18,13 @@ use Rattle.cal_ast.specs.declared.tree.CalComp.{CalComp}
 use Rattle.cal_ast.specs.declared.tree.CalDesign.{CalDesign}
 use Rattle.cal_ast.specs.declared.tree.ControlPart.{ControlPart}
 use Rattle.cal_ast.specs.declared.tree.ControlPart.TheVariants as part
-use Rattle.cal_group.specs.Ruling.{RuleHasNumbers}
-use Rattle.cal_lower.specs.Lowered.{lowered}
+use Rattle.cal_lower.specs.inside.Lowered.{lowered}
 use Rattle.cal_lower.proofs.ComponentLemmas.{component_numbers, lowered_bare, lowered_full}
 use Rattle.cal_lower.proofs.StableLemmas.{KeepsTexts-refl, cells_kept, groups_kept, guard_kept, guard_numbers, id_number, map_kept, pins_kept, sets_kept}
 use Rattle.cal_lower.proofs.GrownLemmas.{show_all_kept}
 use Rattle.cal_lower.proofs.NextLemmas.{drop_next, map_next}
 use Rattle.cal_lower.specs.inside.Shown.{Shows}
-use Rattle.cal_state.specs.Encoded.{encoded}
+use Rattle.cal_state.specs.inside.Encoded.{encoded}
 use Rattle.cal_state.specs.inside.Making.{ShowComponents}
 use Rattle.cal_state.proofs.EncodingLemmas.{show_first, show_rest}
 

@@ -8,16 +8,16 @@ use Rattle.cal_ast.specs.Keeping.{IsAddedCell, KeepsShape}
 use Rattle.cal_ast.specs.Naming.{IsReserved}
 use Rattle.cal_ast.specs.Plan.{plan_of}
 use Rattle.cal_ast.specs.Tree.{Component, Design}
-use Rattle.cal_token.specs.Tokens.{size}
-use Rattle.cal_lower.specs.Lowered.{control_pieces, HasFewParts}
-use Rattle.cal_lower.specs.Pieces.{Kind, Wire, Register, Piece, made_by, piece_cell}
+use Rattle.cal_token.specs.inside.Tokens.{size}
+use Rattle.cal_lower.specs.inside.Lowered.{control_pieces, HasFewParts}
+use Rattle.cal_lower.specs.inside.Pieces.{Kind, Wire, Register, Piece, made_by, piece_cell}
 use Rattle.cal_lower.proofs.ListLemmas.{Each}
 use Rattle.cal_lower.proofs.PieceLemmas.{pieces_reserved}
 use Rattle.cal_lower.proofs.ShapeLemmas.{shape_kept}
-use Rattle.cal_state.specs.Encoded.{wires}
-use Rattle.cal_state.specs.Laws.{StatesKeepShape}
-use Rattle.cal_state.specs.States.{thread_cell}
-use Rattle.cal_state.specs.Threads.{Thread, threads}
+use Rattle.cal_state.specs.inside.Encoded.{wires}
+use Rattle.cal_state.specs.inside.Laws.{StatesKeepShape}
+use Rattle.cal_state.specs.inside.States.{thread_cell}
+use Rattle.cal_state.specs.inside.Threads.{Thread, threads}
 use Rattle.cal_state.proofs.AddedStateLemmas.{design_is, encoding}
 use Rattle.cal_state.proofs.EncodedLemmas.{piece_names, wires_named}
 

@@ -8,13 +8,13 @@ use Rattle.cal_ast.specs.Actors.{Actor}
 use Rattle.cal_ast.specs.Plan.{Plan, Enables, InTurn, AtOnce, Chooses, Repeats, Plans, NoPlans, MorePlans}
 use Rattle.cal_ast.specs.Tree.{PortName}
 use Rattle.cal_walk.specs.Left.{is_over, are_over}
-use Rattle.cal_token.specs.Coming.{Leaves, GoesOn, InOrder, Together, OnBranch, OffBranch, InBody, AtTest, LeavesLater, IsStarting, IsOn}
-use Rattle.cal_token.specs.Coming.{LeavesInTurn, PastOne, InFirst, InOthers, LeaveOthers, Here, AfterEnded, Later, FirstStarts, Over, ByToken}
-use Rattle.cal_token.specs.Coming.{LeaveAtOnce, NoneLeft, OneOver, OneEnded, OneOn}
-use Rattle.cal_token.specs.Tokens.{Token, Tokens, Going, Starting, Ended, Again, size}
-use Rattle.cal_lower.specs.Parts.{none_if_over}
-use Rattle.cal_state.specs.Threads.{Thread, State, Place, NoState, IsIn, place_in, with_start_in, places, places_in_turn, places_after, places_at_once}
-use Rattle.cal_state.specs.Threads.{inner_threads, threads_in_turn, threads_at_once, thread_of, ended_state, first_state, lasting_states, states}
+use Rattle.cal_token.specs.inside.Coming.{Leaves, GoesOn, InOrder, Together, OnBranch, OffBranch, InBody, AtTest, LeavesLater, IsStarting, IsOn}
+use Rattle.cal_token.specs.inside.Coming.{LeavesInTurn, PastOne, InFirst, InOthers, LeaveOthers, Here, AfterEnded, Later, FirstStarts, Over, ByToken}
+use Rattle.cal_token.specs.inside.Coming.{LeaveAtOnce, NoneLeft, OneOver, OneEnded, OneOn}
+use Rattle.cal_token.specs.inside.Tokens.{Token, Tokens, Going, Starting, Ended, Again, size}
+use Rattle.cal_lower.specs.inside.Parts.{none_if_over}
+use Rattle.cal_state.specs.inside.Threads.{Thread, State, Place, NoState, IsIn, place_in, with_start_in, places, places_in_turn, places_after, places_at_once}
+use Rattle.cal_state.specs.inside.Threads.{inner_threads, threads_in_turn, threads_at_once, thread_of, ended_state, first_state, lasting_states, states}
 use Rattle.cal_state.proofs.OnLemmas.{on, on-append}
 use Rattle.cal_state.proofs.PlaceLemmas.{branch}
 

@@ -11,13 +11,13 @@ use Rattle.cal_ast.specs.Plan.{Plan}
 use Rattle.cal_ast.specs.Spans.{View}
 use Rattle.cal_ast.specs.Tree.{PortName, port_of, own}
 use Rattle.cal_walk.specs.Left.{sight_at, is_over, is_by}
-use Rattle.cal_walk.specs.Stages.{Progress, Waits, Runs, Ends, progress_at}
+use Rattle.cal_walk.specs.Stages.{Progress, Waits, GoesOn, Ends, progress_at}
 use Rattle.cal_token.proofs.TestLemmas.{and_true, or_same}
-use Rattle.cal_token.specs.Coming.{IsOff, Leaves}
-use Rattle.cal_token.specs.Tokens.{Token, Tokens, size, ends, enables_by, tests_by, Steps}
-use Rattle.cal_lower.specs.Lowered.{control_ends, plan_pieces, start_guard}
-use Rattle.cal_lower.specs.Parts.{part_ends, part_pieces}
-use Rattle.cal_lower.specs.Pieces.{Kind, Wire, Register, Piece, shown, is_set, any_of, is_done, start_name, busy_name, over_name}
+use Rattle.cal_token.specs.inside.Coming.{IsOff, Leaves}
+use Rattle.cal_token.specs.inside.Tokens.{Token, Tokens, size, ends, enables_by, tests_by, Steps}
+use Rattle.cal_lower.specs.inside.Lowered.{control_ends, plan_pieces, start_guard}
+use Rattle.cal_lower.specs.inside.Parts.{part_ends, part_pieces}
+use Rattle.cal_lower.specs.inside.Pieces.{Kind, Wire, Register, Piece, shown, is_set, any_of, is_done, start_name, busy_name, over_name}
 use Rattle.cal_lower.proofs.ActingLemmas.{never_enabled, never_tested}
 use Rattle.cal_lower.proofs.ControlLemmas.{Bits, AreControl, Stands, over_each_enabled, over_each_tested, stands_at}
 use Rattle.cal_lower.proofs.GuardLemmas.{any_true, holds_both, holds_any_of}
@@ -25,9 +25,9 @@ use Rattle.cal_lower.proofs.ListLemmas.{Each, each_at, each_from}
 use Rattle.cal_lower.proofs.OffLemmas.{IsUnset, UnsetAs, part_off}
 use Rattle.cal_lower.proofs.PartLemmas.{shows_bit, tokens_in, is_driven, ShowsAs, IsShown, EachEnabled, plan_ends, plan_steps}
 use Rattle.cal_lower.proofs.PlaceLemmas.{Apart}
-use Rattle.cal_state.specs.Encoded.{instance_wires, busy_guard, over_state, thread_sets}
-use Rattle.cal_state.specs.States.{as_wires, is_in, is_on, thread_name}
-use Rattle.cal_state.specs.Threads.{Thread, State, Place, NoState, IsIn, ended_state, first_state, inner_threads, places, plan_places, thread_of, threads}
+use Rattle.cal_state.specs.inside.Encoded.{instance_wires, busy_guard, over_state, thread_sets}
+use Rattle.cal_state.specs.inside.States.{as_wires, is_in, is_on, thread_name}
+use Rattle.cal_state.specs.inside.Threads.{Thread, State, Place, NoState, IsIn, ended_state, first_state, inner_threads, places, plan_places, thread_of, threads}
 use Rattle.cal_state.proofs.JointLemmas.{Joint, same_ends, same_enables, same_tests, same_steps}
 use Rattle.cal_state.proofs.NextStateLemmas.{next_row, next_shows, thread_values}
 use Rattle.cal_state.proofs.OnLemmas.{on, off_none, few_on}
@@ -232,7 +232,7 @@ module _ (plan : Plan) (sized : size plan ≤ 2 ^ 64) (apart : Apart (plan_piece
 
   stands : (h t : ℕ) (are : AreControl plan view go h bits) (x : Progress) → Stands plan view go h bits are t x → Rests t ⊎ Goes t
   stands h t are Waits r = inl (record { busy = r.busy; none = none_off t r.off })
-  stands h t are (Runs p) r = inr (record { busy = r.busy; over = r.over; few = few_leaves t p r.more r.leaves; some = some_leaves t p r.more r.leaves })
+  stands h t are (GoesOn p) r = inr (record { busy = r.busy; over = r.over; few = few_leaves t p r.more r.leaves; some = some_leaves t p r.more r.leaves })
   stands h t are Ends r = inl (record { busy = r.busy; none = none_off t r.off })
 
   -- at most one state of a thread is brought

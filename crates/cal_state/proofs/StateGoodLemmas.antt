@@ -20,10 +20,10 @@ use Rattle.cal_ast.specs.Ports.{is_bare, primitive_in, Input, Output, SidedPin, 
 use Rattle.cal_ast.specs.Sides.{IsSource}
 use Rattle.cal_ast.specs.Tree.{PortName, port_of, Assignment, Component, Design}
 use Rattle.cal_ast.specs.Typing.{LiteralFits, GuardsAgree, OptionAgrees}
-use Rattle.cal_token.specs.Tokens.{size}
+use Rattle.cal_token.specs.inside.Tokens.{size}
 use Rattle.cal_lower.specs.inside.Added.{extended}
-use Rattle.cal_lower.specs.Lowered.{control_pieces, group_pieces, instance_pieces, plan_pieces}
-use Rattle.cal_lower.specs.Pieces.{Piece, Wire, piece, piece_cell, piece_sets, never, both, any_of, is_set, shown, over_name}
+use Rattle.cal_lower.specs.inside.Lowered.{control_pieces, group_pieces, instance_pieces, plan_pieces}
+use Rattle.cal_lower.specs.inside.Pieces.{Piece, Wire, piece, piece_cell, piece_sets, never, both, any_of, is_set, shown, over_name}
 use Rattle.cal_lower.proofs.ControlGoodLemmas.{acts_bit, over_bit, pieces_good}
 use Rattle.cal_lower.proofs.ExtendedLemmas.{answer}
 use Rattle.cal_lower.proofs.GoodLemmas.{IsBitPort, IsGoodPiece, IsGoodSet, guard_from_bits, is_width_one, sets_good, shown_bit}
@@ -31,9 +31,9 @@ use Rattle.cal_lower.proofs.ListLemmas.{Each, each_append, each_at, each_flat_ma
 use Rattle.cal_lower.proofs.LoweredLemmas.{prim_for, piece_made}
 use Rattle.cal_lower.proofs.RulesKeptLemmas.{AgreesWithRules}
 use Rattle.cal_lower.proofs.ShownLemmas.{added_primitive}
-use Rattle.cal_state.specs.Encoded.{over_set, instance_wires, thread_sets, wires}
-use Rattle.cal_state.specs.States.{all_next_sets, as_wires, is_in, is_on, thread_cell, thread_enable, thread_name, width_of}
-use Rattle.cal_state.specs.Threads.{Thread, Place, NoState, IsIn, ended_state, inner_threads, plan_places, thread_of, threads}
+use Rattle.cal_state.specs.inside.Encoded.{over_set, instance_wires, thread_sets, wires}
+use Rattle.cal_state.specs.inside.States.{all_next_sets, as_wires, is_in, is_on, thread_cell, thread_enable, thread_name, width_of}
+use Rattle.cal_state.specs.inside.Threads.{Thread, Place, NoState, IsIn, ended_state, inner_threads, plan_places, thread_of, threads}
 use Rattle.cal_state.proofs.AddedStateLemmas.{encoding, encoding_made, encoding_named, thread_added, thread_made, wire_added}
 use Rattle.cal_state.proofs.EncodedLemmas.{piece_names, wires_named}
 use Rattle.cal_state.proofs.FitLemmas.{IsWithin, lasting_small, plan_within, state_fits}

@@ -4,10 +4,10 @@ use Rattle.std.specs.Prelude.{Contains}
 use Rattle.std.proofs.lemmas.List.Elements.{All-contains}
 use Rattle.cal_ast.specs.Holes.{ActivityRule, IsHoleDesign}
 use Rattle.cal_ast.specs.Tree.{Component, Design}
-use Rattle.cal_lower.specs.Lowered.{HasFewParts}
+use Rattle.cal_lower.specs.inside.Lowered.{HasFewParts}
 use Rattle.cal_lower.proofs.ExtendedLemmas.{answer}
 use Rattle.cal_lower.proofs.HoleLemmas.{hole_design}
-use Rattle.cal_state.specs.Laws.{StatesAreHoles}
+use Rattle.cal_state.specs.inside.Laws.{StatesAreHoles}
 use Rattle.cal_state.proofs.AddedStateLemmas.{design_is, encoding, encoding_made, encoding_named}
 use Rattle.cal_state.proofs.StateGoodLemmas.{encoding_agrees}
 use Rattle.cal_state.proofs.StateLoopLemmas.{no_loops}

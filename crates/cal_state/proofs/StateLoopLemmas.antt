@@ -26,11 +26,11 @@ use Rattle.cal_ast.specs.Ports.{is_bare, inputs_in, outputs_in, cell_named, prim
 use Rattle.cal_ast.specs.Rules.{HasNoLoops}
 use Rattle.cal_ast.specs.Tree.{PortName, own, port_of, CellDef, Assignment, GroupDef, Component, Design}
 use Rattle.cal_ast.specs.Wires.{IsAssignedIn, ReadsByAssignment, ReadsByDone, ReadsByGo, ReadsByPrimitive, CrossesCell, DependsWithinRow, ReadsPort, ByAssignment, ByDone, ByGo, ByPrimitive, ByComponent}
-use Rattle.cal_ast.specs.Wires.{Reaches, AtOnce, Over, ReadsAlong, HasNoLoop, set_ports}
-use Rattle.cal_token.specs.Tokens.{Token, size}
+use Rattle.cal_ast.specs.Wires.{Reaches, Straight, Over, ReadsAlong, HasNoLoop, set_ports}
+use Rattle.cal_token.specs.inside.Tokens.{Token, size}
 use Rattle.cal_lower.specs.inside.Added.{Additions, extended}
-use Rattle.cal_lower.specs.Lowered.{HasFewParts, control_ends, control_pieces, done_set, group_pieces, instance_pieces, plan_pieces, rules_from, start_guard}
-use Rattle.cal_lower.specs.Pieces.{Piece, Wire, Register, piece, piece_cell, piece_set, piece_sets, token_name, start_name, busy_name, over_name, shown, is_set, both, either, any_of}
+use Rattle.cal_lower.specs.inside.Lowered.{HasFewParts, control_ends, control_pieces, done_set, group_pieces, instance_pieces, plan_pieces, rules_from, start_guard}
+use Rattle.cal_lower.specs.inside.Pieces.{Piece, Wire, Register, piece, piece_cell, piece_set, piece_sets, token_name, start_name, busy_name, over_name, shown, is_set, both, either, any_of}
 use Rattle.cal_lower.proofs.AnswerReadLemmas.{Enters, ToActs, ToDone, ToStart, ToRegister, Onward, set_on, piece_set_case, wire_depends}
 use Rattle.cal_lower.proofs.ExtendedLemmas.{HasPlace, place_found, answer, extended_bare, extended_inputs, extended_outputs, extended_sets, added_cells, cell_other, primitive_kept}
 use Rattle.cal_lower.proofs.GoodLemmas.{IsGoodSet}
@@ -42,16 +42,16 @@ use Rattle.cal_lower.proofs.PlacedLemmas.{IsPlaced, AStart, ARegister, AnActs, A
 use Rattle.cal_lower.proofs.PlaceLemmas.{third}
 use Rattle.cal_lower.proofs.SourceLemmas.{reserved_absent}
 use Rattle.cal_lower.proofs.TokenGoodLemmas.{piece_primitive, tokens_agree}
-use Rattle.cal_state.specs.Encoded.{busy_guard, over_set, over_state, thread_sets, instance_wires, wires}
-use Rattle.cal_state.specs.States.{all_next_sets, as_wires, is_in, is_on, thread_cell, thread_enable, thread_name, width_of}
-use Rattle.cal_state.specs.Threads.{Thread, State, Place, NoState, IsIn, plan_places, thread_of, threads}
+use Rattle.cal_state.specs.inside.Encoded.{busy_guard, over_set, over_state, thread_sets, instance_wires, wires}
+use Rattle.cal_state.specs.inside.States.{all_next_sets, as_wires, is_in, is_on, thread_cell, thread_enable, thread_name, width_of}
+use Rattle.cal_state.specs.inside.Threads.{Thread, State, Place, NoState, IsIn, plan_places, thread_of, threads}
 use Rattle.cal_state.proofs.AddedStateLemmas.{encoding, encoding_made, no_thread_pieces, thread_made}
 use Rattle.cal_state.proofs.PlaceLemmas.{Aligned}
 use Rattle.cal_state.proofs.RegisterLemmas.{IsWire, all_wires, plan_aligned}
 use Rattle.cal_state.proofs.StateOrderLemmas.{order_at, order, order_bare, order_full, small_name, shown_small, other_order, token_takes, token_shows}
 
 along_reaches : (design : Design) (c : Component) (first : PortName) (others : List PortName) (back : PortName) → ReadsAlong design c (first ∷ others) back → Reaches design c first back
-along_reaches design c first [] back along = AtOnce c first back along
+along_reaches design c first [] back along = Straight c first back along
 along_reaches design c first (next ∷ others) back along = Over c first next back along.0 (along_reaches design c next others back along.1)
 
 -- a register's output depends on none of its inputs
@@ -207,7 +207,7 @@ module _ (source : Design) (tree : HasPlainTree source) (plain : IsPlainDesign s
 
   at_once : (c : Component) (p q : PortName) → Step ReadsThere c p q → Step ReachesThere c p q
   at_once c p q (inl less) = inl less
-  at_once c p q (inr (level, reads)) = inr (level, AtOnce (l c) p q reads)
+  at_once c p q (inr (level, reads)) = inr (level, Straight (l c) p q reads)
 
   over : (c : Component) (p between q : PortName) → Step ReadsThere c p between → Step ReachesThere c between q → Step ReachesThere c p q
   over c p between q (inl less) (inl further) = inl (omega (arith, less, further))
@@ -618,7 +618,7 @@ module _ (source : Design) (tree : HasPlainTree source) (plain : IsPlainDesign s
         (λ b has_b is. reach_on part (own output) (own input) there b has_b is)
 
     reach_on : (d : Component) (p q : PortName) → Reaches E d p q → (c : Component) → Contains source c → e c ≡ d → Step ReachesThere c p q
-    reach_on d p q (AtOnce x p' q' r) c has same = at_once c p' q' (read_on x p' q' r c has same)
+    reach_on d p q (Straight x p' q' r) c has same = at_once c p' q' (read_on x p' q' r c has same)
     reach_on d p q (Over x p' between q' r rest) c has same = over c p' between q' (read_on x p' between r c has same) (reach_on x between q' rest c has same)
 
   no_loop : (c : Component) → Contains source c → HasNoLoop E (e c)

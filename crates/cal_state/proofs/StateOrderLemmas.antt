@@ -7,8 +7,8 @@ use Rattle.hw_names.specs.Name.{Text}
 use Rattle.cal_ast.specs.Naming.{IsReserved}
 use Rattle.cal_ast.specs.Ports.{is_bare}
 use Rattle.cal_ast.specs.Tree.{PortName, Component}
-use Rattle.cal_token.specs.Tokens.{Token, Going, Starting, Ended, Again}
-use Rattle.cal_lower.specs.Pieces.{token_name}
+use Rattle.cal_token.specs.inside.Tokens.{Token, Going, Starting, Ended, Again}
+use Rattle.cal_lower.specs.inside.Pieces.{token_name}
 use Rattle.cal_lower.proofs.PlaceLemmas.{third}
 
 -- ---- by letters

@@ -6,15 +6,15 @@ use Rattle.hw_names.specs.Name.{Text, IsPlain}
 use Rattle.cal_ast.specs.Plain.{IsPlainCell, HasPlainTree}
 use Rattle.cal_ast.specs.Plan.{plan_of}
 use Rattle.cal_ast.specs.Tree.{CellDef, Component, Design}
-use Rattle.cal_token.specs.Tokens.{size}
-use Rattle.cal_lower.specs.Lowered.{HasFewParts, control_pieces}
-use Rattle.cal_lower.specs.Pieces.{Piece, piece_cell}
+use Rattle.cal_token.specs.inside.Tokens.{size}
+use Rattle.cal_lower.specs.inside.Lowered.{HasFewParts, control_pieces}
+use Rattle.cal_lower.specs.inside.Pieces.{Piece, piece_cell}
 use Rattle.cal_lower.proofs.ListLemmas.{Each, each_at, each_from, each_map}
 use Rattle.cal_lower.proofs.PlainNameLemmas.{decimal_no_dot, pieces_plain, plain_after, plain_kept}
-use Rattle.cal_state.specs.Encoded.{encoded, wires}
-use Rattle.cal_state.specs.Laws.{StatesArePlain}
-use Rattle.cal_state.specs.States.{thread_cell, thread_name}
-use Rattle.cal_state.specs.Threads.{Thread, threads}
+use Rattle.cal_state.specs.inside.Encoded.{encoded, wires}
+use Rattle.cal_state.specs.inside.Laws.{StatesArePlain}
+use Rattle.cal_state.specs.inside.States.{thread_cell, thread_name}
+use Rattle.cal_state.specs.inside.Threads.{Thread, threads}
 use Rattle.cal_state.proofs.AddedStateLemmas.{design_is, encoding, small}
 use Rattle.cal_state.proofs.EncodedLemmas.{piece_names, wires_named}
 

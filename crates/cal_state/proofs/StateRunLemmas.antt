@@ -23,12 +23,12 @@ use Rattle.cal_ast.specs.Tree.{PortName, DoneLine, GroupDef, Component, Design}
 use Rattle.cal_walk.specs.Left.{is_over}
 use Rattle.cal_walk.specs.Stages.{Progress, progress_at, acts_now, is_done_now, enabled_now, tested_now}
 use Rattle.cal_token.proofs.TestLemmas.{and_true}
-use Rattle.cal_token.specs.Tokens.{size}
+use Rattle.cal_token.specs.inside.Tokens.{size}
 use Rattle.cal_lower.specs.inside.Added.{extended}
-use Rattle.cal_lower.specs.Laws.{KeepsRunsFromEach}
-use Rattle.cal_lower.specs.Lowered.{HasFewParts, acts_guard, acts_wire, done_wire, group_pieces, plan_pieces, rules_from}
-use Rattle.cal_lower.specs.Parts.{part_pieces}
-use Rattle.cal_lower.specs.Pieces.{Piece, Wire, piece, acts_name, start_name, over_name, shown, is_set, is_done}
+use Rattle.cal_lower.specs.inside.Laws.{KeepsRunsFromEach}
+use Rattle.cal_lower.specs.inside.Lowered.{HasFewParts, acts_guard, acts_wire, done_wire, group_pieces, plan_pieces, rules_from}
+use Rattle.cal_lower.specs.inside.Parts.{part_pieces}
+use Rattle.cal_lower.specs.inside.Pieces.{Piece, Wire, piece, acts_name, start_name, over_name, shown, is_set, is_done}
 use Rattle.cal_lower.proofs.ControlLemmas.{is_on_row, acts_now-is, over_is, enabled_is, tested_is}
 use Rattle.cal_lower.proofs.ExtendedLemmas.{AreNamed, answer}
 use Rattle.cal_lower.proofs.GroupActsLemmas.{ShowsDones, done_is, dones_are, acts_guard_is}
@@ -37,10 +37,10 @@ use Rattle.cal_lower.proofs.PartLemmas.{shows_bit, is_driven, EachEnabled}
 use Rattle.cal_lower.proofs.PlaceLemmas.{Apart, plan_apart}
 use Rattle.cal_lower.proofs.RunKeptLemmas.{ActsAsControl, FollowsControl, runs_kept}
 use Rattle.cal_lower.proofs.ShownLemmas.{IsAddedPiece, wire_is, wire_shows, register_opens, register_follows}
-use Rattle.cal_state.specs.Encoded.{encoded, instance_wires, over_state, wires}
-use Rattle.cal_state.specs.Laws.{StatesKeepRuns}
-use Rattle.cal_state.specs.States.{as_wires, is_in, thread_cell, width_of}
-use Rattle.cal_state.specs.Threads.{plan_places}
+use Rattle.cal_state.specs.inside.Encoded.{encoded, instance_wires, over_state, wires}
+use Rattle.cal_state.specs.inside.Laws.{StatesKeepRuns}
+use Rattle.cal_state.specs.inside.States.{as_wires, is_in, thread_cell, width_of}
+use Rattle.cal_state.specs.inside.Threads.{plan_places}
 use Rattle.cal_state.proofs.AddedStateLemmas as added
 use Rattle.cal_state.proofs.AddedStateLemmas.{encoding, design_is, encoding_made, encoding_named, thread_added, thread_made, wire_added}
 use Rattle.cal_state.proofs.RegisterLemmas.{IsWire, all_wires}

@@ -12,7 +12,7 @@ use Rattle.cal_ast.specs.declared.tree.Control.{Control}
 use Rattle.cal_ast.specs.declared.tree.Control.TheVariants as controls
 use Rattle.cal_walk.specs.Left.{is_over}
 use Rattle.cal_lower.proofs.SizeLemmas.{item_after, plan, plan_par, plan_seq, plans, plans_end, plans_next}
-use Rattle.cal_state.specs.Threads.{lasting_states, states, states_in}
+use Rattle.cal_state.specs.inside.Threads.{lasting_states, states, states_in}
 
 pub states_over : (p : Plan) → is_over p ≡ true → lasting_states p ≡ 0
 states_over p over = cond-true (is_over p) 0 (states p) over

@@ -5,11 +5,11 @@ use Rattle.std.proofs.lemmas.List.Elements.{Contains-append_left, Contains-appen
 use Rattle.cal_ast.proofs.ListLemmas.{Contains-here, Contains-there, Contains-cases_first}
 use Rattle.cal_ast.specs.Plan.{Plan, Enables, InTurn, AtOnce, Chooses, Repeats, Plans, NoPlans, MorePlans}
 use Rattle.cal_walk.specs.Left.{is_over}
-use Rattle.cal_token.specs.Tokens.{Starting, size, sizes}
-use Rattle.cal_lower.specs.Parts.{none_if_over}
+use Rattle.cal_token.specs.inside.Tokens.{Starting, size, sizes}
+use Rattle.cal_lower.specs.inside.Parts.{none_if_over}
 use Rattle.cal_lower.proofs.ListLemmas.{Each, each_append, each_weaker}
-use Rattle.cal_state.specs.Threads.{Thread, Place, NoState, IsIn, place_in, with_start_in, places, places_in_turn, places_after, places_at_once, plan_places}
-use Rattle.cal_state.specs.Threads.{thread_of, first_state, lasting_states, states, inner_threads, threads_in_turn, threads_at_once, threads}
+use Rattle.cal_state.specs.inside.Threads.{Thread, Place, NoState, IsIn, place_in, with_start_in, places, places_in_turn, places_after, places_at_once, plan_places}
+use Rattle.cal_state.specs.inside.Threads.{thread_of, first_state, lasting_states, states, inner_threads, threads_in_turn, threads_at_once, threads}
 use Rattle.cal_state.proofs.PlaceLemmas.{Lies, EachLies, branch, lies, some_parts}
 
 each_unless : {X : Type 0} (P : X → Type 0) (p : Plan) (xs : List X) → Each P xs → Each P (none_if_over p xs)

@@ -5,11 +5,11 @@ use Rattle.std.proofs.lemmas.Bool.{cases_Bool, cond-true, cond-false, eq-eqb, eq
 use Rattle.net_core.specs.Circuit.{settled}
 use Rattle.cal_ast.specs.Plan.{Plan, Enables, InTurn, AtOnce, Chooses, Repeats, Plans, NoPlans, MorePlans}
 use Rattle.cal_walk.specs.Left.{is_over}
-use Rattle.cal_token.specs.Tokens.{Token, Tokens, Going, Starting, Ended, Again, size, sizes}
+use Rattle.cal_token.specs.inside.Tokens.{Token, Tokens, Going, Starting, Ended, Again, size, sizes}
 use Rattle.cal_token.proofs.TestLemmas.{or_same, at_true, at_false}
-use Rattle.cal_lower.specs.Parts.{none_if_over}
-use Rattle.cal_state.specs.Threads.{Thread, State, Place, NoState, IsIn, place_in, with_start_in, places, places_in_turn, places_after, places_at_once}
-use Rattle.cal_state.specs.Threads.{thread_of, ended_state, first_state, lasting_states, states, states_in}
+use Rattle.cal_lower.specs.inside.Parts.{none_if_over}
+use Rattle.cal_state.specs.inside.Threads.{Thread, State, Place, NoState, IsIn, place_in, with_start_in, places, places_in_turn, places_after, places_at_once}
+use Rattle.cal_state.specs.inside.Threads.{thread_of, ended_state, first_state, lasting_states, states, states_in}
 use Rattle.cal_state.proofs.JointLemmas.{Lasting, Joint, JointInTurn, JointAfter, JointAtOnce, JointLater}
 use Rattle.cal_state.proofs.OnLemmas.{on, on-append, none_outside}
 use Rattle.cal_state.proofs.PlaceLemmas.{Lies, EachLies, branch, branch_lies, each_wider, lies_unless, later_lies, lies, lies_append, lies_in_turn, lies_after, lies_at_once, lasting_is, some_parts}

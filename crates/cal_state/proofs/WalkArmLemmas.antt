@@ -10,11 +10,11 @@ use Rattle.cal_ast.specs.Tree.{port_tree, statement_tree}
 use Rattle.cal_ast.specs.declared.tree.CalPort.{CalPort}
 use Rattle.cal_ast.specs.declared.tree.Control.{Control}
 use Rattle.cal_ast.specs.declared.tree.Control.TheVariants as controls
-use Rattle.cal_token.specs.Tokens.{Again, size}
+use Rattle.cal_token.specs.inside.Tokens.{Again, size}
 use Rattle.cal_walk.specs.Left.{is_over}
 use Rattle.cal_lower.proofs.SizeLemmas.{plan}
 use Rattle.cal_state.specs.inside.Making.{Walk, one_place, part_walk, turn_walk, with_walk}
-use Rattle.cal_state.specs.Threads.{NoState, Thread, lasting_states, place_in}
+use Rattle.cal_state.specs.inside.Threads.{NoState, Thread, lasting_states, place_in}
 use Rattle.cal_state.specs.declared.places.Entry.{Entry}
 use Rattle.cal_state.specs.declared.threads.Thread as code
 use Rattle.cal_state.proofs.WalkLemmas.{chooses_arm, repeats_arm}

@@ -10,13 +10,13 @@ use Rattle.cal_ast.specs.Plan.{Plan, Enables, InTurn, AtOnce, Chooses, Repeats, 
 use Rattle.cal_ast.specs.Tree.{PortName}
 use Rattle.cal_ast.specs.declared.tree.CalPort.{CalPort}
 use Rattle.cal_ast.specs.declared.tree.Control.{Control}
-use Rattle.cal_token.specs.Tokens.{Again, Going, Starting, Ended, size}
+use Rattle.cal_token.specs.inside.Tokens.{Again, Going, Starting, Ended, size}
 use Rattle.cal_walk.specs.Left.{is_over, are_over}
-use Rattle.cal_lower.specs.Parts.{none_if_over}
+use Rattle.cal_lower.specs.inside.Parts.{none_if_over}
 use Rattle.cal_lower.proofs.SizeLemmas.{item_after, plan, plans, plans_end, plans_next}
 use Rattle.cal_state.specs.inside.Making.{ShowsPlaces, ShowsThread, Walk, at_once_walk, branch_walk, one_place, part_walk, start_places, start_walk, turn_walk, turns_walk, with_walk}
-use Rattle.cal_state.specs.Threads.{Thread, Place, NoState, place_in, ended_state, first_state, inner_threads, lasting_states, places, places_after, places_in_turn, states}
-use Rattle.cal_state.specs.Threads.{thread_of, threads_at_once, threads_in_turn, with_start_in}
+use Rattle.cal_state.specs.inside.Threads.{Thread, Place, NoState, place_in, ended_state, first_state, inner_threads, lasting_states, places, places_after, places_in_turn, states}
+use Rattle.cal_state.specs.inside.Threads.{thread_of, threads_at_once, threads_in_turn, with_start_in}
 use Rattle.cal_state.specs.declared.places.Entry.{Entry}
 use Rattle.cal_state.specs.declared.places.Places.{Places}
 use Rattle.cal_state.specs.declared.threads.Thread as code

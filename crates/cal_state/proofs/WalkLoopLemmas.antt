@@ -3,11 +3,11 @@ use Rattle.std.proofs.Common.{◌≡◌, ℕ, ◌+◌, Bool, true, false, ◌||�
 use Rattle.hw_names.specs.Name.{KeepsTexts, Text}
 use Rattle.cal_ast.specs.Plan.{Plan, Plans, NoPlans, MorePlans}
 use Rattle.cal_ast.specs.declared.tree.Control.{Control}
-use Rattle.cal_token.specs.Tokens.{size}
+use Rattle.cal_token.specs.inside.Tokens.{size}
 use Rattle.cal_walk.specs.Left.{is_over}
 use Rattle.cal_lower.proofs.SizeLemmas.{item_after, plan, plans, plans_end, plans_next}
 use Rattle.cal_state.specs.inside.Making.{ShowsPlaces, ShowsThread, Walk, at_once_walk, branch_walk, turn_walk, turns_walk, with_walk}
-use Rattle.cal_state.specs.Threads.{Place, Thread, lasting_states, places_after, places_in_turn}
+use Rattle.cal_state.specs.inside.Threads.{Place, Thread, lasting_states, places_after, places_in_turn}
 use Rattle.cal_state.specs.declared.places.Entry.{Entry}
 use Rattle.cal_state.specs.declared.places.Places.{Places}
 use Rattle.cal_state.proofs.MadeLemmas.{thread_kept}

@@ -18,17 +18,17 @@ use Rattle.cal_ast.specs.declared.tree.Assign.{Assign}
 use Rattle.cal_ast.specs.declared.tree.CalCell.{CalCell}
 use Rattle.cal_ast.specs.declared.tree.CalComp.{CalComp}
 use Rattle.cal_ast.specs.declared.tree.ControlPart.TheVariants as part
-use Rattle.cal_lower.specs.Lowered.{control_pieces, done_set, group_pieces, instance_pieces, lowered, plan_pieces, with_registers}
-use Rattle.cal_lower.specs.Pieces.{Kind, Wire, Register, Piece, made_by, piece_cell, piece_sets}
+use Rattle.cal_lower.specs.inside.Lowered.{control_pieces, done_set, group_pieces, instance_pieces, lowered, plan_pieces, with_registers}
+use Rattle.cal_lower.specs.inside.Pieces.{Kind, Wire, Register, Piece, made_by, piece_cell, piece_sets}
 use Rattle.cal_lower.specs.inside.Shown.{Shows, ShowAll, ShowsName}
 use Rattle.cal_lower.proofs.ComponentLemmas.{lowered_bare, lowered_full}
 use Rattle.cal_lower.proofs.GrownLemmas.{name_number, name_text, show_append}
 use Rattle.cal_lower.proofs.ListLemmas.{Each}
 use Rattle.cal_lower.proofs.StableLemmas.{KeepsTexts-refl, KeepsTexts-trans}
-use Rattle.cal_state.specs.Encoded.{encoded, instance_wires, over_set, thread_sets, wires, with_states}
+use Rattle.cal_state.specs.inside.Encoded.{encoded, instance_wires, over_set, thread_sets, wires, with_states}
 use Rattle.cal_state.specs.inside.Making.{HasKind, ShowSets, wire_cell, wire_def}
-use Rattle.cal_state.specs.States.{all_next_sets, as_wires, thread_cell, thread_enable}
-use Rattle.cal_state.specs.Threads.{Place, NoState, IsIn, plan_places, threads}
+use Rattle.cal_state.specs.inside.States.{all_next_sets, as_wires, thread_cell, thread_enable}
+use Rattle.cal_state.specs.inside.Threads.{Place, NoState, IsIn, plan_places, threads}
 use Rattle.cal_state.proofs.EncodedLemmas.{encoded_bare, encoded_full, piece_names, wires_named}
 use Rattle.cal_state.proofs.PlaceLemmas.{Aligned, Fits}
 use Rattle.cal_state.proofs.RegisterLemmas.{all_wires, IsWire, plan_aligned}

@@ -5,8 +5,8 @@ use Rattle.std.proofs.Math.Pow.{pow_mono}
 use Rattle.std.proofs.lemmas.Bool.{cases_Bool, cases_lt, ltb-true, ltb-false, lt-ltb, le-ltb, cond-true, cond-false}
 use Rattle.std.proofs.lemmas.Grind.{pow_more}
 use Rattle.std.proofs.lemmas.Nat.{pow_pos}
-use Rattle.cal_state.specs.States.{least_width, width_of}
-use Rattle.cal_state.specs.Threads.{Thread}
+use Rattle.cal_state.specs.inside.States.{least_width, width_of}
+use Rattle.cal_state.specs.inside.Threads.{Thread}
 
 -- it is the least from this one on in which the number fits, as long as some width within reach is one
 pub record IsLeast (more width n x : ℕ) : Type 0 where

@@ -1,2 +1,6 @@
--- What only the functions inside the crate are specified by.
+-- What only the functions and the proofs inside the crate speak of.
 pub mod Making
+pub mod Threads
+pub mod States
+pub mod Encoded
+pub mod Laws

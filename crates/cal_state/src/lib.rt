@@ -1,7 +1,7 @@
 //! The lowering of Calyx's control to states: one register for each sequential thread, which holds the number of its state, and
 //! for each group a rule that says in which states it acts.
 //!
-//! In and out: as in `cal_lower`, and so is its contract. The difference is in what holds control's place:
+//! In and out: as in `cal_lower`. The difference is in what holds control's place:
 //!
 //!     control { seq { one; inc; one; inc; } }
 //!
@@ -15,18 +15,15 @@
 //! How it goes: `lower_control` makes the tokens; `places` walks the source's control and says for each piece of it in which
 //! state of which thread it is; `threads` makes registers and guards; `component` puts them in.
 //!
-//! What the layer above uses: `lower_states` makes exactly what `IsStatesOf` says. The laws are those of `cal_lower`, and one
-//! more: `states_are_few`, that there are at most as many registers as threads, each no wider than the numbers of its states.
+//! What the layer above uses: `lower_states` makes a design that keeps what its source has (`MakesStates`): all that `cal_lower`
+//! keeps (`ReplacesControl`), with at most as many registers as threads, each no wider than the numbers of its states; and it has a
+//! text where the source has.
 #![tactic(auto)]
 
 mod component;
-mod laws;
 mod lower;
 mod places;
 mod sizes;
 mod threads;
 
-pub use laws::{
-    states_are_few, states_are_holes, states_are_plain, states_keep_runs, states_keep_shape,
-};
 pub use lower::lower_states;

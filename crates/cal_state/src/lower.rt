@@ -1,14 +1,14 @@
 //! A design without control, with a register for each sequential thread.
-ghost use Rattle.std.specs.Prelude.{IfOk, OnOk, ◌∷◌, [], ◌++◌, List, map, All};
+ghost use Rattle.std.specs.Prelude.{IfOk, OnOk, ◌∷◌, [], ◌++◌, List, All};
 ghost use Rattle.hw_names.specs.Name.{KeepsTexts, Text};
-ghost use Rattle.cal_ast.specs.Holes.{rule_tree};
+ghost use Rattle.cal_ast.specs.Holes.{rule_trees};
 ghost use Rattle.cal_ast.specs.NoInvoke.{IsPlainDesign};
-ghost use Rattle.cal_ast.specs.Numbers.{HasNumbers};
+ghost use Rattle.cal_ast.specs.Numbers.{HasNumbers, RuleHasNumbers};
 ghost use Rattle.cal_ast.specs.Plain.{HasPlainTree};
 ghost use Rattle.cal_ast.specs.Tree.{Component, component_tree, design_of};
-ghost use Rattle.cal_group.specs.Ruling.{RuleHasNumbers};
-ghost use Rattle.cal_lower.specs.Lowered.{lowered};
-ghost use Rattle.cal_state.specs.Encoded.{IsStatesOf, encoded};
+ghost use Rattle.cal_lower.specs.inside.Lowered.{lowered};
+ghost use Rattle.cal_state.specs.MakesStates.{MakesStates};
+ghost use Rattle.cal_state.specs.inside.Encoded.{encoded};
 ghost use Rattle.cal_state.specs.inside.Making.{ShowComponents};
 
 use crate::component::encode;
@@ -41,15 +41,15 @@ fn push_next(
 }
 
 /// The design as bare components, in the same order: a register for each sequential thread of control holds the number of its state, and each group acts where
-/// the rule over them is true that is made for it.
+/// the rule over them is true that is made for it. It keeps the rules, the cells and the runs of the design, and the registers are few.
 pub fn lower_states(alloc: Global, plain: &PlainDesign) -> Result<HoleDesign, Memory>
     requires numbers { HasNumbers plain.now.design }
     requires names { HasPlainTree (design_of plain.now.design) }
     requires plain { IsPlainDesign (design_of plain.now.design) }
     ensures numbers { IfOk result (λ holes. HasNumbers holes.design) }
     ensures rules { IfOk result (λ holes. All (RuleHasNumbers holes.design.names) holes.acts.items) }
-    ensures lowering { IfOk result (λ holes. IsStatesOf (design_of plain.now.design) (design_of holes.design)
-        (map (rule_tree holes.design.names) holes.acts.items)) }
+    ensures states { IfOk result (λ holes. MakesStates (design_of plain.now.design) (design_of holes.design)
+        (rule_trees holes.design.names holes.acts.items)) }
 {
     let HoleDesign { design, acts } = lower_control(alloc, plain)?;
     let CalDesign { mut names, comps } = design;

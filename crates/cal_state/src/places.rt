@@ -3,13 +3,13 @@ ghost use Rattle.std.specs.Prelude.{◌≡◌, ◌∷◌, [], ◌++◌, ◌+◌,
 ghost use Rattle.hw_names.specs.Name.{KeepsTexts, Text};
 ghost use Rattle.cal_ast.specs.Plan.{plan_at, plans_from, section_plan};
 ghost use Rattle.cal_ast.specs.Tree.{control_tree, statement_tree};
-ghost use Rattle.cal_token.specs.Tokens.{size};
+ghost use Rattle.cal_token.specs.inside.Tokens.{size};
 ghost use Rattle.cal_walk.specs.Left.{is_over};
 ghost use Rattle.cal_lower.specs.inside.Statements.{statements_from};
 ghost use Rattle.cal_state.specs.inside.Making.{AreTexts, ShowsControl, ShowsPlaces, ShowsRegisters, ShowsPlace, ShowsThread, Walk, one_place, start_walk, with_walk};
 ghost use Rattle.cal_state.specs.inside.Making.{at_once_walk, branch_walk, part_walk, plan_walk, turn_walk, turns_walk};
-ghost use Rattle.cal_state.specs.Threads.{Place, lasting_states, thread_of};
-ghost use Rattle.cal_state.specs.Threads as threads;
+ghost use Rattle.cal_state.specs.inside.Threads.{Place, lasting_states, thread_of};
+ghost use Rattle.cal_state.specs.inside.Threads as threads;
 
 use crate::sizes::{after_states, plus};
 use crate::threads::{State, Texts, Thread};

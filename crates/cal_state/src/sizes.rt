@@ -4,7 +4,7 @@ ghost use Rattle.hw_names.specs.Name.{Text};
 ghost use Rattle.cal_ast.specs.Plan.{plan_at, plans_from};
 ghost use Rattle.cal_ast.specs.Tree.{statement_tree};
 ghost use Rattle.cal_lower.specs.inside.Statements.{statements_from};
-ghost use Rattle.cal_state.specs.Threads.{lasting_states, states_in};
+ghost use Rattle.cal_state.specs.inside.Threads.{lasting_states, states_in};
 
 use cal_ast::Control;
 use cal_lower::is_over;

@@ -5,11 +5,11 @@ ghost use Rattle.net_core.specs.Guard.{Compares, GuardTree};
 ghost use Rattle.net_core.specs.declared.net.Src.TheVariants.{Lit, Port};
 ghost use Rattle.cal_ast.specs.Numbers.{CellHasNumbers, SetHasNumbers};
 ghost use Rattle.cal_ast.specs.Tree.{PortName, assignment_tree, cell_tree, port_of};
-ghost use Rattle.cal_lower.specs.Pieces.{shown};
+ghost use Rattle.cal_lower.specs.inside.Pieces.{shown};
 ghost use Rattle.cal_lower.specs.inside.Shown.{Shows, ShowsGuard, ShowsName, ShowsPort};
 ghost use Rattle.cal_state.specs.inside.Making.{AreTexts, ShowsState, ShowsThread, ShowsWhen, next_set};
-ghost use Rattle.cal_state.specs.States.{is_in, is_on, least_width, thread_cell, thread_enable, thread_name, width_of};
-ghost use Rattle.cal_state.specs.Threads as threads;
+ghost use Rattle.cal_state.specs.inside.States.{is_in, is_on, least_width, thread_cell, thread_enable, thread_name, width_of};
+ghost use Rattle.cal_state.specs.inside.Threads as threads;
 
 use cal_ast::{Assign, CalCell, CalPort};
 use cal_copy::add_name;

@@ -3,10 +3,10 @@ use Rattle.std.proofs.Common.{◌≡◌, ℕ, ◌+◌, Bool, true, false, not, �
 use Rattle.std.proofs.lemmas.Bool.{cases_Bool, and_parts, and_from, and_left, and_right, or_from, or_left, or_right, cond-true, cond-false}
 use Rattle.cal_ast.specs.Plan.{Plan, AtOnce, Plans, NoPlans, MorePlans}
 use Rattle.cal_walk.specs.Left.{Sight, is_over, are_over, left, left_at_once, enables, enables_at_once, tests, tests_at_once}
-use Rattle.cal_token.specs.Coming.{IsOff, AllAreOff, Leaves, Together, LeaveAtOnce, NoneLeft, OneOver, OneEnded, OneOn}
-use Rattle.cal_token.specs.Laws.{ComesTo, Walks, StaysOff}
-use Rattle.cal_token.specs.Tokens.{Tokens, Ended, Steps, StepAtOnce, size, unless_over}
-use Rattle.cal_token.specs.Tokens.{ends, have_ended, enables_by, enables_by_at_once, tests_by, tests_by_at_once}
+use Rattle.cal_token.specs.inside.Coming.{IsOff, AllAreOff, Leaves, Together, LeaveAtOnce, NoneLeft, OneOver, OneEnded, OneOn}
+use Rattle.cal_token.specs.inside.Laws.{ComesTo, Walks, StaysOff}
+use Rattle.cal_token.specs.inside.Tokens.{Tokens, Ended, Steps, StepAtOnce, size, unless_over}
+use Rattle.cal_token.specs.inside.Tokens.{ends, have_ended, enables_by, enables_by_at_once, tests_by, tests_by_at_once}
 use Rattle.cal_token.proofs.OverLemmas.{over_enables, over_tests, over_left}
 use Rattle.cal_token.proofs.TestLemmas.{only_first, only_second, or_same, and_same, at_true, at_false, of_false}
 use Rattle.cal_token.proofs.Walking.{Law, WalkAtOnce, StayOffAtOnce, AtOnceLaw}

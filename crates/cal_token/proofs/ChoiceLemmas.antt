@@ -6,9 +6,9 @@ use Rattle.cal_ast.specs.Actors.{Actor}
 use Rattle.cal_ast.specs.Plan.{Plan, Chooses}
 use Rattle.cal_ast.specs.Tree.{PortName}
 use Rattle.cal_walk.specs.Left.{Sight, is_over, is_by, left, enables, tests}
-use Rattle.cal_token.specs.Coming.{IsOff, IsLaterOff, Leaves, OnBranch, OffBranch, IsStarting}
-use Rattle.cal_token.specs.Laws.{ComesTo, Walks, StaysOff}
-use Rattle.cal_token.specs.Tokens.{Tokens, Starting, StepsLater, size, ends_later, enables_later, tests_later}
+use Rattle.cal_token.specs.inside.Coming.{IsOff, IsLaterOff, Leaves, OnBranch, OffBranch, IsStarting}
+use Rattle.cal_token.specs.inside.Laws.{ComesTo, Walks, StaysOff}
+use Rattle.cal_token.specs.inside.Tokens.{Tokens, Starting, StepsLater, size, ends_later, enables_later, tests_later}
 use Rattle.cal_token.proofs.LaterLemmas.{later_walks, later_off}
 use Rattle.cal_token.proofs.StartLemmas.{with_none}
 use Rattle.cal_token.proofs.TestLemmas.{only_first, only_second}

@@ -5,9 +5,9 @@ use Rattle.std.proofs.lemmas.Bool.{and_left}
 use Rattle.cal_ast.specs.Actors.{Actor, same_actor}
 use Rattle.cal_ast.specs.Plan.{Plan, Enables}
 use Rattle.cal_walk.specs.Left.{Sight, is_over, nothing}
-use Rattle.cal_token.specs.Coming.{IsOff, Leaves, GoesOn}
-use Rattle.cal_token.specs.Laws.{ComesTo, Walks, StaysOff}
-use Rattle.cal_token.specs.Tokens.{Tokens, Going}
+use Rattle.cal_token.specs.inside.Coming.{IsOff, Leaves, GoesOn}
+use Rattle.cal_token.specs.inside.Laws.{ComesTo, Walks, StaysOff}
+use Rattle.cal_token.specs.inside.Tokens.{Tokens, Going}
 use Rattle.cal_token.proofs.Walking.{Law}
 
 done_ends : (actor : Actor) (done : Bool) → done ≡ is_over (if done then nothing else Enables actor)

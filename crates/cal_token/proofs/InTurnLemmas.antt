@@ -5,10 +5,10 @@ use Rattle.std.proofs.lemmas.Bool.{cases_Bool, both_ways, cond-true, cond-false}
 use Rattle.cal_ast.specs.Actors.{Actor}
 use Rattle.cal_ast.specs.Plan.{Plan, InTurn, Plans, NoPlans, MorePlans}
 use Rattle.cal_walk.specs.Left.{Sight, is_over, are_over, before_others, left, enables, tests}
-use Rattle.cal_token.specs.Coming.{IsOff, FirstIsOff, OthersAreOff, Leaves, InOrder, LeavesInTurn, PastOne, InFirst, InOthers, AfterEnded, FirstStarts}
-use Rattle.cal_token.specs.Laws.{ComesTo, Walks, StaysOff}
-use Rattle.cal_token.specs.Tokens.{Tokens, Steps, StepInTurn, OthersStep, size}
-use Rattle.cal_token.specs.Tokens.{ends, ends_in_turn, the_last_ends, enables_by, enables_by_in_turn, others_enable, tests_by, tests_by_in_turn, others_test}
+use Rattle.cal_token.specs.inside.Coming.{IsOff, FirstIsOff, OthersAreOff, Leaves, InOrder, LeavesInTurn, PastOne, InFirst, InOthers, AfterEnded, FirstStarts}
+use Rattle.cal_token.specs.inside.Laws.{ComesTo, Walks, StaysOff}
+use Rattle.cal_token.specs.inside.Tokens.{Tokens, Steps, StepInTurn, OthersStep, size}
+use Rattle.cal_token.specs.inside.Tokens.{ends, ends_in_turn, the_last_ends, enables_by, enables_by_in_turn, others_enable, tests_by, tests_by_in_turn, others_test}
 use Rattle.cal_token.proofs.FirstLemmas.{BeginsWith, SameRow, begins_in_turn, begins_before, past_first}
 use Rattle.cal_token.proofs.LastingLemmas.{others_last, rest_lasts}
 use Rattle.cal_token.proofs.OverLemmas.{is_over_before, before_lasts, others_remain, others_over}

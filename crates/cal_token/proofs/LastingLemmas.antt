@@ -3,9 +3,9 @@ use Rattle.std.proofs.Common.{◌≡◌, ℕ, false, refl, ◌∙◌}
 use Rattle.std.proofs.lemmas.Bool.{and_left, and_right}
 use Rattle.cal_ast.specs.Plan.{Plan, Plans}
 use Rattle.cal_walk.specs.Left.{is_over, are_over}
-use Rattle.cal_token.specs.Coming.{Leaves, GoesOn, InOrder, Together, OnBranch, OffBranch, InBody, AtTest, LeavesLater, IsStarting, IsOn}
-use Rattle.cal_token.specs.Coming.{LeavesInTurn, PastOne, InFirst, InOthers, LeaveOthers, Here, AfterEnded, Later, FirstStarts, Over, ByToken}
-use Rattle.cal_token.specs.Tokens.{Tokens}
+use Rattle.cal_token.specs.inside.Coming.{Leaves, GoesOn, InOrder, Together, OnBranch, OffBranch, InBody, AtTest, LeavesLater, IsStarting, IsOn}
+use Rattle.cal_token.specs.inside.Coming.{LeavesInTurn, PastOne, InFirst, InOthers, LeaveOthers, Here, AfterEnded, Later, FirstStarts, Over, ByToken}
+use Rattle.cal_token.specs.inside.Tokens.{Tokens}
 use Rattle.cal_token.proofs.OverLemmas.{is_over_before, before_lasts}
 
 module _ (v : Tokens) where

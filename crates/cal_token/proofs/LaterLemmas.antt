@@ -3,9 +3,9 @@ use Rattle.std.proofs.Common.{◌≡◌, ℕ, Bool, true, false, sym, ap, subst,
 use Rattle.std.proofs.lemmas.Bool.{cases_Bool, both_ways, cond-true, cond-false}
 use Rattle.cal_ast.specs.Plan.{Plan}
 use Rattle.cal_walk.specs.Left.{Sight, is_over, left}
-use Rattle.cal_token.specs.Coming.{IsOff, IsLaterOff, LeavesLater, IsStarting, IsOn}
-use Rattle.cal_token.specs.Laws.{ComesTo, Walks, StaysOff}
-use Rattle.cal_token.specs.Tokens.{Tokens, Starting, Steps, StepsLater, ends, enables_by, tests_by}
+use Rattle.cal_token.specs.inside.Coming.{IsOff, IsLaterOff, LeavesLater, IsStarting, IsOn}
+use Rattle.cal_token.specs.inside.Laws.{ComesTo, Walks, StaysOff}
+use Rattle.cal_token.specs.inside.Tokens.{Tokens, Starting, Steps, StepsLater, ends, enables_by, tests_by}
 use Rattle.cal_token.proofs.StartLemmas.{with_none, with_start, start_of}
 use Rattle.cal_token.proofs.Walking.{Law, LaterWalks, LaterStaysOff}
 

@@ -7,9 +7,9 @@ use Rattle.cal_ast.specs.Actors.{Actor}
 use Rattle.cal_ast.specs.Plan.{Plan, InTurn, Repeats, NoPlans, MorePlans}
 use Rattle.cal_ast.specs.Tree.{PortName}
 use Rattle.cal_walk.specs.Left.{Sight, is_over, is_by, nothing, left, tests}
-use Rattle.cal_token.specs.Coming.{IsOff, Leaves, InBody, AtTest, IsStarting}
-use Rattle.cal_token.specs.Laws.{ComesTo, Walks, StaysOff}
-use Rattle.cal_token.specs.Tokens.{Tokens, Starting, Again, StepsLater, is_tested, ends_later, tests_later}
+use Rattle.cal_token.specs.inside.Coming.{IsOff, Leaves, InBody, AtTest, IsStarting}
+use Rattle.cal_token.specs.inside.Laws.{ComesTo, Walks, StaysOff}
+use Rattle.cal_token.specs.inside.Tokens.{Tokens, Starting, Again, StepsLater, is_tested, ends_later, tests_later}
 use Rattle.cal_token.proofs.FirstLemmas.{BeginsWith, SameRow, begins_in_turn, past_first}
 use Rattle.cal_token.proofs.LastingLemmas.{part_lasts, rest_of_part_lasts}
 use Rattle.cal_token.proofs.LaterLemmas.{later_walks, later_off}

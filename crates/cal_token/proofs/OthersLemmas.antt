@@ -3,9 +3,9 @@ use Rattle.std.proofs.Common.{◌≡◌, ℕ, ◌+◌, Bool, true, false, ◌&&�
 use Rattle.std.proofs.lemmas.Bool.{cases_Bool, both_ways, cond-false}
 use Rattle.cal_ast.specs.Plan.{Plan, InTurn, Plans, NoPlans, MorePlans}
 use Rattle.cal_walk.specs.Left.{Sight, is_over, are_over, before_others, left, enables, tests}
-use Rattle.cal_token.specs.Coming.{IsOff, IsLaterOff, IsStarting, LeaveOthers, Here, AfterEnded, Later, FirstStarts, Over, ByToken}
-use Rattle.cal_token.specs.Tokens.{Tokens, Starting, StepsLater, OthersStep, size}
-use Rattle.cal_token.specs.Tokens.{ends_later, the_last_ends, enables_later, others_enable, tests_later, others_test}
+use Rattle.cal_token.specs.inside.Coming.{IsOff, IsLaterOff, IsStarting, LeaveOthers, Here, AfterEnded, Later, FirstStarts, Over, ByToken}
+use Rattle.cal_token.specs.inside.Tokens.{Tokens, Starting, StepsLater, OthersStep, size}
+use Rattle.cal_token.specs.inside.Tokens.{ends_later, the_last_ends, enables_later, others_enable, tests_later, others_test}
 use Rattle.cal_token.proofs.FirstLemmas.{BeginsWith, SameRow, begins_in_turn, begins_before, past_first}
 use Rattle.cal_token.proofs.LastingLemmas.{first_lasts, others_last, part_lasts, rest_of_part_lasts}
 use Rattle.cal_token.proofs.LaterLemmas.{later_walks, later_off}

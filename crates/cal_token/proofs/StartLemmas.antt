@@ -3,8 +3,8 @@ use Rattle.std.proofs.Common.{◌≡◌, ℕ, ◌+◌, Bool, true, false}
 use Rattle.cal_ast.specs.Plan.{Plan, Plans, NoPlans, MorePlans}
 use Rattle.std.proofs.lemmas.Bool.{and_parts}
 use Rattle.cal_walk.specs.Left.{is_over, are_over}
-use Rattle.cal_token.specs.Coming.{IsOff, OthersAreOff}
-use Rattle.cal_token.specs.Tokens.{Tokens, Starting, WithStart, size}
+use Rattle.cal_token.specs.inside.Coming.{IsOff, OthersAreOff}
+use Rattle.cal_token.specs.inside.Tokens.{Tokens, Starting, WithStart, size}
 use Rattle.cal_token.proofs.TestLemmas.{at_true, at_false, of_false}
 
 module _ (v : Tokens) (k : ℕ) (p : Plan) (start : Bool) (others : Type 0) where

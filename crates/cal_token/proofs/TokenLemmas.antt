@@ -1,8 +1,8 @@
 -- Tokens walk control forward: the laws of the kinds of plans, put together.
 use Rattle.cal_ast.specs.Plan.{Plan, Enables, InTurn, AtOnce, Chooses, Repeats, Plans, NoPlans, MorePlans}
 use Rattle.cal_walk.specs.Left.{Sight}
-use Rattle.cal_token.specs.Laws.{TokensWalkControl}
-use Rattle.cal_token.specs.Tokens.{Tokens}
+use Rattle.cal_token.specs.inside.Laws.{TokensWalkControl}
+use Rattle.cal_token.specs.inside.Tokens.{Tokens}
 use Rattle.cal_token.proofs.AtOnceLemmas.{at_once_law, more_at_once, none_at_once}
 use Rattle.cal_token.proofs.ChoiceLemmas.{choice_law}
 use Rattle.cal_token.proofs.EnableLemmas.{enable_law}

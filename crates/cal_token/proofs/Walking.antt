@@ -3,11 +3,11 @@ use Rattle.std.proofs.Common.{◌≡◌, ℕ, Bool, true, false}
 use Rattle.cal_ast.specs.Actors.{Actor}
 use Rattle.cal_ast.specs.Plan.{Plan, InTurn, Plans}
 use Rattle.cal_walk.specs.Left.{Sight, is_over, are_over, left, left_at_once, enables, enables_at_once, tests, tests_at_once}
-use Rattle.cal_token.specs.Coming.{IsOff, IsLaterOff, FirstIsOff, OthersAreOff, AllAreOff, Leaves, LeavesLater, LeavesInTurn, LeaveOthers, FirstStarts, LeaveAtOnce}
-use Rattle.cal_token.specs.Laws.{Walks, StaysOff}
-use Rattle.cal_token.specs.Tokens.{Tokens, Starting, StepsLater, StepInTurn, OthersStep, StepAtOnce}
-use Rattle.cal_token.specs.Tokens.{ends_later, ends_in_turn, the_last_ends, have_ended, enables_later, enables_by_in_turn, others_enable, enables_by_at_once}
-use Rattle.cal_token.specs.Tokens.{tests_later, tests_by_in_turn, others_test, tests_by_at_once}
+use Rattle.cal_token.specs.inside.Coming.{IsOff, IsLaterOff, FirstIsOff, OthersAreOff, AllAreOff, Leaves, LeavesLater, LeavesInTurn, LeaveOthers, FirstStarts, LeaveAtOnce}
+use Rattle.cal_token.specs.inside.Laws.{Walks, StaysOff}
+use Rattle.cal_token.specs.inside.Tokens.{Tokens, Starting, StepsLater, StepInTurn, OthersStep, StepAtOnce}
+use Rattle.cal_token.specs.inside.Tokens.{ends_later, ends_in_turn, the_last_ends, have_ended, enables_later, enables_by_in_turn, others_enable, enables_by_at_once}
+use Rattle.cal_token.specs.inside.Tokens.{tests_later, tests_by_in_turn, others_test, tests_by_at_once}
 
 -- the law of a plan
 pub record Law (v : Tokens) (s : Sight) (p : Plan) : Type 0 where

@@ -1,3 +1,1 @@
-pub mod Tokens
-pub mod Coming
-pub mod Laws
+pub mod inside

@@ -7,7 +7,7 @@ use Rattle.cal_ast.specs.Plan.{Plan}
 use Rattle.cal_ast.specs.Spans.{View, IsFirst, Spans, Acts}
 use Rattle.cal_ast.specs.Starts.{done_row, Starts, AtFirst, Again, IsDoneRow, IsActing}
 use Rattle.cal_walk.specs.Left.{sight_at, is_over, left, wants}
-use Rattle.cal_walk.specs.Stages.{Progress, Waits, Runs, Ends, progress_of, next_progress, progress_at, acts_now, is_done_now, WalkingIsTheSchedule}
+use Rattle.cal_walk.specs.Stages.{Progress, Waits, GoesOn, Ends, progress_of, next_progress, progress_at, acts_now, is_done_now, WalkingIsTheSchedule}
 use Rattle.cal_walk.proofs.LeftLemmas.{not_both, row_cases, spans_from, over_end, over_spans, over_acts, lasts, acts_within, spans_left, left_spans, acts_left, left_acts}
 use Rattle.cal_walk.proofs.WantLemmas.{acts_wants, wants_acts}
 
@@ -72,7 +72,7 @@ module _ (v : View) (go : ℕ → Bool) (plan : Plan) where
     past : (other : ℕ) → Starts v go plan other → other < t → HasEnded other from
 
   -- from this start on the plan goes on as p does from row t
-  record GoesOn (t : ℕ) (p : Plan) : Type 0 where
+  record IsGoing (t : ℕ) (p : Plan) : Type 0 where
     start : ℕ
     starts : Starts v go plan start
     within : start ≤ t
@@ -83,7 +83,7 @@ module _ (v : View) (go : ℕ → Bool) (plan : Plan) where
     past : (other : ℕ) → Starts v go plan other → other < t → (other ≡ start) ⊎ HasEnded other start
 
   record IsRunning (t : ℕ) (p : Plan) : Type 0 where
-    goes_on : GoesOn t p
+    goes_on : IsGoing t p
     before : goes_on.start < t
     more : is_over p ≡ false
 
@@ -97,7 +97,7 @@ module _ (v : View) (go : ℕ → Bool) (plan : Plan) where
 
   abbrev IsAt : ℕ → Progress → Type 0
   IsAt t Waits = IsWaiting t
-  IsAt t (Runs p) = IsRunning t p
+  IsAt t (GoesOn p) = IsRunning t p
   IsAt t Ends = IsEnding t
 
   go_at_start : (t : ℕ) → Starts v go plan t → go t ≡ true
@@ -153,8 +153,8 @@ module _ (v : View) (go : ℕ → Bool) (plan : Plan) where
       ]
 
   -- what is left after one more row goes on from the same start
-  abbrev next_goes : (t : ℕ) (p : Plan) (g : GoesOn t p) → t < v.rows
-      → ((other : ℕ) → Starts v go plan other → other < t + 1 → (other ≡ g.start) ⊎ HasEnded other g.start) → GoesOn (t + 1) (left (sight_at v t) p)
+  abbrev next_goes : (t : ℕ) (p : Plan) (g : IsGoing t p) → t < v.rows
+      → ((other : ℕ) → Starts v go plan other → other < t + 1 → (other ≡ g.start) ⊎ HasEnded other g.start) → IsGoing (t + 1) (left (sight_at v t) p)
   next_goes t p g here past = record {
     start = g.start;
     starts = g.starts;
@@ -175,10 +175,10 @@ module _ (v : View) (go : ℕ → Bool) (plan : Plan) where
   }
 
   -- from a start, or where something is left, one more row goes on
-  after : (t : ℕ) (p : Plan) (g : GoesOn t p) → t < v.rows → (g.start ≡ t) ⊎ ((g.start < t) × (is_over p ≡ false))
+  after : (t : ℕ) (p : Plan) (g : IsGoing t p) → t < v.rows → (g.start ≡ t) ⊎ ((g.start < t) × (is_over p ≡ false))
       → ((other : ℕ) → Starts v go plan other → other < t + 1 → (other ≡ g.start) ⊎ HasEnded other g.start) → IsAt (t + 1) (progress_of (left (sight_at v t) p))
   after t p g here first past =
-      let P : Bool → Type 0 = λ b. IsAt (t + 1) (if b then Ends else Runs (left (sight_at v t) p)) in
+      let P : Bool → Type 0 = λ b. IsAt (t + 1) (if b then Ends else GoesOn (left (sight_at v t) p)) in
       elim (cases_Bool (is_over (left (sight_at v t) p))) [
         | inl over ↦ subst P (sym over) (ends over)
         | inr more ↦ let within : g.start ≤ t = g.within in subst P (sym more) (record { goes_on = next_goes t p g here past; before = omega arith; more = more })
@@ -208,7 +208,7 @@ module _ (v : View) (go : ℕ → Bool) (plan : Plan) where
       let within : w.from ≤ t = w.within in
       record { end = ended.end; spans = ended.spans; before = omega arith }
 
-  abbrev from_start : (t : ℕ) → IsWaiting t → Starts v go plan t → GoesOn t plan
+  abbrev from_start : (t : ℕ) → IsWaiting t → Starts v go plan t → IsGoing t plan
   from_start t w starts = record {
     start = t;
     starts = starts;
@@ -251,7 +251,7 @@ module _ (v : View) (go : ℕ → Bool) (plan : Plan) where
           | inr less ↦ w.past other others less
         ];
       }
-  next_at t here (Runs p) r = after t p r.goes_on here (inr (r.before, r.more)) past
+  next_at t here (GoesOn p) r = after t p r.goes_on here (inr (r.before, r.more)) past
     where
       past : (other : ℕ) → Starts v go plan other → other < t + 1 → (other ≡ r.goes_on.start) ⊎ HasEnded other r.goes_on.start
       past other others before = let S : ℕ → Type 0 = Starts v go plan in elim (row_down t other before) [
@@ -320,7 +320,7 @@ module _ (v : View) (go : ℕ → Bool) (plan : Plan) where
               and_from (go t) (wants plan actor (v.done actor t)) (go_at_start t (subst S (sym same) a.starts)) (acts_wants v t actor plan (subst A (sym same) a.acts))
           | inr before ↦ absurd (not_yet actor a.start w.from (w.past a.start a.starts before) w.within a.acts)
         ]
-    acting_at (Runs p) r actor = (there, back)
+    acting_at (GoesOn p) r actor = (there, back)
       where
         there : wants p actor (v.done actor t) ≡ true → IsActing v go plan actor t
         there e = record { start = r.goes_on.start; starts = r.goes_on.starts; acts = r.goes_on.acts_back actor t (wants_acts v t actor here p e) }
@@ -360,7 +360,7 @@ module _ (v : View) (go : ℕ → Bool) (plan : Plan) where
             let b : done_row d.start ended.end < w.from = ended.before in
             let within : w.from ≤ t = w.within in
             absurd (omega arith)
-    done_at (Runs p) r = ((λ no'. absurd (cc)), back)
+    done_at (GoesOn p) r = ((λ no'. absurd (cc)), back)
       where
         back : IsDoneRow v go plan t → false ≡ true
         back d =

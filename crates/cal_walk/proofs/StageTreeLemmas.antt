@@ -7,7 +7,7 @@ use Rattle.cal_ast.specs.Tree.{PortName}
 use Rattle.cal_walk.specs.Left.{Sight, is_over, left, enables, tests}
 use Rattle.cal_walk.specs.Marking.{AddsWanted}
 use Rattle.cal_walk.specs.StageTrees.{progress_tree, StageIsWithin}
-use Rattle.cal_walk.specs.Stages.{Progress, Waits, Runs, Ends, progress_of, next_progress, is_running_now, is_done_now, enabled_now, tested_now}
+use Rattle.cal_walk.specs.Stages.{Progress, Waits, GoesOn, Ends, progress_of, next_progress, is_running_now, is_done_now, enabled_now, tested_now}
 use Rattle.cal_walk.specs.Trees.{left_tree, LeftIsWithin}
 use Rattle.cal_walk.specs.declared.left.Left.{Left}
 use Rattle.cal_walk.specs.declared.marks.Marks.{Marks}
@@ -16,10 +16,10 @@ use Rattle.cal_walk.specs.declared.stage.Stage.TheVariants as stages
 use Rattle.cal_walk.proofs.MarkLemmas.{no_marks}
 
 pub over_progress : (p : Plan) → is_over p ≡ true → Ends ≡ progress_of p
-over_progress p over = sym (ap (λ b. if b then Ends else Runs p) over)
+over_progress p over = sym (ap (λ b. if b then Ends else GoesOn p) over)
 
-pub lasting_progress : (p : Plan) → is_over p ≡ false → Runs p ≡ progress_of p
-lasting_progress p lasts = sym (ap (λ b. if b then Ends else Runs p) lasts)
+pub lasting_progress : (p : Plan) → is_over p ≡ false → GoesOn p ≡ progress_of p
+lasting_progress p lasts = sym (ap (λ b. if b then Ends else GoesOn p) lasts)
 
 module _ (f : ℕ → Actor) (h : ℕ → PortName) (stage : Stage) where
   abbrev at : Progress
@@ -28,7 +28,7 @@ module _ (f : ℕ → Actor) (h : ℕ → PortName) (stage : Stage) where
   pub waiting_at : stage ≡ stages.Waiting → at ≡ Waits
   waiting_at is = ap (progress_tree f h) is
 
-  pub running_at : (l : Left) → stage ≡ stages.Running l → at ≡ Runs (left_tree f h l)
+  pub running_at : (l : Left) → stage ≡ stages.Running l → at ≡ GoesOn (left_tree f h l)
   running_at l is = ap (progress_tree f h) is
 
   pub finished_at : stage ≡ stages.Finished → at ≡ Ends

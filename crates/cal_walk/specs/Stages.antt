@@ -10,17 +10,17 @@ pub data Progress : Type 0 where
   -- it starts in the next row with go
   Waits : Progress
   -- this is left of it
-  Runs : Plan → Progress
+  GoesOn : Plan → Progress
   -- the row is its done row
   Ends : Progress
 
 abbrev pub progress_of : Plan → Progress
-progress_of p = if is_over p then Ends else Runs p
+progress_of p = if is_over p then Ends else GoesOn p
 
 -- after a row with this go in which this was seen
 abbrev pub next_progress : Plan → Sight → Bool → Progress → Progress
 next_progress plan s go Waits = if go then progress_of (left s plan) else Waits
-next_progress plan s go (Runs p) = progress_of (left s p)
+next_progress plan s go (GoesOn p) = progress_of (left s p)
 next_progress plan s go Ends = Waits
 
 -- before row t
@@ -31,28 +31,28 @@ progress_at v go plan (suc t) = next_progress plan (sight_at v t) (go t) (progre
 -- the actor acts in a row with this go in which it is done or not
 abbrev pub acts_now : Plan → Progress → Actor → (go done : Bool) → Bool
 acts_now plan Waits actor go done = go && wants plan actor done
-acts_now plan (Runs p) actor go done = wants p actor done
+acts_now plan (GoesOn p) actor go done = wants p actor done
 acts_now plan Ends actor go done = false
 
 abbrev pub is_running_now : Progress → Bool
 is_running_now Waits = false
-is_running_now (Runs p) = true
+is_running_now (GoesOn p) = true
 is_running_now Ends = false
 
 -- the actor is enabled in the row, and it acts in the row of a test; where control waits, if it starts in the row
 abbrev pub enabled_now : Plan → Progress → Actor → Bool
 enabled_now plan Waits actor = enables plan actor
-enabled_now plan (Runs p) actor = enables p actor
+enabled_now plan (GoesOn p) actor = enables p actor
 enabled_now plan Ends actor = false
 
 abbrev pub tested_now : Plan → Progress → Actor → Bool
 tested_now plan Waits actor = tests plan actor
-tested_now plan (Runs p) actor = tests p actor
+tested_now plan (GoesOn p) actor = tests p actor
 tested_now plan Ends actor = false
 
 abbrev pub is_done_now : Progress → Bool
 is_done_now Waits = false
-is_done_now (Runs p) = false
+is_done_now (GoesOn p) = false
 is_done_now Ends = true
 
 -- the law: control that is walked forward lets actors act, and is done, exactly where the schedule says so

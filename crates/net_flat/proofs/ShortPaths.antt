@@ -9,7 +9,7 @@ use Rattle.net_flat.proofs.KeptLemmas.{known_cell}
 use Rattle.cal_ast.proofs.ListLemmas.{Contains-map, Contains-none, Contains-cases_first}
 use Rattle.cal_ast.proofs.LookupLemmas.{part_in-design}
 use Rattle.cal_ast.specs.Instances.{component_at}
-use Rattle.cal_ast.specs.Naming.{IsKnownCell, Reaches, Itself, Over, component_names}
+use Rattle.cal_ast.specs.Naming.{IsKnownCell, Involves, Itself, Over, component_names}
 use Rattle.cal_ast.specs.Ports.{component_named, part_in, part_of}
 use Rattle.cal_ast.specs.Rules.{KeepsRules}
 use Rattle.cal_ast.specs.Tree.{CellDef, Component, Design}
@@ -22,11 +22,11 @@ pub record Along (design : Design) (c : Component) (path : Path) : Type 0 where
   pub count : length names ≡ suc (length path)
   pub distinct : AllPairs (λ a b. a ≢ b) names
   pub within : (name : Text) → Contains names name → Contains (component_names design) name
-  pub reached : (name : Text) → Contains names name → Reaches design name c
+  pub reached : (name : Text) → Contains names name → Involves design name c
 
 module _ (design : Design) (keeps : KeepsRules design) where
   -- a part is a component that doesn't reach the one that it is in
-  no_way_back : (c part : Component) (cell : CellDef) → Contains design c → Contains c.cells cell → part_of design cell ≡ Some part → ¬ Reaches design c.name part
+  no_way_back : (c part : Component) (cell : CellDef) → Contains design c → Contains c.cells cell → part_of design cell ≡ Some part → ¬ Involves design c.name part
   no_way_back c part cell there at made = by (known_cell design keeps c there cell at)
     where
       no_part : is_primitive cell.made ≡ true → ⊥
@@ -35,11 +35,11 @@ module _ (design : Design) (keeps : KeepsRules design) where
           let g : None ≡ Some part = rw is at f in
           cc
 
-      by : IsKnownCell design c cell → ¬ Reaches design c.name part
+      by : IsKnownCell design c cell → ¬ Involves design c.name part
       by (inl is) = absurd (no_part is)
       by (inr (other, same, none)) =
           let e : other ≡ part = let f : Some other ≡ Some part = sym same ∙ made in cc in
-          subst (λ (d : Component). ¬ Reaches design c.name d) e none
+          subst (λ (d : Component). ¬ Involves design c.name d) e none
 
   own_name : (c : Component) → Contains design c → Contains (component_names design) c.name
   own_name c there = Contains-map (λ (d : Component). d.name) design c there
@@ -51,7 +51,7 @@ module _ (design : Design) (keeps : KeepsRules design) where
         count = refl;
         distinct = AllPairs-cons (λ a b. a ≢ b) c.name [] (All-nil (λ b. c.name ≢ b)) (AllPairs-none (λ a b. a ≢ b));
         within = λ name h. by (λ n. Contains (component_names design) n) (own_name c there) name (Contains-cases_first c.name [] name h);
-        reached = λ name h. by (λ n. Reaches design n c) (Itself c refl) name (Contains-cases_first c.name [] name h);
+        reached = λ name h. by (λ n. Involves design n c) (Itself c refl) name (Contains-cases_first c.name [] name h);
       }
     where
       by : (P : Text → Type 0) → P c.name → (name : Text) → (c.name ≡ name) ⊎ Contains [] name → P name
@@ -73,11 +73,11 @@ module _ (design : Design) (keeps : KeepsRules design) where
             count = ap suc rest.count;
             distinct =
                 AllPairs-cons (λ a b. a ≢ b) c.name rest.names
-                (All-from_Contains (λ b. c.name ≢ b) rest.names (λ name h. λ same. back (subst (λ (n : Text). Reaches design n part) (sym same) (rest.reached name h))))
+                (All-from_Contains (λ b. c.name ≢ b) rest.names (λ name h. λ same. back (subst (λ (n : Text). Involves design n part) (sym same) (rest.reached name h))))
                 rest.distinct;
             within = λ name h. one (λ n. Contains (component_names design) n) rest.names (own_name c there) rest.within name (Contains-cases_first c.name rest.names name h);
             reached =
-                λ name h. one (λ n. Reaches design n c) rest.names (Itself c refl) (λ n there_too. Over c part found.0 found.1 found.3 (rest.reached n there_too)) name
+                λ name h. one (λ n. Involves design n c) rest.names (Itself c refl) (λ n there_too. Over c part found.0 found.1 found.3 (rest.reached n there_too)) name
                 (Contains-cases_first c.name rest.names name h);
           }
 

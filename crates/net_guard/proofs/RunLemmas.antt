@@ -11,7 +11,7 @@ use Rattle.net_core.specs.Guard.{guard_holds, source_value}
 use Rattle.net_core.specs.Netlist.{CellLine, Netlist, SetLine}
 use Rattle.net_core.specs.NetRun.{HasPin, net_circuit, net_drive, values_for}
 use Rattle.net_core.specs.declared.net.Src.{Src}
-use Rattle.net_guard.specs.KeepsRuns.{HaveSameRuns}
+use Rattle.net_guard.specs.SameRuns.{HaveSameRuns}
 use Rattle.net_guard.specs.Simplified.{AreSimplifiedSets, NoSets, Kept, Left, IsSimplified}
 
 -- the values that an assignment of this destination, truth and source gives before others

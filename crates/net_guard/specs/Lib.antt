@@ -1,5 +1,5 @@
 pub mod inside
 pub mod Folded
 pub mod Simplified
-pub mod KeepsRuns
+pub mod SameRuns
 pub mod KeepsText

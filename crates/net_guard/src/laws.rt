@@ -1,10 +1,10 @@
 //! The laws of simplified netlists.
-ghost use Rattle.net_guard.specs.KeepsRuns.{SimplifiedHasNoLoop, SimplifiedIsValid, SimplifiedKeepsRuns};
+ghost use Rattle.net_guard.specs.SameRuns.{SimplifiedHasNoLoop, SimplifiedIsValid, SimplifiedHasSameRuns};
 ghost use Rattle.net_guard.specs.KeepsText.{SimplifiedKeepsText};
 
 /// A simplified netlist has the runs of the old one, which stop alike, and the same Conflicts.
-pub fn simplified_keeps_runs()
-    ensures { SimplifiedKeepsRuns }
+pub fn simplified_has_same_runs()
+    ensures { SimplifiedHasSameRuns }
 {}
 
 /// It keeps N1 to N5 where the old one does.

@@ -17,7 +17,7 @@
 //!
 //! What the layer above uses: `simplify` gives a netlist that is the old one simplified (`IsSimplified`), no heavier, and with
 //! folded guards (`HasFoldedGuards`). The laws say what that keeps: the runs, how they stop, and each Conflict
-//! (`simplified_keeps_runs`), N1 to N5 (`simplified_is_valid`), N6 (`simplified_has_no_loop`), and that it has a text
+//! (`simplified_has_same_runs`), N1 to N5 (`simplified_is_valid`), N6 (`simplified_has_no_loop`), and that it has a text
 //! (`simplified_keeps_text`).
 #![tactic(auto)]
 
@@ -29,6 +29,6 @@ mod simplified;
 mod tops;
 
 pub use laws::{
-    simplified_has_no_loop, simplified_is_valid, simplified_keeps_runs, simplified_keeps_text,
+    simplified_has_no_loop, simplified_has_same_runs, simplified_is_valid, simplified_keeps_text,
 };
 pub use simplified::simplify;

@@ -17,7 +17,7 @@ use Rattle.cal_ast.specs.declared.tree.DoneSet.{DoneSet}
 use Rattle.cal_ast.specs.declared.tree.Group.{Group}
 use Rattle.cal_ast.specs.declared.tree.InBind.{InBind}
 use Rattle.cal_ast.specs.declared.tree.OutBind.{OutBind}
-use Rattle.cal_group.specs.Expanded.{invoke_name, expanded_at}
+use Rattle.cal_group.specs.inside.Expanded.{invoke_name, expanded_at}
 use Rattle.cal_group.specs.declared.expand.Call.{Call}
 use Rattle.cal_group.specs.declared.expand.CellTable.{CellTable}
 use Rattle.cal_group.specs.declared.expand.PortNames.{PortNames}

@@ -3,7 +3,7 @@
 use Rattle.std.specs.Prelude.{List, [], ◌∷◌, ◌++◌, if◌then◌else◌}
 use Rattle.cal_ast.specs.Ports.{is_bare, inputs_in, outputs_in}
 use Rattle.cal_ast.specs.Tree.{Assignment, CellDef, Absent, Component}
-use Rattle.cal_lower.specs.Lowered.{done_set}
+use Rattle.cal_lower.specs.inside.Lowered.{done_set}
 
 -- the cells and assignments that each component gets
 pub record Additions : Type 0 where

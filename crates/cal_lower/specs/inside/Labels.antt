@@ -2,8 +2,8 @@
 use Rattle.std.specs.Prelude.{◌≡◌, Bool, true, false, List, Some, codes, slice_get, if◌then◌else◌}
 use Rattle.hw_names.specs.Name.{Text, KeepsTexts, text_of}
 use Rattle.net_core.specs.Numbers.{IsNumberOf}
-use Rattle.cal_token.specs.Tokens as token
-use Rattle.cal_lower.specs.Pieces.{Kind, Wire, Register, token_name, ends_name, acts_name, done_name, start_name, busy_name, over_name}
+use Rattle.cal_token.specs.inside.Tokens as token
+use Rattle.cal_lower.specs.inside.Pieces.{Kind, Wire, Register, token_name, ends_name, acts_name, done_name, start_name, busy_name, over_name}
 use Rattle.cal_lower.specs.declared.labels.Labels.{Labels}
 use Rattle.cal_lower.specs.declared.labels.Texts.{Texts}
 use Rattle.cal_lower.specs.declared.texts.Label.{Label}

@@ -5,18 +5,17 @@ use Rattle.hw_names.specs.declared.names.NameId.{NameId}
 use Rattle.net_core.specs.Guard.{GuardTree, Negates}
 use Rattle.cal_ast.specs.Actors.{Actor, GroupNamed}
 use Rattle.cal_ast.specs.Holes.{ActivityRule, rule_tree}
-use Rattle.cal_ast.specs.Numbers.{GroupHasNumbers}
+use Rattle.cal_ast.specs.Numbers.{GroupHasNumbers, RuleHasNumbers}
 use Rattle.cal_ast.specs.Plan.{Plan, Chooses, Repeats, Plans, plan_at}
 use Rattle.cal_ast.specs.Tree.{PortName, statement_tree}
-use Rattle.cal_token.specs.Tokens.{Again, Starting, size}
+use Rattle.cal_token.specs.inside.Tokens.{Again, Starting, size}
 use Rattle.cal_walk.specs.Left.{is_by}
-use Rattle.cal_group.specs.Ruling.{RuleHasNumbers}
-use Rattle.cal_lower.specs.Lowered.{control_ends, plan_pieces}
-use Rattle.cal_lower.specs.Parts.{part_ends, part_pieces, ends_wire, with_start, none_if_over}
-use Rattle.cal_lower.specs.Parts.{again_guard, pieces_in_turn, pieces_after, pieces_at_once, tested_guard}
-use Rattle.cal_lower.specs.Parts.{enabling, enabling_in_turn, enabling_after, enabling_at_once}
-use Rattle.cal_lower.specs.Parts.{testing, testing_in_turn, testing_after, testing_at_once}
-use Rattle.cal_lower.specs.Pieces.{Piece, Register, piece, token_name, acts_name, start_name, busy_name, has_token, is_set, never, either, both}
+use Rattle.cal_lower.specs.inside.Lowered.{control_ends, plan_pieces}
+use Rattle.cal_lower.specs.inside.Parts.{part_ends, part_pieces, ends_wire, with_start, none_if_over}
+use Rattle.cal_lower.specs.inside.Parts.{again_guard, pieces_in_turn, pieces_after, pieces_at_once, tested_guard}
+use Rattle.cal_lower.specs.inside.Parts.{enabling, enabling_in_turn, enabling_after, enabling_at_once}
+use Rattle.cal_lower.specs.inside.Parts.{testing, testing_in_turn, testing_after, testing_at_once}
+use Rattle.cal_lower.specs.inside.Pieces.{Piece, Register, piece, token_name, acts_name, start_name, busy_name, has_token, is_set, never, either, both}
 use Rattle.cal_lower.specs.inside.Shown.{Guards, ShowAll, ShowsActs, ShowsPieces, nothing}
 use Rattle.cal_ast.specs.declared.lowered.ActRule.{ActRule}
 use Rattle.cal_ast.specs.declared.tree.Group.{Group}

@@ -11,7 +11,7 @@ use Rattle.cal_ast.specs.Numbers.{PortHasNumbers, GuardHasNumbers, WhenHasNumber
 use Rattle.cal_ast.specs.Tree.{PortName, Assignment, port_tree, assignment_tree, cell_tree}
 use Rattle.cal_ast.specs.declared.tree.CalPort.{CalPort}
 use Rattle.cal_ast.specs.declared.tree.Assign.{Assign}
-use Rattle.cal_lower.specs.Pieces.{Kind, Piece, piece_cell, piece_sets}
+use Rattle.cal_lower.specs.inside.Pieces.{Kind, Piece, piece_cell, piece_sets}
 use Rattle.cal_lower.specs.declared.acts.Acts.{Acts}
 use Rattle.cal_lower.specs.declared.acts.Wanted.{Wanted}
 use Rattle.cal_lower.specs.declared.pieces.Drive.{Drive}

@@ -13,14 +13,14 @@ use Rattle.cal_ast.specs.declared.tree.Assign.{Assign}
 use Rattle.cal_ast.specs.declared.tree.CalCell.{CalCell}
 use Rattle.cal_ast.specs.declared.tree.CalComp.{CalComp}
 use Rattle.cal_ast.specs.declared.tree.CalPort.{CalPort}
-use Rattle.cal_token.specs.Tokens.{Starting, Ended}
-use Rattle.cal_lower.specs.Parts.{none_if_over}
-use Rattle.cal_lower.specs.Pieces.{Piece, Wire, Register}
+use Rattle.cal_token.specs.inside.Tokens.{Starting, Ended}
+use Rattle.cal_lower.specs.inside.Parts.{none_if_over}
+use Rattle.cal_lower.specs.inside.Pieces.{Piece, Wire, Register}
 use Rattle.cal_lower.specs.inside.Shown.{Shows, ShowAll, ShowsGuards, ShowsName}
-use Rattle.cal_state.specs.Encoded.{over_state}
-use Rattle.cal_state.specs.States.{is_on, thread_cell, thread_enable, thread_name, width_of}
-use Rattle.cal_state.specs.Threads.{Thread, State, Place, NoState, IsIn, place_in, ended_state, first_state, inner_threads, lasting_states, plan_places, places}
-use Rattle.cal_state.specs.Threads.{places_after, places_at_once, places_in_turn, thread_of, threads, threads_at_once, threads_in_turn}
+use Rattle.cal_state.specs.inside.Encoded.{over_state}
+use Rattle.cal_state.specs.inside.States.{is_on, thread_cell, thread_enable, thread_name, width_of}
+use Rattle.cal_state.specs.inside.Threads.{Thread, State, Place, NoState, IsIn, place_in, ended_state, first_state, inner_threads, lasting_states, plan_places, places}
+use Rattle.cal_state.specs.inside.Threads.{places_after, places_at_once, places_in_turn, thread_of, threads, threads_at_once, threads_in_turn}
 use Rattle.cal_state.specs.declared.component.Sets as component
 use Rattle.cal_state.specs.declared.places.ControlPlaces as control
 use Rattle.cal_state.specs.declared.places.Places as list

@@ -5,7 +5,7 @@ use Rattle.cal_ast.specs.Numbers.{GuardHasNumbers}
 use Rattle.cal_ast.specs.declared.tree.CalPort.{CalPort}
 use Rattle.net_core.specs.declared.net.Guard.{Guard, the_lemmas}
 use Rattle.net_core.specs.declared.net.Guard.TheVariants as variants
-use Rattle.cal_copy.specs.Copies.{IsGuardCopy, port_guard}
+use Rattle.cal_copy.specs.inside.Copies.{IsGuardCopy, port_guard}
 use Rattle.cal_copy.specs.inside.Negations.{negations}
 use Rattle.cal_copy.proofs.CopyLemmas.{copy_all, copy_any, copy_read, copy_test, copy_whole, negations-inside}
 use Rattle.cal_copy.proofs.copy.+copy_guard.Goals as goal

@@ -3,7 +3,7 @@ use Rattle.std.specs.List.{AllZip}
 use Rattle.hw_names.specs.Name.{Text}
 use Rattle.net_core.specs.declared.net.Guard.{size-Guard}
 use Rattle.cal_ast.specs.Numbers.{GuardHasNumbers}
-use Rattle.cal_copy.specs.Copies.{IsGuardCopy, port_guard}
+use Rattle.cal_copy.specs.inside.Copies.{IsGuardCopy, port_guard}
 use Rattle.cal_copy.specs.inside.Negations.{negations}
 use Rattle.cal_copy.proofs.copy.+copy_guard.Given as goal
 

@@ -1,5 +1,5 @@
 use Rattle.std.proofs.lemmas.List.Elements.{all_zip_more}
-use Rattle.cal_copy.specs.Copies.{IsCellCopy}
+use Rattle.cal_copy.specs.inside.Copies.{IsCellCopy}
 use Rattle.cal_copy.proofs.copy.copy_cells.Goals as goal
 
 pub loop-cell-preserved : goal.loop-cell-preserved

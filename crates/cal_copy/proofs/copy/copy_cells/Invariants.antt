@@ -1,6 +1,6 @@
 use Rattle.std.proofs.Common.{take}
 use Rattle.std.specs.List.{AllZip}
-use Rattle.cal_copy.specs.Copies.{IsCellCopy}
+use Rattle.cal_copy.specs.inside.Copies.{IsCellCopy}
 use Rattle.cal_copy.proofs.copy.copy_cells.Given as goal
 
 abbrev pub invariant-loop-cell : goal.invariant-loop-cell

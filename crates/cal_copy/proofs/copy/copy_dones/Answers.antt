@@ -1,5 +1,5 @@
 use Rattle.std.proofs.lemmas.List.Elements.{all_zip_more}
-use Rattle.cal_copy.specs.Copies.{IsDoneCopy}
+use Rattle.cal_copy.specs.inside.Copies.{IsDoneCopy}
 use Rattle.cal_copy.proofs.copy.copy_dones.Goals as goal
 
 pub loop-done-preserved : goal.loop-done-preserved

@@ -2,7 +2,7 @@ use Rattle.std.proofs.Common.{List, subst}
 use Rattle.std.specs.List.{AllZip}
 use Rattle.cal_ast.specs.declared.tree.Assign.{Assign}
 use Rattle.cal_ast.specs.declared.tree.DoneSet.{DoneSet}
-use Rattle.cal_copy.specs.Copies.{IsSetCopy, IsDoneCopy}
+use Rattle.cal_copy.specs.inside.Copies.{IsSetCopy, IsDoneCopy}
 use Rattle.cal_copy.proofs.CopyLemmas.{group_copied}
 use Rattle.cal_copy.proofs.copy.copy_group.Goals as goal
 

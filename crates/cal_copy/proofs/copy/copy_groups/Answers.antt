@@ -1,5 +1,5 @@
 use Rattle.std.proofs.lemmas.List.Elements.{all_zip_more}
-use Rattle.cal_copy.specs.Copies.{IsGroupCopy}
+use Rattle.cal_copy.specs.inside.Copies.{IsGroupCopy}
 use Rattle.cal_copy.proofs.copy.copy_groups.Goals as goal
 
 pub loop-group-preserved : goal.loop-group-preserved

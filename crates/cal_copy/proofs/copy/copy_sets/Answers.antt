@@ -1,5 +1,5 @@
 use Rattle.std.proofs.lemmas.List.Elements.{all_zip_more}
-use Rattle.cal_copy.specs.Copies.{IsSetCopy}
+use Rattle.cal_copy.specs.inside.Copies.{IsSetCopy}
 use Rattle.cal_copy.proofs.copy.copy_sets.Goals as goal
 
 pub loop-set-preserved : goal.loop-set-preserved

@@ -1,5 +1,5 @@
 use Rattle.std.proofs.Common.{◌≡◌, ℕ, ap, ◌∙◌, add-one, arith}
-use Rattle.cal_copy.specs.Copies.{port_guard}
+use Rattle.cal_copy.specs.inside.Copies.{port_guard}
 use Rattle.cal_copy.specs.inside.Negations.{negations}
 use Rattle.cal_copy.proofs.CopyLemmas.{not_numbers, not_tree}
 use Rattle.cal_copy.proofs.copy.negate.Goals as goal

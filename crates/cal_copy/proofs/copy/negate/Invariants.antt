@@ -1,7 +1,7 @@
 use Rattle.std.proofs.Common.{◌≡◌, List}
 use Rattle.hw_names.specs.Name.{Text}
 use Rattle.cal_ast.specs.Numbers.{GuardHasNumbers}
-use Rattle.cal_copy.specs.Copies.{port_guard}
+use Rattle.cal_copy.specs.inside.Copies.{port_guard}
 use Rattle.cal_copy.specs.inside.Negations.{negations}
 use Rattle.cal_copy.proofs.copy.negate.Given as goal
 

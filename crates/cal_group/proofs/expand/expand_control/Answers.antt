@@ -2,7 +2,7 @@ use Rattle.std.proofs.Common.{sym, ap, subst, ◌∙◌}
 use Rattle.cal_ast.specs.Items.{control_statements}
 use Rattle.cal_ast.specs.Tree.{Body, Component, Design, control_tree}
 use Rattle.cal_ast.specs.declared.tree.ControlPart.{ControlPart}
-use Rattle.cal_group.specs.Expanded.{expanded_section}
+use Rattle.cal_group.specs.inside.Expanded.{expanded_section}
 use Rattle.cal_group.specs.inside.Expansion.{AddsGroups, AreNamed, CanStart, HasCells}
 use Rattle.cal_group.proofs.expand.expand_control.Goals as goal
 

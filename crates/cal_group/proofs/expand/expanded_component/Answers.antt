@@ -5,7 +5,7 @@ use Rattle.cal_ast.specs.declared.tree.Assign.{Assign}
 use Rattle.cal_ast.specs.declared.tree.CalCell.{CalCell}
 use Rattle.cal_ast.specs.declared.tree.CalComp.{CalComp}
 use Rattle.cal_ast.specs.declared.tree.Group.{Group}
-use Rattle.cal_copy.specs.Copies.{IsCellCopy, IsGroupCopy, IsSetCopy}
+use Rattle.cal_copy.specs.inside.Copies.{IsCellCopy, IsGroupCopy, IsSetCopy}
 use Rattle.cal_group.proofs.ComponentLemmas.{made_numbers, made_tree}
 use Rattle.cal_group.proofs.expand.expanded_component.Goals as goal
 

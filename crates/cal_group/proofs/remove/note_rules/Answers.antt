@@ -2,7 +2,7 @@ use Rattle.std.proofs.Common.{◌<◌, List, ℕ, get_or, length, set, refl, sub
 use Rattle.std.proofs.lemmas.List.{take_all}
 use Rattle.std.proofs.lemmas.Option.{slice_get-get_or}
 use Rattle.cal_group.proofs.TableLemmas.{noted_none, noted_more}
-use Rattle.cal_group.specs.Ruling.{IsNoted}
+use Rattle.cal_group.specs.inside.Ruling.{IsNoted}
 use Rattle.cal_group.proofs.remove.note_rules.Goals as goal
 
 pub loop-place-init : goal.loop-place-init

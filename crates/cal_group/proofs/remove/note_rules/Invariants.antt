@@ -1,5 +1,5 @@
 use Rattle.std.proofs.Common.{take}
-use Rattle.cal_group.specs.Ruling.{IsNoted}
+use Rattle.cal_group.specs.inside.Ruling.{IsNoted}
 use Rattle.cal_group.proofs.remove.note_rules.Given as goal
 
 abbrev pub invariant-loop-place : goal.invariant-loop-place

@@ -3,7 +3,7 @@ use Rattle.std.proofs.lemmas.List.{take_all}
 use Rattle.std.proofs.lemmas.Option.{slice_get_read}
 use Rattle.cal_ast.specs.declared.tree.Assign.{Assign}
 use Rattle.cal_group.proofs.RulingLemmas.{adds_none, adds_more}
-use Rattle.cal_group.specs.Ruling.{AddsRuled}
+use Rattle.cal_group.specs.inside.Ruling.{AddsRuled}
 use Rattle.cal_group.proofs.remove.put_ruled.Goals as goal
 
 pub loop-set-init : goal.loop-set-init

@@ -1,5 +1,5 @@
 use Rattle.std.proofs.Common.{take}
-use Rattle.cal_group.specs.Ruling.{AddsRuled}
+use Rattle.cal_group.specs.inside.Ruling.{AddsRuled}
 use Rattle.cal_group.proofs.remove.put_ruled.Given as goal
 
 abbrev pub invariant-loop-set : goal.invariant-loop-set

@@ -11,10 +11,11 @@ use Rattle.cal_ast.specs.declared.tree.Assign.{Assign}
 use Rattle.cal_ast.specs.declared.tree.CalCell.{CalCell}
 use Rattle.cal_ast.specs.declared.tree.CalComp.{CalComp}
 use Rattle.cal_ast.specs.declared.tree.Group.{Group}
-use Rattle.cal_copy.specs.Copies.{IsCellCopy, IsSetCopy}
+use Rattle.cal_copy.specs.inside.Copies.{IsCellCopy, IsSetCopy}
 use Rattle.cal_group.proofs.RemovalLemmas.{AreRuled, read_at, ruled_none, ruled_more, removed_tree, removed_numbers, bare_numbers}
 use Rattle.cal_group.proofs.TableLemmas.{same_rule, place_within}
-use Rattle.cal_group.specs.Ruling.{AddsRuled, rule_trees}
+use Rattle.cal_group.specs.inside.Ruling.{AddsRuled}
+use Rattle.cal_ast.specs.Holes.{rule_trees}
 use Rattle.cal_group.proofs.remove.removed_component.Goals as goal
 
 pub bounds-table-group : goal.bounds-table-group

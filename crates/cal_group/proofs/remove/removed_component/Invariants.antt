@@ -3,7 +3,8 @@ use Rattle.hw_names.specs.Name.{Text}
 use Rattle.cal_ast.specs.Numbers.{ComponentHasNumbers}
 use Rattle.cal_ast.specs.Tree.{Design}
 use Rattle.cal_group.proofs.RemovalLemmas.{AreRuled}
-use Rattle.cal_group.specs.Ruling.{HasRulesOf, rule_trees}
+use Rattle.cal_group.specs.inside.Ruling.{HasRulesOf}
+use Rattle.cal_ast.specs.Holes.{rule_trees}
 use Rattle.cal_group.proofs.remove.removed_component.Given as goal
 
 abbrev pub invariant-loop-group : goal.invariant-loop-group

@@ -10,8 +10,9 @@ use Rattle.cal_ast.specs.declared.lowered.ActRule.{ActRule}
 use Rattle.cal_ast.specs.declared.tree.CalComp.{CalComp}
 use Rattle.cal_group.proofs.RemovalLemmas.{mapped_next, no_statements, read_at}
 use Rattle.cal_group.proofs.TableLemmas.{finds_again, groups_within, has_places, places_within, rules_within}
-use Rattle.cal_group.specs.Removed.{removed}
-use Rattle.cal_group.specs.Ruling.{HasPlaces, HasRulesOf, IsNoted, rule_trees}
+use Rattle.cal_group.specs.inside.Removed.{removed}
+use Rattle.cal_group.specs.inside.Ruling.{HasPlaces, HasRulesOf, IsNoted}
+use Rattle.cal_ast.specs.Holes.{rule_trees}
 use Rattle.cal_group.proofs.remove.removed_components.Goals as goal
 
 pub rules_by_component-requires : goal.rules_by_component-requires

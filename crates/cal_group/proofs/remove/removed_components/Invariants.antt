@@ -2,8 +2,8 @@ use Rattle.std.proofs.Common.{◌≡◌, length, map, take}
 use Rattle.std.specs.Prelude.{All}
 use Rattle.cal_ast.specs.Numbers.{ComponentHasNumbers}
 use Rattle.cal_ast.specs.Tree.{component_tree, design_of}
-use Rattle.cal_group.specs.Removed.{removed}
-use Rattle.cal_group.specs.Ruling.{rule_trees}
+use Rattle.cal_group.specs.inside.Removed.{removed}
+use Rattle.cal_ast.specs.Holes.{rule_trees}
 use Rattle.cal_group.proofs.remove.removed_components.Given as goal
 
 abbrev pub invariant-loop-number : goal.invariant-loop-number

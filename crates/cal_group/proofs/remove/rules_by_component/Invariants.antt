@@ -1,5 +1,5 @@
 use Rattle.std.proofs.Common.{◌≡◌, length, take}
-use Rattle.cal_group.specs.Ruling.{HasPlaces}
+use Rattle.cal_group.specs.inside.Ruling.{HasPlaces}
 use Rattle.cal_group.proofs.remove.rules_by_component.Given as goal
 
 abbrev pub invariant-loop-place : goal.invariant-loop-place

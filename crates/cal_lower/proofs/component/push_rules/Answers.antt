@@ -6,7 +6,7 @@ use Rattle.cal_ast.specs.Holes.{ActivityRule}
 use Rattle.cal_ast.specs.Numbers.{GroupHasNumbers}
 use Rattle.cal_ast.specs.Tree.{component_tree, group_tree}
 use Rattle.cal_ast.specs.declared.tree.Group.{Group}
-use Rattle.cal_lower.specs.Lowered.{rule_of}
+use Rattle.cal_lower.specs.inside.Lowered.{rule_of}
 use Rattle.cal_lower.specs.inside.Making.{ShowRules}
 use Rattle.cal_lower.proofs.ComponentLemmas.{bare_kept, component_numbers, index_of, rules_more, taken}
 use Rattle.cal_lower.proofs.GrownLemmas.{labels_refl, labels_texts, labels_trans}

@@ -3,7 +3,7 @@ use Rattle.hw_names.specs.Name.{Text}
 use Rattle.cal_ast.specs.Holes.{ActivityRule}
 use Rattle.cal_ast.specs.Tree.{component_tree, group_tree}
 use Rattle.cal_lower.specs.inside.Labels.{AreTexts, KeepsLabels}
-use Rattle.cal_lower.specs.Lowered.{rule_of}
+use Rattle.cal_lower.specs.inside.Lowered.{rule_of}
 use Rattle.cal_lower.specs.inside.Making.{ShowRules}
 use Rattle.cal_lower.specs.inside.Statements.{CanLowerComponent}
 use Rattle.cal_lower.proofs.component.push_rules.Given as goal

@@ -7,9 +7,9 @@ use Rattle.cal_ast.specs.Ports.{inputs_in, outputs_in, with_pin}
 use Rattle.cal_ast.specs.Tree.{assignment_tree, cell_tree, component_tree, group_tree, pin_tree}
 use Rattle.cal_ast.specs.declared.tree.CalPin.{CalPin}
 use Rattle.cal_ast.specs.declared.tree.Group.{Group}
-use Rattle.cal_copy.specs.Copies.{IsGroupCopy}
-use Rattle.cal_lower.specs.Lowered.{control_pieces, done_set}
-use Rattle.cal_lower.specs.Pieces.{piece_cell, piece_sets}
+use Rattle.cal_copy.specs.inside.Copies.{IsGroupCopy}
+use Rattle.cal_lower.specs.inside.Lowered.{control_pieces, done_set}
+use Rattle.cal_lower.specs.inside.Pieces.{piece_cell, piece_sets}
 use Rattle.cal_lower.specs.inside.Shown.{ShowAll}
 use Rattle.cal_lower.proofs.ComponentLemmas.{cells_whole, component_made, ins_with_go, labels_in_four, outs_with_done, pins_at, sets_whole}
 use Rattle.cal_lower.proofs.CopiedLemmas.{groups_copied}

@@ -4,7 +4,7 @@ use Rattle.cal_ast.specs.Tree.{assignment_tree, cell_tree, group_tree, pin_tree}
 use Rattle.cal_ast.specs.declared.tree.Assign.{Assign}
 use Rattle.cal_ast.specs.declared.tree.CalCell.{CalCell}
 use Rattle.cal_ast.specs.declared.tree.Group.{Group}
-use Rattle.cal_copy.specs.Copies.{IsCellCopy, IsGroupCopy, IsSetCopy}
+use Rattle.cal_copy.specs.inside.Copies.{IsCellCopy, IsGroupCopy, IsSetCopy}
 use Rattle.cal_lower.proofs.ComponentLemmas.{component_made, pins_copied}
 use Rattle.cal_lower.proofs.CopiedLemmas.{cells_copied, groups_copied, sets_copied}
 use Rattle.cal_lower.proofs.component.without_control.Goals as goal

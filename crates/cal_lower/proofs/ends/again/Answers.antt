@@ -1,8 +1,8 @@
 use Rattle.std.proofs.Common.{IfOk, sym, subst, ◌∙◌}
 use Rattle.net_core.specs.Guard.{GuardTree}
 use Rattle.cal_ast.specs.Tree.{PortName}
-use Rattle.cal_lower.specs.Parts.{tested_guard}
-use Rattle.cal_lower.specs.Pieces.{reads}
+use Rattle.cal_lower.specs.inside.Parts.{tested_guard}
+use Rattle.cal_lower.specs.inside.Pieces.{reads}
 use Rattle.cal_lower.specs.inside.Shown.{ShowsGuard}
 use Rattle.cal_lower.proofs.GatherLemmas.{again_over, port_later}
 use Rattle.cal_lower.proofs.SizeLemmas.{plan}

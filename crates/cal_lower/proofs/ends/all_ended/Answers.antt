@@ -3,7 +3,7 @@ use Rattle.std.proofs.lemmas.List.{drop_all}
 use Rattle.net_core.specs.declared.net.Guard.{Guard}
 use Rattle.cal_ast.specs.Numbers.{GuardHasNumbers}
 use Rattle.cal_ast.specs.declared.tree.CalPort.{CalPort}
-use Rattle.cal_lower.specs.Parts.{ended_guards}
+use Rattle.cal_lower.specs.inside.Parts.{ended_guards}
 use Rattle.cal_lower.specs.inside.Shown.{ShowsGuards, seen_guard}
 use Rattle.cal_lower.proofs.EndLemmas.{ended_end, ended_next, ended_start}
 use Rattle.cal_lower.proofs.NextLemmas.{at_index, drop_next}

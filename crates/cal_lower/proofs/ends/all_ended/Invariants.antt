@@ -1,7 +1,7 @@
 use Rattle.std.proofs.Common.{ℕ, List, drop}
 use Rattle.hw_names.specs.Name.{Text}
 use Rattle.cal_lower.specs.inside.Labels.{AreTexts, KeepsLabels}
-use Rattle.cal_lower.specs.Parts.{ended_guards}
+use Rattle.cal_lower.specs.inside.Parts.{ended_guards}
 use Rattle.cal_lower.proofs.EndLemmas.{EndedSoFar}
 use Rattle.cal_lower.proofs.SizeLemmas.{plans}
 use Rattle.cal_lower.proofs.ends.all_ended.Given as goal

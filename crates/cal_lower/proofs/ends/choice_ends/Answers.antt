@@ -2,8 +2,8 @@ use Rattle.std.proofs.Common.{IfOk, [], ◌∷◌, ◌++◌, subst}
 use Rattle.net_core.specs.Guard.{GuardTree}
 use Rattle.cal_ast.specs.Tree.{PortName}
 use Rattle.cal_lower.specs.inside.Making.{by_group, off_plan, on_plan}
-use Rattle.cal_lower.specs.Parts.{chooses_nothing, none_if_over, part_ends}
-use Rattle.cal_lower.specs.Pieces.{reads}
+use Rattle.cal_lower.specs.inside.Parts.{chooses_nothing, none_if_over, part_ends}
+use Rattle.cal_lower.specs.inside.Pieces.{reads}
 use Rattle.cal_lower.specs.inside.Shown.{ShowsGuard}
 use Rattle.cal_lower.proofs.GatherLemmas.{choice_guard}
 use Rattle.cal_lower.proofs.ends.choice_ends.Goals as goal

@@ -1,5 +1,5 @@
 use Rattle.cal_lower.specs.inside.Labels.{label_text}
-use Rattle.cal_lower.specs.Pieces.{reads, shown}
+use Rattle.cal_lower.specs.inside.Pieces.{reads, shown}
 use Rattle.cal_ast.specs.Numbers.{PortHasNumbers}
 use Rattle.cal_ast.specs.Tree.{port_tree}
 use Rattle.cal_lower.proofs.GrownLemmas.{shows_kept}

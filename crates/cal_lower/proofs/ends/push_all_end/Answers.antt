@@ -1,6 +1,6 @@
 use Rattle.std.proofs.Common.{ℕ, ◌+◌, subst}
-use Rattle.cal_lower.specs.Parts.{ended_guards}
-use Rattle.cal_lower.specs.Pieces.{all_of}
+use Rattle.cal_lower.specs.inside.Parts.{ended_guards}
+use Rattle.cal_lower.specs.inside.Pieces.{all_of}
 use Rattle.cal_lower.specs.inside.Shown.{ShowsGuards, one_when}
 use Rattle.cal_lower.proofs.GrownLemmas.{pieces_kept}
 use Rattle.cal_lower.proofs.SizeLemmas.{plans}

@@ -2,8 +2,8 @@ use Rattle.std.proofs.Common.{Option, [], ◌∷◌, ◌++◌, subst}
 use Rattle.std.proofs.lemmas.Result.{on_ok_weaker}
 use Rattle.cal_ast.specs.Actors.{Actor}
 use Rattle.cal_lower.specs.inside.Making.{by_group, choice_plan, tests_group}
-use Rattle.cal_lower.specs.Parts.{ends_guard, ends_wire}
-use Rattle.cal_lower.specs.Pieces.{reads}
+use Rattle.cal_lower.specs.inside.Parts.{ends_guard, ends_wire}
+use Rattle.cal_lower.specs.inside.Pieces.{reads}
 use Rattle.cal_lower.specs.inside.Shown.{ShowsActs, one_when}
 use Rattle.cal_lower.proofs.GatherLemmas.{own_shown, port_later}
 use Rattle.cal_lower.proofs.GrownLemmas.{acts_kept, pieces_kept}

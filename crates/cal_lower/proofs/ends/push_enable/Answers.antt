@@ -5,9 +5,9 @@ use Rattle.hw_names.specs.Name.{Text, text_of}
 use Rattle.net_core.specs.Guard.{Negates}
 use Rattle.cal_ast.specs.Actors.{GroupNamed}
 use Rattle.cal_ast.specs.Plan.{Enables}
-use Rattle.cal_token.specs.Tokens.{Going}
-use Rattle.cal_lower.specs.Parts.{ends_wire}
-use Rattle.cal_lower.specs.Pieces.{Register, both, done_name, either, has_token, piece, reads, shown, token_name}
+use Rattle.cal_token.specs.inside.Tokens.{Going}
+use Rattle.cal_lower.specs.inside.Parts.{ends_wire}
+use Rattle.cal_lower.specs.inside.Pieces.{Register, both, done_name, either, has_token, piece, reads, shown, token_name}
 use Rattle.cal_lower.specs.inside.Shown.{ShowsActs, more_of, one_when}
 use Rattle.cal_lower.proofs.GatherLemmas.{enable_shown, port_later}
 use Rattle.cal_lower.proofs.GrownLemmas.{acts_kept, pieces_kept}

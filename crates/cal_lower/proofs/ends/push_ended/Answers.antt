@@ -1,5 +1,5 @@
-use Rattle.cal_lower.specs.Parts.{ended_guard, part_ends}
-use Rattle.cal_lower.specs.Pieces.{ends_name, shown}
+use Rattle.cal_lower.specs.inside.Parts.{ended_guard, part_ends}
+use Rattle.cal_lower.specs.inside.Pieces.{ends_name, shown}
 use Rattle.cal_lower.specs.inside.Shown.{one_when}
 use Rattle.cal_lower.proofs.EndLemmas.{has_ended}
 use Rattle.cal_lower.proofs.GatherLemmas.{guard_later}

@@ -3,8 +3,8 @@ use Rattle.std.proofs.lemmas.Result.{on_ok_weaker}
 use Rattle.cal_ast.specs.Actors.{Actor}
 use Rattle.cal_ast.specs.Plan.{Repeats}
 use Rattle.cal_lower.specs.inside.Making.{by_group, tests_group}
-use Rattle.cal_lower.specs.Parts.{again_guard, ends_guard, ends_wire, tested_guard}
-use Rattle.cal_lower.specs.Pieces.{reads}
+use Rattle.cal_lower.specs.inside.Parts.{again_guard, ends_guard, ends_wire, tested_guard}
+use Rattle.cal_lower.specs.inside.Pieces.{reads}
 use Rattle.cal_lower.specs.inside.Shown.{ShowsActs, one_when}
 use Rattle.cal_lower.proofs.GatherLemmas.{loop_shown, port_later}
 use Rattle.cal_lower.proofs.GrownLemmas.{acts_kept, pieces_kept}

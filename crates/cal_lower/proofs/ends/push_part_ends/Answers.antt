@@ -1,5 +1,5 @@
 use Rattle.std.proofs.Common.{sym, ◌∙◌}
-use Rattle.cal_lower.specs.Parts.{part_ends}
+use Rattle.cal_lower.specs.inside.Parts.{part_ends}
 use Rattle.cal_lower.proofs.EndLemmas.{lasting_has_one}
 use Rattle.cal_lower.proofs.GatherLemmas.{guard_more}
 use Rattle.cal_lower.proofs.SizeLemmas.{plan}

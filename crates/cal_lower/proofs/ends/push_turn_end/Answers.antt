@@ -1,6 +1,6 @@
 use Rattle.std.proofs.Common.{◌≡◌, ℕ, ◌+◌, ◌++◌, ◌∷◌, [], OnOk, ap, subst, ◌∙◌}
-use Rattle.cal_lower.specs.Parts.{last_part, part_ends}
-use Rattle.cal_lower.specs.Pieces.{Wire, ends_name, piece}
+use Rattle.cal_lower.specs.inside.Parts.{last_part, part_ends}
+use Rattle.cal_lower.specs.inside.Pieces.{Wire, ends_name, piece}
 use Rattle.cal_lower.specs.inside.Shown.{ShowsPieces, one_when}
 use Rattle.cal_lower.proofs.GrownLemmas.{pieces_kept}
 use Rattle.cal_lower.proofs.SizeLemmas.{plans}

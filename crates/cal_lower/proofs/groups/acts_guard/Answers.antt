@@ -6,7 +6,7 @@ use Rattle.cal_ast.specs.Numbers.{GuardHasNumbers}
 use Rattle.cal_ast.specs.Tree.{PortName}
 use Rattle.cal_ast.specs.declared.tree.CalPort.{CalPort}
 use Rattle.cal_lower.specs.inside.Making.{plan_made}
-use Rattle.cal_lower.specs.Pieces.{any_of, done_name, shown}
+use Rattle.cal_lower.specs.inside.Pieces.{any_of, done_name, shown}
 use Rattle.cal_lower.specs.inside.Shown.{ShowsGuard, ShowsGuards, seen_guard}
 use Rattle.cal_lower.proofs.CopiedLemmas.{copies_shown}
 use Rattle.cal_lower.proofs.GrownLemmas.{shows_kept}

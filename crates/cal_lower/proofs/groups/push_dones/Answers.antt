@@ -3,8 +3,8 @@ use Rattle.std.proofs.lemmas.List.{append-nil, take_all}
 use Rattle.cal_ast.specs.Numbers.{DoneHasNumbers}
 use Rattle.cal_ast.specs.Tree.{done_tree}
 use Rattle.cal_ast.specs.declared.tree.DoneSet.{DoneSet}
-use Rattle.cal_lower.specs.Lowered.{done_wire}
-use Rattle.cal_lower.specs.Pieces.{Piece}
+use Rattle.cal_lower.specs.inside.Lowered.{done_wire}
+use Rattle.cal_lower.specs.inside.Pieces.{Piece}
 use Rattle.cal_lower.specs.inside.Shown.{ShowsPieces}
 use Rattle.cal_lower.proofs.CopiedLemmas.{done_drive, done_driven}
 use Rattle.cal_lower.proofs.GroupPieceLemmas.{dones_next}

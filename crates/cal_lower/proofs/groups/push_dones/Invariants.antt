@@ -3,8 +3,8 @@ use Rattle.hw_names.specs.Name.{KeepsTexts, Text}
 use Rattle.cal_ast.specs.Numbers.{DoneHasNumbers}
 use Rattle.cal_ast.specs.Tree.{done_tree}
 use Rattle.cal_lower.specs.inside.Labels.{AreTexts, KeepsLabels}
-use Rattle.cal_lower.specs.Lowered.{done_wire}
-use Rattle.cal_lower.specs.Pieces.{Piece}
+use Rattle.cal_lower.specs.inside.Lowered.{done_wire}
+use Rattle.cal_lower.specs.inside.Pieces.{Piece}
 use Rattle.cal_lower.specs.inside.Shown.{ShowsPieces}
 use Rattle.cal_lower.proofs.groups.push_dones.Given as goal
 

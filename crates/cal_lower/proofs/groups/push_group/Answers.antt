@@ -5,8 +5,8 @@ use Rattle.hw_names.specs.Name.{text_of}
 use Rattle.cal_ast.specs.Numbers.{DoneHasNumbers}
 use Rattle.cal_ast.specs.Tree.{done_tree, group_tree}
 use Rattle.cal_ast.specs.declared.tree.DoneSet.{DoneSet}
-use Rattle.cal_lower.specs.Lowered.{acts_guard, done_wire}
-use Rattle.cal_lower.specs.Pieces.{Piece, Wire, acts_name}
+use Rattle.cal_lower.specs.inside.Lowered.{acts_guard, done_wire}
+use Rattle.cal_lower.specs.inside.Pieces.{Piece, Wire, acts_name}
 use Rattle.cal_lower.specs.inside.Shown.{ShowsPieces, driven, one_when}
 use Rattle.cal_lower.proofs.GroupPieceLemmas.{can_group_later, group_number, group_whole}
 use Rattle.cal_lower.proofs.GrownLemmas.{pieces_kept}

@@ -2,9 +2,9 @@ use Rattle.std.proofs.Common.{◌++◌, List, map, flat_map, take, sym, subst}
 use Rattle.std.proofs.lemmas.List.{append-nil, take_all}
 use Rattle.cal_ast.specs.Tree.{group_tree}
 use Rattle.cal_ast.specs.declared.tree.Group.{Group}
-use Rattle.cal_lower.specs.Lowered.{group_pieces}
+use Rattle.cal_lower.specs.inside.Lowered.{group_pieces}
 use Rattle.cal_lower.specs.inside.Making.{CanLowerGroup}
-use Rattle.cal_lower.specs.Pieces.{Piece}
+use Rattle.cal_lower.specs.inside.Pieces.{Piece}
 use Rattle.cal_lower.specs.inside.Shown.{ShowsPieces}
 use Rattle.cal_lower.proofs.GroupPieceLemmas.{can_group_later, groups_next}
 use Rattle.cal_lower.proofs.GrownLemmas.{labels_refl, labels_texts, labels_trans}

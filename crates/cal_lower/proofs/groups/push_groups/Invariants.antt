@@ -3,9 +3,9 @@ use Rattle.hw_names.specs.Name.{Text}
 use Rattle.cal_ast.specs.Plan.{Plan}
 use Rattle.cal_ast.specs.Tree.{group_tree}
 use Rattle.cal_lower.specs.inside.Labels.{AreTexts, KeepsLabels}
-use Rattle.cal_lower.specs.Lowered.{group_pieces}
+use Rattle.cal_lower.specs.inside.Lowered.{group_pieces}
 use Rattle.cal_lower.specs.inside.Making.{CanLowerGroup}
-use Rattle.cal_lower.specs.Pieces.{Piece}
+use Rattle.cal_lower.specs.inside.Pieces.{Piece}
 use Rattle.cal_lower.specs.inside.Shown.{ShowsPieces}
 use Rattle.cal_lower.proofs.groups.push_groups.Given as goal
 

@@ -1,5 +1,5 @@
 use Rattle.std.proofs.Common.{◌≡◌, ◌<◌, ◌≤◌, length, refl, arith}
-use Rattle.cal_lower.specs.Pieces.{all_of}
+use Rattle.cal_lower.specs.inside.Pieces.{all_of}
 use Rattle.cal_lower.proofs.MadeGuardLemmas.{all_of_many, none_left, none_shown, one_left, one_shown}
 use Rattle.cal_lower.proofs.guards.all_of.Goals as goal
 

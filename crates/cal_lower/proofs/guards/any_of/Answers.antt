@@ -1,7 +1,7 @@
 use Rattle.std.proofs.Common.{◌≡◌, ◌<◌, ◌≤◌, length, IfOk, refl, ap, subst, arith}
 use Rattle.net_core.specs.Guard.{GuardTree}
 use Rattle.cal_ast.specs.Tree.{PortName}
-use Rattle.cal_lower.specs.Pieces.{any_of}
+use Rattle.cal_lower.specs.inside.Pieces.{any_of}
 use Rattle.cal_lower.specs.inside.Shown.{ShowsGuard}
 use Rattle.cal_lower.proofs.MadeGuardLemmas.{any_of_many, no_trees, none_left, one_left, one_shown}
 use Rattle.cal_lower.proofs.guards.any_of.Goals as goal

@@ -1,4 +1,4 @@
-use Rattle.cal_lower.specs.Pieces.{reads}
+use Rattle.cal_lower.specs.inside.Pieces.{reads}
 use Rattle.net_core.specs.Guard.{Negates}
 use Rattle.cal_lower.proofs.guards.unless.Goals as goal
 

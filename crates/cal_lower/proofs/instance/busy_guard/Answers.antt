@@ -2,8 +2,8 @@ use Rattle.net_core.specs.Guard.{Negates}
 use Rattle.cal_ast.specs.Numbers.{GuardHasNumbers, PortHasNumbers}
 use Rattle.cal_ast.specs.Plan.{section_plan}
 use Rattle.cal_ast.specs.Tree.{control_tree, port_tree}
-use Rattle.cal_lower.specs.Lowered.{control_ends}
-use Rattle.cal_lower.specs.Pieces.{busy_name, either, reads, shown, start_name}
+use Rattle.cal_lower.specs.inside.Lowered.{control_ends}
+use Rattle.cal_lower.specs.inside.Pieces.{busy_name, either, reads, shown, start_name}
 use Rattle.cal_lower.specs.inside.Shown.{seen_guard}
 use Rattle.cal_lower.proofs.GrownLemmas.{shows_kept}
 use Rattle.cal_lower.proofs.instance.busy_guard.Goals as goal

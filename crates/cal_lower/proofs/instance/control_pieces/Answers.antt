@@ -4,7 +4,7 @@ use Rattle.cal_ast.specs.Items.{items_before_control}
 use Rattle.cal_ast.specs.Plan.{plan_of}
 use Rattle.cal_ast.specs.Tree.{component_tree, group_tree}
 use Rattle.cal_ast.specs.declared.tree.Group.{Group}
-use Rattle.cal_lower.specs.Lowered.{group_pieces, instance_pieces, plan_pieces}
+use Rattle.cal_lower.specs.inside.Lowered.{group_pieces, instance_pieces, plan_pieces}
 use Rattle.cal_lower.specs.inside.Making.{ShowsParts}
 use Rattle.cal_lower.specs.inside.Shown.{ShowsPieces}
 use Rattle.cal_lower.specs.declared.made.Parts.{Parts}

@@ -1,9 +1,9 @@
 use Rattle.std.proofs.Common.{◌++◌, List, [], ◌∷◌, OnOk, subst}
 use Rattle.cal_ast.specs.Plan.{section_plan}
 use Rattle.cal_ast.specs.Tree.{control_tree}
-use Rattle.cal_lower.specs.Lowered.{control_ends, start_guard}
+use Rattle.cal_lower.specs.inside.Lowered.{control_ends, start_guard}
 use Rattle.cal_lower.specs.inside.Making.{busy_guard}
-use Rattle.cal_lower.specs.Pieces.{Piece, Register, Wire, busy_name, over_name, piece, start_name}
+use Rattle.cal_lower.specs.inside.Pieces.{Piece, Register, Wire, busy_name, over_name, piece, start_name}
 use Rattle.cal_lower.specs.inside.Shown.{ShowsPieces, one_when}
 use Rattle.cal_lower.proofs.GrownLemmas.{labels_texts, pieces_kept}
 use Rattle.cal_lower.proofs.InstanceLemmas.{labels_in_three, three_more}

@@ -2,7 +2,7 @@ use Rattle.std.proofs.Common.{sym, ◌∙◌}
 use Rattle.std.proofs.lemmas.Result.{on_ok_weaker}
 use Rattle.cal_ast.specs.Plan.{plan_at}
 use Rattle.cal_ast.specs.Tree.{statement_tree}
-use Rattle.cal_lower.specs.Pieces.{shown, start_name}
+use Rattle.cal_lower.specs.inside.Pieces.{shown, start_name}
 use Rattle.cal_lower.proofs.GrownLemmas.{parts_kept}
 use Rattle.cal_lower.proofs.InstanceLemmas.{plan_of_nothing, plan_of_part}
 use Rattle.cal_lower.proofs.StatementLemmas.{can_later}

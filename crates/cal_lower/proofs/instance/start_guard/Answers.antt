@@ -2,7 +2,7 @@ use Rattle.std.proofs.Common.{[], ◌∷◌, codes}
 use Rattle.net_core.specs.Guard.{Negates}
 use Rattle.cal_ast.specs.Numbers.{PortHasNumbers}
 use Rattle.cal_ast.specs.Tree.{own, port_tree}
-use Rattle.cal_lower.specs.Pieces.{busy_name, over_name, reads, shown}
+use Rattle.cal_lower.specs.inside.Pieces.{busy_name, over_name, reads, shown}
 use Rattle.cal_lower.proofs.GrownLemmas.{shows_kept}
 use Rattle.cal_lower.proofs.InstanceLemmas.{three_guards}
 use Rattle.cal_lower.proofs.StableLemmas.{KeepsTexts-trans}

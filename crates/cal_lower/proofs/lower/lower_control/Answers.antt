@@ -4,12 +4,13 @@ use Rattle.std.proofs.lemmas.List.{length-map}
 use Rattle.cal_ast.specs.Holes.{ActivityRule, rule_tree}
 use Rattle.cal_ast.specs.Tree.{component_tree, design_of}
 use Rattle.cal_ast.specs.declared.tree.CalComp.{CalComp}
-use Rattle.cal_group.specs.Ruling.{RuleHasNumbers}
-use Rattle.cal_lower.specs.Lowered.{rules_from}
+use Rattle.cal_ast.specs.Numbers.{RuleHasNumbers}
+use Rattle.cal_lower.specs.inside.Lowered.{rules_from}
 use Rattle.cal_lower.specs.inside.Making.{ShowRules}
 use Rattle.cal_lower.proofs.DesignLemmas.{all_lowered, can_component, comps_next, few_next, rules_next}
 use Rattle.cal_lower.proofs.GrownLemmas.{labels_texts, show_all_kept}
 use Rattle.cal_lower.proofs.NextLemmas.{at_index}
+use Rattle.cal_lower.proofs.ReplacesLemmas.{lowering_replaces}
 use Rattle.cal_lower.proofs.StableLemmas.{KeepsTexts-refl, KeepsTexts-trans}
 use Rattle.cal_lower.proofs.lower.lower_control.Goals as goal
 
@@ -70,6 +71,16 @@ returns-clause-numbers c = let names = c.loop-number.labels.names in c.loop-numb
 
 pub returns-clause-rules : goal.returns-clause-rules
 returns-clause-rules c = let names = c.loop-number.labels.names in c.loop-number.invariant.rules.numbers names (KeepsTexts-refl names)
+
+pub returns-clause-replaces : goal.returns-clause-replaces
+returns-clause-replaces c =
+    let d = c.args.plain.now.design in
+    let n = c.loop-number.number in
+    let count = ap (length {A = CalComp}) c.deref-comp-items.ensures.value in
+    let past : length (design_of d) ≤ n = omega (arith, c.loop-number-test.false, count, length-map d.comps.items (component_tree d.names)) in
+    let inv = c.loop-number.invariant in
+    lowering_replaces (design_of d) _ _ c.requires.names c.requires.plain
+    (all_lowered d (record { names = c.loop-number.labels.names; comps = c.loop-number.comps }) c.loop-number.acts.items n past inv.comps inv.rules inv.few)
 
 pub returns-clause-lowering : goal.returns-clause-lowering
 returns-clause-lowering c =

@@ -3,7 +3,7 @@ use Rattle.hw_names.specs.Name.{KeepsTexts}
 use Rattle.cal_ast.specs.Numbers.{ComponentHasNumbers}
 use Rattle.cal_ast.specs.Tree.{component_tree, design_of}
 use Rattle.cal_lower.specs.inside.Labels.{AreTexts}
-use Rattle.cal_lower.specs.Lowered.{HasFewParts, lowered, rules_from}
+use Rattle.cal_lower.specs.inside.Lowered.{HasFewParts, lowered, rules_from}
 use Rattle.cal_lower.specs.inside.Making.{ShowRules}
 use Rattle.cal_lower.specs.inside.Shown.{ShowAll}
 use Rattle.cal_lower.proofs.lower.lower_control.Given as goal

@@ -9,10 +9,10 @@ use Rattle.cal_ast.specs.Plan.{Enables, InTurn, AtOnce, Chooses}
 use Rattle.cal_ast.specs.Tree.{port_tree}
 use Rattle.cal_ast.specs.declared.tree.Control.{Control, the_lemmas}
 use Rattle.cal_ast.specs.declared.tree.Control.TheVariants as controls
-use Rattle.cal_token.specs.Tokens.{Starting, size}
+use Rattle.cal_token.specs.inside.Tokens.{Starting, size}
 use Rattle.cal_lower.specs.inside.Making.{ShowsParts, at_once_made, by_group, choice_made, in_turn_made, later_made, loop_made, part_made, turn_made, with_made}
-use Rattle.cal_lower.specs.Parts.{ends_wire, part_ends, tested_guard}
-use Rattle.cal_lower.specs.Pieces.{Piece, Register, both, piece, reads, shown, token_name}
+use Rattle.cal_lower.specs.inside.Parts.{ends_wire, part_ends, tested_guard}
+use Rattle.cal_lower.specs.inside.Pieces.{Piece, Register, both, piece, reads, shown, token_name}
 use Rattle.cal_lower.specs.inside.Shown.{ShowsPieces, one_when}
 use Rattle.cal_lower.specs.inside.Statements.{CanLower}
 use Rattle.cal_lower.proofs.ArmLemmas.{by_source, enable_arm, if_arm, other_item, par_arm, seq_arm, while_arm}

@@ -3,8 +3,8 @@ use Rattle.hw_names.specs.Name.{Text}
 use Rattle.cal_ast.specs.Tree.{PortName}
 use Rattle.cal_lower.specs.inside.Labels.{KeepsLabels}
 use Rattle.cal_lower.specs.inside.Making.{Made, ShowsParts, with_made, in_turn_made, at_once_made}
-use Rattle.cal_lower.specs.Parts.{part_ends}
-use Rattle.cal_lower.specs.Pieces.{reads}
+use Rattle.cal_lower.specs.inside.Parts.{part_ends}
+use Rattle.cal_lower.specs.inside.Pieces.{reads}
 use Rattle.cal_lower.specs.inside.Shown.{ShowsPort}
 use Rattle.cal_lower.specs.inside.Statements.{CanLowerAll}
 use Rattle.cal_lower.proofs.SizeLemmas.{plans}

@@ -1,7 +1,7 @@
 use Rattle.std.proofs.Common.{◌≡◌, Bool, sym, ap, subst, ◌∙◌}
 use Rattle.std.specs.Prelude.{if◌then◌else◌}
 use Rattle.cal_lower.specs.inside.Labels.{kind_of}
-use Rattle.cal_lower.specs.Pieces.{Kind, Wire, Register, made_by}
+use Rattle.cal_lower.specs.inside.Pieces.{Kind, Wire, Register, made_by}
 use Rattle.cal_lower.specs.inside.Shown.{ShowsName}
 use Rattle.cal_lower.proofs.pieces.made_by.Goals as goal
 

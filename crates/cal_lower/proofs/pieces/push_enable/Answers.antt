@@ -1,7 +1,7 @@
 use Rattle.std.proofs.Common.{◌≡◌, Bool, sym, ap, ◌∙◌}
 use Rattle.std.specs.Prelude.{if◌then◌else◌}
 use Rattle.cal_lower.specs.inside.Labels.{kind_of}
-use Rattle.cal_lower.specs.Pieces.{Wire, Register}
+use Rattle.cal_lower.specs.inside.Pieces.{Wire, Register}
 use Rattle.cal_lower.proofs.PushLemmas.{none_enables, one_enables}
 use Rattle.cal_lower.proofs.pieces.push_enable.Goals as goal
 

@@ -2,7 +2,7 @@ use Rattle.std.proofs.Common.{◌+◌, drop, refl, ap, arith}
 use Rattle.std.proofs.lemmas.List.{drop_all}
 use Rattle.std.proofs.lemmas.Result.{IfOk-weaker}
 use Rattle.cal_ast.specs.declared.tree.Control.{Control}
-use Rattle.cal_token.specs.Tokens.{size}
+use Rattle.cal_token.specs.inside.Tokens.{size}
 use Rattle.cal_lower.proofs.NextLemmas.{at_index, drop_next}
 use Rattle.cal_lower.proofs.SizeLemmas.{counts_end, counts_next, counts_start, plan, plan_par, plan_seq, size_if, size_while}
 use Rattle.cal_lower.proofs.sizes.+after_part.Goals as goal

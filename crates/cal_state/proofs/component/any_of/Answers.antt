@@ -1,5 +1,5 @@
 use Rattle.std.proofs.Common.{◌≡◌, ◌<◌, ◌≤◌, length, refl, arith}
-use Rattle.cal_lower.specs.Pieces.{any_of}
+use Rattle.cal_lower.specs.inside.Pieces.{any_of}
 use Rattle.cal_lower.proofs.MadeGuardLemmas.{any_of_many, none_left, none_shown, one_left, one_shown}
 use Rattle.cal_state.proofs.component.any_of.Goals as goal
 

@@ -1,10 +1,10 @@
 use Rattle.std.proofs.Common.{map, codes}
 use Rattle.net_core.specs.Guard.{Negates}
 use Rattle.net_core.specs.declared.net.Guard.TheVariants as variants
-use Rattle.cal_lower.specs.Pieces.{any_of, is_set, over_name, shown}
+use Rattle.cal_lower.specs.inside.Pieces.{any_of, is_set, over_name, shown}
 use Rattle.cal_lower.proofs.MadeGuardLemmas.{both_shown, negates_shown, reads_shown}
-use Rattle.cal_state.specs.States.{is_on}
-use Rattle.cal_state.specs.Threads.{threads}
+use Rattle.cal_state.specs.inside.States.{is_on}
+use Rattle.cal_state.specs.inside.Threads.{threads}
 use Rattle.cal_state.proofs.MadeLemmas.{two_guards}
 use Rattle.cal_state.proofs.component.busy_guard.Goals as goal
 

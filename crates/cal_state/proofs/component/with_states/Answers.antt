@@ -7,14 +7,14 @@ use Rattle.cal_ast.specs.Numbers.{CellHasNumbers}
 use Rattle.cal_ast.specs.Plan.{plan_of}
 use Rattle.cal_ast.specs.Tree.{Assignment, CellDef, assignment_tree, cell_tree, component_tree}
 use Rattle.cal_ast.specs.declared.tree.Group.{Group}
-use Rattle.cal_lower.specs.Lowered.{control_pieces, done_set, instance_pieces, plan_pieces, with_registers}
-use Rattle.cal_lower.specs.Pieces.{piece_cell, piece_sets}
+use Rattle.cal_lower.specs.inside.Lowered.{control_pieces, done_set, instance_pieces, plan_pieces, with_registers}
+use Rattle.cal_lower.specs.inside.Pieces.{piece_cell, piece_sets}
 use Rattle.cal_lower.specs.inside.Shown.{ShowAll}
 use Rattle.cal_lower.proofs.StableLemmas.{KeepsTexts-trans}
-use Rattle.cal_state.specs.Encoded.{instance_wires, over_set, with_states}
+use Rattle.cal_state.specs.inside.Encoded.{instance_wires, over_set, with_states}
 use Rattle.cal_state.specs.inside.Making.{ShowSets, ShowsEncoding, ShowsPlace}
-use Rattle.cal_state.specs.States.{all_next_sets, as_wires, thread_cell, thread_enable}
-use Rattle.cal_state.specs.Threads.{plan_places, threads}
+use Rattle.cal_state.specs.inside.States.{all_next_sets, as_wires, thread_cell, thread_enable}
+use Rattle.cal_state.specs.inside.Threads.{plan_places, threads}
 use Rattle.cal_state.specs.declared.threads.State as state
 use Rattle.cal_state.proofs.EncodingLoopLemmas.{groups_sets}
 use Rattle.cal_state.proofs.MadeLemmas.{texts_kept}

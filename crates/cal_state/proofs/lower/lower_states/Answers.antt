@@ -5,11 +5,12 @@ use Rattle.std.proofs.lemmas.List.Elements.{All-nil}
 use Rattle.cal_ast.specs.Numbers.{ComponentHasNumbers}
 use Rattle.cal_ast.specs.Tree.{Component, component_tree, design_of}
 use Rattle.cal_ast.specs.declared.tree.CalComp.{CalComp}
-use Rattle.cal_lower.specs.Lowered.{lowered}
+use Rattle.cal_lower.specs.inside.Lowered.{lowered}
 use Rattle.cal_lower.proofs.NextLemmas.{at_index}
 use Rattle.cal_lower.proofs.StableLemmas.{KeepsTexts-refl, KeepsTexts-trans}
-use Rattle.cal_state.specs.Encoded.{encoded}
+use Rattle.cal_state.specs.inside.Encoded.{encoded}
 use Rattle.cal_state.specs.inside.Making.{ShowComponents}
+use Rattle.cal_state.proofs.MakesLemmas.{makes_states}
 use Rattle.cal_state.proofs.RulesLaterLemmas.{all_encoded, encoded_next, lowered_next, lowered_shown, rules_kept, rules_numbers}
 use Rattle.cal_state.proofs.lower.lower_states.Goals as goal
 
@@ -57,8 +58,8 @@ returns-clause-rules c =
     let made = c.in_ok-design.field-0 in
     rules_numbers made.design.names c.loop-source.names c.loop-source.invariant.kept made.acts.items c.in_ok-design.ensures.rules
 
-pub returns-clause-lowering : goal.returns-clause-lowering
-returns-clause-lowering c =
+pub returns-clause-states : goal.returns-clause-states
+returns-clause-states c =
     let d = c.args.plain.now.design in
     let made = c.in_ok-design.field-0 in
     let names = c.loop-source.names in
@@ -67,8 +68,9 @@ returns-clause-lowering c =
     let is = c.in_ok-design.ensures.lowering in
     let count = ap (length {A = CalComp}) c.deref-source-items.ensures.value in
     let past : length (design_of d) ≤ n = omega (arith, c.loop-source-test.false, count, length-map d.comps.items (component_tree d.names)) in
-    record {
+    makes_states (design_of d) _ _
+    (record {
       few = is.few;
       design = all_encoded (design_of d) names c.loop-source.comps.items n past inv.made;
       acting = rules_kept made.design.names names inv.kept made.acts.items c.in_ok-design.ensures.rules ∙ is.acting;
-    }
+    }) c.requires.names c.requires.plain

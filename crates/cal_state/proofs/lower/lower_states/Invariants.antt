@@ -1,8 +1,8 @@
 use Rattle.std.proofs.Common.{List, drop, map, take}
 use Rattle.hw_names.specs.Name.{KeepsTexts}
 use Rattle.cal_ast.specs.Tree.{design_of}
-use Rattle.cal_lower.specs.Lowered.{lowered}
-use Rattle.cal_state.specs.Encoded.{encoded}
+use Rattle.cal_lower.specs.inside.Lowered.{lowered}
+use Rattle.cal_state.specs.inside.Encoded.{encoded}
 use Rattle.cal_state.specs.inside.Making.{ShowComponents}
 use Rattle.cal_state.proofs.lower.lower_states.Given as goal
 

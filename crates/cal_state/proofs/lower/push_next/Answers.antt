@@ -2,9 +2,9 @@ use Rattle.std.proofs.Common.{List, [], ◌∷◌, ◌++◌, sym, subst, ◌∙�
 use Rattle.cal_ast.specs.Numbers.{ComponentHasNumbers}
 use Rattle.cal_ast.specs.Tree.{component_tree}
 use Rattle.cal_ast.specs.declared.tree.CalComp.{CalComp}
-use Rattle.cal_lower.specs.Lowered.{lowered}
+use Rattle.cal_lower.specs.inside.Lowered.{lowered}
 use Rattle.cal_lower.proofs.GrownLemmas.{show_all_kept, show_push}
-use Rattle.cal_state.specs.Encoded.{encoded}
+use Rattle.cal_state.specs.inside.Encoded.{encoded}
 use Rattle.cal_state.specs.inside.Making.{ShowComponents}
 use Rattle.cal_state.proofs.EncodingLemmas.{show_some}
 use Rattle.cal_state.proofs.RulesLaterLemmas.{next_shown, rest_kept}

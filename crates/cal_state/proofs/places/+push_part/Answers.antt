@@ -4,12 +4,12 @@ use Rattle.hw_names.specs.Name.{Text, text_of}
 use Rattle.cal_ast.specs.Actors.{GroupNamed, InvokeAt}
 use Rattle.cal_ast.specs.Plan.{Plan}
 use Rattle.cal_ast.specs.declared.tree.Control.{Control}
-use Rattle.cal_token.specs.Tokens.{Again, Ended, Going, size}
+use Rattle.cal_token.specs.inside.Tokens.{Again, Ended, Going, size}
 use Rattle.cal_lower.proofs.NextLemmas.{at_index, drop_next}
 use Rattle.cal_lower.proofs.SizeLemmas.{plan, plan_par, plan_seq, plans}
 use Rattle.cal_lower.proofs.StableLemmas.{KeepsTexts-trans}
 use Rattle.cal_state.specs.inside.Making.{ShowsRegisters, ShowsThread, Walk, at_once_walk, branch_walk, one_place, part_walk, start_walk, turn_walk, turns_walk, with_walk}
-use Rattle.cal_state.specs.Threads.{NoState, Thread, ended_state, lasting_states, place_in, thread_of}
+use Rattle.cal_state.specs.inside.Threads.{NoState, Thread, ended_state, lasting_states, place_in, thread_of}
 use Rattle.cal_state.specs.declared.places.Entry.{Entry}
 use Rattle.cal_state.specs.declared.threads.Thread as code
 use Rattle.cal_state.proofs.MadeLemmas.{state_shown, thread_kept, thread_push, walk_kept}

@@ -2,7 +2,7 @@ use Rattle.std.proofs.Common.{ℕ, List, drop}
 use Rattle.hw_names.specs.Name.{KeepsTexts, Text}
 use Rattle.cal_lower.proofs.SizeLemmas.{plans}
 use Rattle.cal_state.specs.inside.Making.{ShowsPlaces, ShowsThread, Walk, at_once_walk, turns_walk, with_walk}
-use Rattle.cal_state.specs.Threads.{Thread}
+use Rattle.cal_state.specs.inside.Threads.{Thread}
 use Rattle.cal_state.proofs.WalkLoopLemmas.{OnceSoFar, TurnsSoFar}
 use Rattle.cal_state.proofs.places.+push_part.Given as goal
 

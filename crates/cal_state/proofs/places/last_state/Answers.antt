@@ -3,7 +3,7 @@ use Rattle.std.proofs.lemmas.Result.{IfOk-weaker}
 use Rattle.cal_ast.specs.Plan.{section_plan}
 use Rattle.cal_ast.specs.Tree.{control_tree}
 use Rattle.cal_ast.specs.declared.tree.ControlPart.{ControlPart}
-use Rattle.cal_state.specs.Threads.{lasting_states}
+use Rattle.cal_state.specs.inside.Threads.{lasting_states}
 use Rattle.cal_state.proofs.places.last_state.Goals as goal
 
 pub returns-in-Body : goal.returns-in-Body

@@ -3,7 +3,7 @@ use Rattle.std.specs.List.{AllZip}
 use Rattle.cal_ast.specs.Plan.{section_plan}
 use Rattle.cal_ast.specs.Tree.{control_tree}
 use Rattle.cal_state.specs.inside.Making.{ShowsPlace, ShowsRegisters, ShowsThread, Walk}
-use Rattle.cal_state.specs.Threads.{Place, Thread, thread_of}
+use Rattle.cal_state.specs.inside.Threads.{Place, Thread, thread_of}
 use Rattle.cal_state.specs.declared.threads.State as state
 use Rattle.cal_state.proofs.MadeLemmas.{no_registers, thread_kept}
 use Rattle.cal_state.proofs.places.places_of.Goals as goal

@@ -4,7 +4,7 @@ use Rattle.std.proofs.lemmas.Result.{IfOk-weaker}
 use Rattle.cal_ast.specs.declared.tree.Control.{Control}
 use Rattle.cal_lower.proofs.NextLemmas.{at_index, drop_next}
 use Rattle.cal_lower.proofs.SizeLemmas.{plan}
-use Rattle.cal_state.specs.Threads.{lasting_states}
+use Rattle.cal_state.specs.inside.Threads.{lasting_states}
 use Rattle.cal_state.proofs.StateSizeLemmas.{states_end, states_if, states_next, states_over, states_par, states_seq, states_start, states_while}
 use Rattle.cal_state.proofs.sizes.+after_states.Goals as goal
 

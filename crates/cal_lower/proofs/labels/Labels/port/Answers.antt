@@ -1,7 +1,7 @@
 use Rattle.std.proofs.Common.{codes, subst, sym}
 use Rattle.cal_ast.specs.declared.tree.CalPort.{CalPort}
 use Rattle.cal_lower.specs.inside.Labels.{label_text}
-use Rattle.cal_lower.specs.Pieces.{shown}
+use Rattle.cal_lower.specs.inside.Pieces.{shown}
 use Rattle.cal_lower.specs.inside.Shown.{ShowsPort}
 use Rattle.cal_lower.proofs.GrownLemmas.{cell_port, labels_texts}
 use Rattle.cal_lower.proofs.labels.Labels.port.Goals as goal

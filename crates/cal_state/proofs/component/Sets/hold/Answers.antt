@@ -1,7 +1,7 @@
 use Rattle.std.proofs.Common.{◌++◌, refl}
-use Rattle.cal_lower.specs.Pieces.{Wire, piece, piece_sets}
+use Rattle.cal_lower.specs.inside.Pieces.{Wire, piece, piece_sets}
 use Rattle.cal_state.specs.inside.Making.{next_set}
-use Rattle.cal_state.specs.States.{is_in}
+use Rattle.cal_state.specs.inside.States.{is_in}
 use Rattle.cal_state.proofs.EncodingLemmas.{held}
 use Rattle.cal_state.proofs.component.Sets.hold.Goals as goal
 

@@ -2,11 +2,11 @@ use Rattle.std.proofs.Common.{◌≡◌, List, [], ◌∷◌, ◌++◌, None, co
 use Rattle.std.specs.Prelude.{flat_map}
 use Rattle.std.proofs.lemmas.Result.{on_ok_weaker}
 use Rattle.cal_ast.specs.Tree.{Assignment}
-use Rattle.cal_lower.specs.Lowered.{control_ends, instance_pieces, start_guard}
+use Rattle.cal_lower.specs.inside.Lowered.{control_ends, instance_pieces, start_guard}
 use Rattle.cal_lower.specs.inside.Making as making
-use Rattle.cal_lower.specs.Pieces.{Piece, Register, Wire, busy_name, over_name, piece, piece_set, piece_sets, start_name}
-use Rattle.cal_state.specs.Encoded.{busy_guard, instance_wires, over_set, over_state}
-use Rattle.cal_state.specs.States.{is_in}
+use Rattle.cal_lower.specs.inside.Pieces.{Piece, Register, Wire, busy_name, over_name, piece, piece_set, piece_sets, start_name}
+use Rattle.cal_state.specs.inside.Encoded.{busy_guard, instance_wires, over_set, over_state}
+use Rattle.cal_state.specs.inside.States.{is_in}
 use Rattle.cal_state.proofs.EncodingLoopLemmas.{encoding_same}
 use Rattle.cal_state.proofs.component.Sets.push_instance.Goals as goal
 

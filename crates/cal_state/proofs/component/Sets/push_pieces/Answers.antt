@@ -1,8 +1,8 @@
 use Rattle.std.proofs.Common.{◌+◌, ◌++◌, None, drop, get_or}
 use Rattle.std.specs.Prelude.{flat_map}
 use Rattle.std.proofs.lemmas.List.{drop_all, drop_more}
-use Rattle.cal_lower.specs.Pieces.{piece_sets}
-use Rattle.cal_state.specs.States.{all_next_sets, as_wires}
+use Rattle.cal_lower.specs.inside.Pieces.{piece_sets}
+use Rattle.cal_state.specs.inside.States.{all_next_sets, as_wires}
 use Rattle.cal_state.proofs.EncodingLoopLemmas.{pieces_end, pieces_next}
 use Rattle.cal_state.proofs.component.Sets.push_pieces.Goals as goal
 

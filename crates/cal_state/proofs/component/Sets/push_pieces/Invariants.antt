@@ -3,10 +3,10 @@ use Rattle.std.specs.Prelude.{flat_map}
 use Rattle.std.specs.List.{AllZip}
 use Rattle.hw_names.specs.Name.{Text}
 use Rattle.cal_ast.specs.Tree.{Assignment}
-use Rattle.cal_lower.specs.Pieces.{Piece, piece_sets}
+use Rattle.cal_lower.specs.inside.Pieces.{Piece, piece_sets}
 use Rattle.cal_state.specs.inside.Making.{AreTexts, HasKind, ShowsEncoding, ShowsPlace}
-use Rattle.cal_state.specs.States.{all_next_sets, as_wires}
-use Rattle.cal_state.specs.Threads.{Place}
+use Rattle.cal_state.specs.inside.States.{all_next_sets, as_wires}
+use Rattle.cal_state.specs.inside.Threads.{Place}
 use Rattle.cal_state.proofs.EncodingLoopLemmas.{PiecesSoFar}
 use Rattle.cal_state.proofs.component.Sets.push_pieces.Given as goal
 

@@ -1,7 +1,7 @@
 use Rattle.std.proofs.Common.{◌∷◌, None, codes, refl, sym, ◌∙◌}
 use Rattle.net_core.specs.declared.net.Src.TheVariants.{Lit}
 use Rattle.cal_ast.specs.Tree.{port_of}
-use Rattle.cal_lower.specs.Pieces.{piece_set}
+use Rattle.cal_lower.specs.inside.Pieces.{piece_set}
 use Rattle.cal_state.proofs.EncodingLemmas.{register_left, replaced, some_left, two_left}
 use Rattle.cal_state.proofs.component.Sets.replace.Goals as goal
 

@@ -1,8 +1,8 @@
 use Rattle.std.proofs.Common.{Bool, true, false, sym, ap, ◌∙◌}
 use Rattle.std.proofs.lemmas.Result.{on_ok_weaker}
-use Rattle.cal_token.specs.Tokens.{Starting}
+use Rattle.cal_token.specs.inside.Tokens.{Starting}
 use Rattle.cal_state.specs.inside.Making.{one_place, start_walk, with_walk}
-use Rattle.cal_state.specs.Threads.{place_in}
+use Rattle.cal_state.specs.inside.Threads.{place_in}
 use Rattle.cal_state.proofs.MadeLemmas.{state_shown}
 use Rattle.cal_state.proofs.WalkLemmas.{not_so, so, walk_none}
 use Rattle.cal_state.proofs.WalkLoopLemmas.{shows_same}

@@ -2,9 +2,9 @@ use Rattle.std.proofs.Common.{ℕ, IfOk, subst}
 use Rattle.net_core.specs.Guard.{Compares}
 use Rattle.net_core.specs.declared.net.Cmp.TheVariants.{Eq}
 use Rattle.net_core.specs.declared.net.Src.TheVariants.{Lit, Port}
-use Rattle.cal_lower.specs.Pieces.{shown}
+use Rattle.cal_lower.specs.inside.Pieces.{shown}
 use Rattle.cal_lower.specs.inside.Shown.{ShowsGuard}
-use Rattle.cal_state.specs.States.{thread_name, width_of}
+use Rattle.cal_state.specs.inside.States.{thread_name, width_of}
 use Rattle.cal_state.proofs.threads.State.is_in.Goals as goal
 
 pub returns : goal.returns

@@ -1,6 +1,6 @@
 use Rattle.std.proofs.Common.{codes}
 use Rattle.cal_ast.specs.Tree.{port_of}
-use Rattle.cal_state.specs.States.{thread_name, width_of}
+use Rattle.cal_state.specs.inside.States.{thread_name, width_of}
 use Rattle.cal_state.proofs.MadeLemmas.{literal_set}
 use Rattle.cal_state.proofs.threads.State.next.Goals as goal
 

@@ -1,6 +1,6 @@
 use Rattle.std.proofs.Common.{codes}
-use Rattle.cal_lower.specs.Pieces.{shown}
-use Rattle.cal_state.specs.States.{thread_name, width_of}
+use Rattle.cal_lower.specs.inside.Pieces.{shown}
+use Rattle.cal_state.specs.inside.States.{thread_name, width_of}
 use Rattle.cal_state.proofs.MadeLemmas.{compare_shown}
 use Rattle.cal_state.proofs.threads.Thread.compare.Goals as goal
 

@@ -1,6 +1,6 @@
 use Rattle.std.proofs.Common.{None, codes, refl}
 use Rattle.cal_ast.specs.Tree.{port_of}
-use Rattle.cal_state.specs.States.{thread_name}
+use Rattle.cal_state.specs.inside.States.{thread_name}
 use Rattle.cal_state.proofs.MadeLemmas.{literal_set, no_guard}
 use Rattle.cal_state.proofs.threads.Thread.enable.Goals as goal
 

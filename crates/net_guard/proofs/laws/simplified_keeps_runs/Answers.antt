@@ -1,5 +1,0 @@
-use Rattle.net_guard.proofs.RunLemmas.{keeps_runs}
-use Rattle.net_guard.proofs.laws.simplified_keeps_runs.Goals as goal
-
-pub returns : goal.returns
-returns c = keeps_runs
