@@ -1,12 +1,12 @@
--- Control becomes few registers, also of a design whose invokes have become groups, and in a netlist; nothing else that is added has a state.
-use Rattle.std.proofs.Common.{◌≡◌, ◌⊎◌, ◌∙◌, ℕ, suc, ◌+◌, ◌≤◌, Bool, true, false, List, [], ◌∷◌, ◌++◌, codes, Contains, Option, Some, length, filter, drop, refl, sym, ap, ap₂, subst, inl, inr, length-append}
-use Rattle.std.specs.Prelude.{All, option_and_then, option_map, slice_get}
+-- Control becomes few registers in a netlist, too; nothing else that is added has a state.
+use Rattle.std.proofs.Common.{◌≡◌, ◌⊎◌, ◌∙◌, Bool, true, false, List, [], ◌∷◌, ◌++◌, codes, Contains, Option, Some, length, drop, refl, sym, ap, ap₂, subst, inl, inr}
+use Rattle.std.specs.Prelude.{All, option_and_then}
 use Rattle.std.specs.List.{AllZip}
 use Rattle.std.proofs.Math.Seq.{drop-append_seam}
-use Rattle.std.proofs.lemmas.Bool.{cond-true, false≢true}
+use Rattle.std.proofs.lemmas.Bool.{false≢true}
 use Rattle.std.proofs.lemmas.List.{append-nil}
 use Rattle.std.proofs.lemmas.List.Elements.{All-contains, All-nil, Contains-append_cases}
-use Rattle.std.proofs.lemmas.Option.{same_Some, slice_get-map}
+use Rattle.std.proofs.lemmas.Option.{same_Some}
 use Rattle.std.proofs.lemmas.Slice.Eq.{bytes_eq-Decides}
 use Rattle.hw_names.specs.Name.{Path}
 use Rattle.hw_prims.specs.Table.{is_primitive, prim_names, prim_of}
@@ -14,107 +14,17 @@ use Rattle.net_core.specs.Netlist.{CellLine, Netlist}
 use Rattle.cal_ast.proofs.InstanceLemmas.{component_at-design, component_at-step}
 use Rattle.cal_ast.proofs.ListLemmas.{Contains-at}
 use Rattle.cal_ast.proofs.LookupLemmas.{part_in-Some, part_of-Some, primitive_of-Some}
-use Rattle.cal_ast.specs.Holes.{ActivityRule}
 use Rattle.cal_ast.specs.Instances.{component_at}
-use Rattle.cal_ast.specs.Items.{control_statements, items_before_control, statements_in, statements_of, unless_empty}
 use Rattle.cal_ast.specs.Keeping.{AddsNoStates, IsAddedCell, IsSourceCell, IsStatelessCell, KeepsComponentShape, flat_cell}
 use Rattle.cal_ast.specs.Plain.{HasPlainTree, IsPlainCell, IsPlainComponent}
 use Rattle.cal_ast.specs.Ports.{cell_named, is_bare, part_of}
-use Rattle.cal_ast.specs.Tree.{CellDef, Component, ControlSection, Absent, Empty, Body, Design}
-use Rattle.cal_ast.specs.Tree.{Statement, Enable, Seq, Par, If, While, Invoke, Statements, NoStatements, MoreStatements}
-use Rattle.cal_group.proofs.ExpandedLemmas.{expanded_faces}
-use Rattle.cal_group.specs.Expanded.{expanded, expanded_at, expanded_design, expanded_from, expanded_section}
-use Rattle.cal_state.proofs.CountLemmas.{parallel-append}
-use Rattle.cal_state.specs.Encoded.{IsStatesOf, encoded, with_states}
-use Rattle.cal_state.specs.Registers.{AreFewRegisters, HasFewRegisters, IsNarrow, count, in_par, is_register, parallel}
+use Rattle.cal_ast.specs.Tree.{CellDef, Component, Design}
+use Rattle.cal_ast.specs.Registers.{AreFewRegisters, HasFewRegisters, is_register}
 use Rattle.net_flat.specs.Flattened.{HasCells}
 use Rattle.cal_net.proofs.ShapeLemmas.{cell_named-cases, instance_paired, paired_left, parts_paired}
 use Rattle.cal_net.specs.Refining.{HasFewControlRegisters, IsControlCell, IsStatelessLine}
 
--- ---- statements of control, where an enable stands in place of each invoke
-
-count_same : (k : ℕ) (ss : Statements) → count (expanded_from k ss) ≡ count ss
-count_same k NoStatements = refl
-count_same k (MoreStatements s ss) = ap (λ (n : ℕ). n + 1) (count_same (k + length (statements_in s)) ss)
-
--- two lists have as many statements, and as many that stand directly in a `par`
-pub record AreAsMany (xs ys : List Statement) : Type 0 where
-  pub all : length xs ≡ length ys
-  pub parallel_ones : parallel xs ≡ parallel ys
-
-none_as_many : AreAsMany [] []
-none_as_many = record { all = refl; parallel_ones = refl }
-
-one_more : (s t : Statement) (xs ys : List Statement) → in_par s ≡ in_par t → AreAsMany xs ys → AreAsMany (s ∷ xs) (t ∷ ys)
-one_more s t xs ys same are = record { all = ap suc are.all; parallel_ones = ap₂ (λ (m n : ℕ). m + n) same are.parallel_ones }
-
-both_as_many : (xs ys vs ws : List Statement) → AreAsMany xs ys → AreAsMany vs ws → AreAsMany (xs ++ vs) (ys ++ ws)
-both_as_many xs ys vs ws one other = record {
-  all = length-append xs vs ∙ ap₂ (λ (m n : ℕ). m + n) one.all other.all ∙ sym (length-append ys ws);
-  parallel_ones = parallel-append xs vs ∙ ap₂ (λ (m n : ℕ). m + n) one.parallel_ones other.parallel_ones ∙ sym (parallel-append ys ws);
-}
-
--- a branch or a body is empty where it was
-unless_as_many : (k : ℕ) (s : Statement) (xs ys : List Statement) → AreAsMany xs ys → AreAsMany (unless_empty (expanded_at k s) xs) (unless_empty s ys)
-unless_as_many k (Enable g) xs ys are = are
-unless_as_many k (Seq NoStatements) xs ys are = none_as_many
-unless_as_many k (Seq (MoreStatements s ss)) xs ys are = are
-unless_as_many k (Par ss) xs ys are = are
-unless_as_many k (If port by s t) xs ys are = are
-unless_as_many k (While port by s) xs ys are = are
-unless_as_many k (Invoke cell ins outs) xs ys are = are
-
-mutual
-  as_many_at : (k : ℕ) (s : Statement) → AreAsMany (statements_in (expanded_at k s)) (statements_in s)
-  as_many_at k (Enable g) = one_more (Enable g) (Enable g) [] [] refl none_as_many
-  as_many_at k (Seq ss) = one_more (Seq (expanded_from (k + 1) ss)) (Seq ss) (statements_of (expanded_from (k + 1) ss)) (statements_of ss) refl (as_many_from (k + 1) ss)
-  as_many_at k (Par ss) = one_more (Par (expanded_from (k + 1) ss)) (Par ss) (statements_of (expanded_from (k + 1) ss)) (statements_of ss) (count_same (k + 1) ss) (as_many_from (k + 1) ss)
-  as_many_at k (If port by s t) =
-      let j = k + 1 + length (unless_empty s (statements_in s)) in
-      one_more (If port by (expanded_at (k + 1) s) (expanded_at j t)) (If port by s t) (unless_empty (expanded_at (k + 1) s) (statements_in (expanded_at (k + 1) s)) ++ unless_empty (expanded_at j t) (statements_in (expanded_at j t))) (unless_empty s (statements_in s) ++ unless_empty t (statements_in t)) refl
-      (both_as_many (unless_empty (expanded_at (k + 1) s) (statements_in (expanded_at (k + 1) s))) (unless_empty s (statements_in s)) (unless_empty (expanded_at j t) (statements_in (expanded_at j t))) (unless_empty t (statements_in t))
-      (unless_as_many (k + 1) s (statements_in (expanded_at (k + 1) s)) (statements_in s) (as_many_at (k + 1) s))
-      (unless_as_many j t (statements_in (expanded_at j t)) (statements_in t) (as_many_at j t)))
-  as_many_at k (While port by s) =
-      one_more (While port by (expanded_at (k + 1) s)) (While port by s) (unless_empty (expanded_at (k + 1) s) (statements_in (expanded_at (k + 1) s))) (unless_empty s (statements_in s)) refl
-      (unless_as_many (k + 1) s (statements_in (expanded_at (k + 1) s)) (statements_in s) (as_many_at (k + 1) s))
-  as_many_at k (Invoke cell ins outs) = record { all = refl; parallel_ones = refl }
-
-  as_many_from : (k : ℕ) (ss : Statements) → AreAsMany (statements_of (expanded_from k ss)) (statements_of ss)
-  as_many_from k NoStatements = none_as_many
-  as_many_from k (MoreStatements s ss) =
-      both_as_many (statements_in (expanded_at k s)) (statements_in s) (statements_of (expanded_from (k + length (statements_in s)) ss)) (statements_of ss)
-      (as_many_at k s) (as_many_from (k + length (statements_in s)) ss)
-
-as_many_in_section : (k : ℕ) (control : ControlSection) → AreAsMany (control_statements (expanded_section k control)) (control_statements control)
-as_many_in_section k Absent = none_as_many
-as_many_in_section k Empty = none_as_many
-as_many_in_section k (Body s) = as_many_at k s
-
--- few registers for the expanded component are few for the component
-pub few_before : (design : Design) (c : Component) (added : List CellDef) → AreFewRegisters (expanded design c) added → AreFewRegisters c added
-few_before design c added are =
-    let many = as_many_in_section (length (items_before_control c)) c.control in
-    record {
-      few = subst (λ (n : ℕ). length (filter is_register added) ≤ 1 + n) many.parallel_ones are.few;
-      narrow = subst (λ (n : ℕ). All (IsNarrow n) (filter is_register added)) many.all are.narrow;
-      no_others = are.no_others;
-    }
-
--- ---- components without control
-
--- a component without control keeps its cells
-pub bare_cells : (source holes : Design) (rules : List ActivityRule) → IsStatesOf (expanded_design source) holes rules → (n : ℕ) (c h : Component) → slice_get source n ≡ Some c → slice_get holes n ≡ Some h → is_bare c ≡ true → h.cells ≡ c.cells
-bare_cells source holes rules lowering n c h at at_hole bare =
-    let e : Component = expanded source c in
-    let before : slice_get (expanded_design source) n ≡ Some e = slice_get-map (expanded source) source n ∙ ap (option_map (expanded source)) at in
-    let found : Some h ≡ Some (encoded e)
-    = sym at_hole ∙ ap (λ (design : Design). slice_get design n) lowering.design ∙ slice_get-map encoded (expanded_design source) n ∙ ap (option_map encoded) before in
-    let whole : encoded e ≡ record e { control = Absent }
-    = cond-true (is_bare e) (record e { control = Absent }) (with_states e) ((expanded_faces source).bare c (Contains-at source n c at) ∙ bare) in
-    ap (λ (x : Component). x.cells) (same_Some h (encoded e) found ∙ whole)
-
--- so no state is added
+-- a component that keeps its cells gets no state
 pub adds_no_states : (c d : Component) → KeepsComponentShape c d → d.cells ≡ c.cells → AddsNoStates c d
 adds_no_states c d kept cells = record {
   shape = record { name = kept.name; ins = kept.ins; outs = kept.outs; added = []; cells = cells ∙ sym (append-nil c.cells); are_added = All-nil IsAddedCell };

@@ -1,11 +1,4 @@
 pub mod PlainLemmas
-pub mod WrittenLists
-pub mod WrittenNames
-pub mod WrittenGuards
-pub mod WrittenPieces
-pub mod WrittenStates
-pub mod WrittenInvokes
-pub mod WrittenWires
 pub mod WireLemmas
 pub mod ShapeLemmas
 pub mod FewLemmas

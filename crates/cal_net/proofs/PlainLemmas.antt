@@ -4,10 +4,9 @@ use Rattle.hw_names.specs.Name.{Text, IsPlain}
 use Rattle.hw_lex.specs.declared.token.Dialect.TheVariants.{Cal}
 use Rattle.hw_grammar.proofs.PlainNames.{name_plain}
 use Rattle.hw_prims.specs.Table.{Pin}
-use Rattle.cal_ast.specs.Plain.{HasPlainTree, IsPlainCell, IsPlainComponent, IsPlainPin}
+use Rattle.cal_ast.specs.Plain.{HasPlainTree, IsPlainCell, IsPlainComponent, IsPlainPin, AreGroupsPlain, HasPlainGroups, IsPlainGroup}
 use Rattle.cal_ast.specs.Tree.{CellDef, Component, Design, GroupDef}
-use Rattle.cal_group.specs.Laws.{AreGroupsPlain, HasPlainGroups, IsPlainGroup}
-use Rattle.cal_parse.specs.Written.{CellIsWritten, ComponentIsWritten, DesignIsWritten, GroupIsWritten, InputIsWritten, IsCalName, PinIsWritten}
+use Rattle.cal_ast.specs.Written.{CellIsWritten, ComponentIsWritten, DesignIsWritten, GroupIsWritten, InputIsWritten, IsCalName, PinIsWritten}
 
 cal_plain : (name : Text) → IsCalName name → IsPlain name
 cal_plain name is = name_plain Cal name is.0

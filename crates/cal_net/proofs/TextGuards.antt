@@ -8,9 +8,9 @@ use Rattle.net_core.specs.declared.net.Src.TheVariants.{Lit, Port}
 use Rattle.net_flat.specs.Listing.{map_guard, map_guards}
 use Rattle.net_text.specs.Names.{count_guards, guard_has_text, guards_have_text, is_number, is_path, source_has_text, when_has_text}
 use Rattle.cal_ast.specs.Tree.{PortName}
-use Rattle.cal_parse.specs.Written.{GuardIsWritten, GuardsAreWritten, HasTwoGuards, PortIsWritten, SourceIsWritten, WhenIsWritten}
+use Rattle.cal_ast.specs.Written.{GuardIsWritten, GuardsAreWritten, HasTwoGuards, PortIsWritten, SourceIsWritten, WhenIsWritten}
 use Rattle.cal_net.proofs.TextSegments.{number_text}
-use Rattle.cal_net.proofs.WrittenNames.{both_are}
+use Rattle.cal_group.proofs.WrittenNames.{both_are}
 
 two_or_more : (n : ℕ) → nat_le 2 (n + 1 + 1) ≡ true
 two_or_more n = grind (arith, nat_tests)

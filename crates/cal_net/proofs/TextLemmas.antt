@@ -17,11 +17,11 @@ use Rattle.cal_ast.specs.Instances.{component_at, port_name}
 use Rattle.cal_ast.specs.Keeping.{flat_cell}
 use Rattle.cal_ast.specs.Ports.{cell_named}
 use Rattle.cal_ast.specs.Tree.{Assignment, CellDef, Component, Design}
-use Rattle.cal_parse.specs.Written.{AssignmentIsWritten, CellIsWritten, ComponentIsWritten, InputIsWritten, PinIsWritten}
+use Rattle.cal_ast.specs.Written.{AssignmentIsWritten, CellIsWritten, ComponentIsWritten, InputIsWritten, PinIsWritten}
 use Rattle.cal_net.specs.Laws.{FlattenedWiresHaveText}
 use Rattle.cal_net.proofs.TextGuards.{source_text, when_text}
 use Rattle.cal_net.proofs.TextSegments.{IsSegment, cal_segment, full_path, number_text, port_path}
-use Rattle.cal_net.proofs.WrittenNames.{both_are}
+use Rattle.cal_group.proofs.WrittenNames.{both_are}
 
 abbrev LineHasText : Line → Type 0
 LineHasText line = line_has_text line ≡ true

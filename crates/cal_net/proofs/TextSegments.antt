@@ -14,8 +14,8 @@ use Rattle.net_text.specs.Names.{begins_name, continues_name, is_number, is_path
 use Rattle.net_text.proofs.WordLaws.{all_imply}
 use Rattle.cal_ast.specs.Instances.{port_name}
 use Rattle.cal_ast.specs.Tree.{PortName}
-use Rattle.cal_parse.specs.Written.{IsCalName, NameIsWritten, PortIsWritten}
-use Rattle.cal_net.proofs.WrittenNames.{both_are}
+use Rattle.cal_ast.specs.Written.{IsCalName, NameIsWritten, PortIsWritten}
+use Rattle.cal_group.proofs.WrittenNames.{both_are}
 
 abbrev pub IsSegment : Text → Type 0
 IsSegment name = is_segment name ≡ true

@@ -9,7 +9,7 @@ use Rattle.cal_ast.specs.Tree.{Component, Design}
 use Rattle.cal_ast.specs.Wired.{IsWired}
 use Rattle.cal_parse.specs.Spelling.{SpellsDesign}
 use Rattle.cal_print.specs.Layout.{design_text}
-use Rattle.cal_state.specs.Registers.{HasFewRegisters}
+use Rattle.cal_ast.specs.Registers.{HasFewRegisters}
 
 -- from this component as the top, each run of the wires is one of the source, and shows what all runs of the source of the same inputs and words do
 pub record KeepsMeaning (source wires : Design) (c d : Component) : Type 0 where

@@ -13,7 +13,7 @@ use Rattle.cal_ast.specs.Ports.{is_bare, width_in}
 use Rattle.cal_ast.specs.Schedule.{IsPortOf}
 use Rattle.cal_ast.specs.Top.{IsTop}
 use Rattle.cal_ast.specs.Tree.{CellDef, Component, Design}
-use Rattle.cal_state.specs.Registers.{AreFewRegisters}
+use Rattle.cal_ast.specs.Registers.{AreFewRegisters}
 use Rattle.cal_net.specs.Face.{face}
 
 -- the netlist has this port of the design, by its full name, and as wide as it is where a line of its instance names it

@@ -1,23 +1,7 @@
-//! What lowering, flattening and folding keep of a Calyx design.
+//! What flattening and folding keep of a Calyx design that is lowered to wires.
 ghost use Rattle.cal_net.specs.Laws.{FlattenedWiresHaveText, FlattenedWiresRefine, SimplifiedNetsRefine};
-ghost use Rattle.cal_net.specs.Laws.{WiresArePlain, WiresAreWritten, WiresLowerControl};
 
-/// The wires of a design mean what the design meant, from each of its components as the top.
-pub fn wires_lower_control()
-    ensures { WiresLowerControl }
-{}
-
-/// Their names are plain.
-pub fn wires_are_plain()
-    ensures { WiresArePlain }
-{}
-
-/// They have a text, where the design has one.
-pub fn wires_are_written()
-    ensures { WiresAreWritten }
-{}
-
-/// Flattened, they are a netlist that shows what the design does.
+/// Wires that lower a design, flattened, are a netlist that shows what the design does.
 pub fn flattened_wires_refine()
     ensures { FlattenedWiresRefine }
 {}

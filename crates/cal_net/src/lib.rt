@@ -12,8 +12,8 @@
 //!     source --cal_group--> no invokes --cal_state--> no control, rules for groups --cal_group--> wires --net_flat, net_guard--> netlist
 //!                                                                                                   \--cal_print--> text
 //!
-//! Each step keeps runs: what a run of the next one shows at a port of the source, a run of the one before shows. The laws here
-//! put the steps in a row.
+//! Each step keeps runs: what a run of the next one shows at a port of the source, a run of the one before shows. The clauses of
+//! the three steps put in a row are that of `wires_of` (`LowersControl`); the laws here are about what comes after.
 //!
 //! What the layer above uses: `net_of` gives a netlist that shows, in every run, at every port of the source and in every row,
 //! what the source's schedule says, with the same Conflict or none (`RefinesTop`), and that has a text and folded guards.
@@ -25,9 +25,6 @@ mod net;
 mod text;
 mod wires;
 
-pub use laws::{
-    flattened_wires_have_text, flattened_wires_refine, simplified_nets_refine, wires_are_plain,
-    wires_are_written, wires_lower_control,
-};
+pub use laws::{flattened_wires_have_text, flattened_wires_refine, simplified_nets_refine};
 pub use net::net_of;
 pub use text::calyx_of;

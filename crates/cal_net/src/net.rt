@@ -4,7 +4,7 @@ ghost use Rattle.cal_ast.specs.Numbers as design;
 ghost use Rattle.cal_ast.specs.Plain.{HasPlainTree};
 ghost use Rattle.cal_ast.specs.Tree.{design_of};
 ghost use Rattle.cal_ast.specs.Wired.{IsWired};
-ghost use Rattle.cal_parse.specs.Written.{DesignIsWritten};
+ghost use Rattle.cal_ast.specs.Written.{DesignIsWritten};
 ghost use Rattle.net_core.specs.Netlist.{netlist_of};
 ghost use Rattle.net_core.specs.Numbers.{HasNumbers};
 ghost use Rattle.net_flat.specs.FlatTop.{IsFlatTop};

@@ -1,7 +1,7 @@
 //! A Calyx design's wires as a text.
 ghost use Rattle.std.specs.Prelude.{IfOk};
 ghost use Rattle.cal_ast.specs.Tree.{design_of};
-ghost use Rattle.cal_parse.specs.Written.{DesignIsWritten};
+ghost use Rattle.cal_ast.specs.Written.{DesignIsWritten};
 ghost use Rattle.cal_net.specs.Lowers.{IsLoweredText};
 
 use crate::wires::wires_of;

@@ -4,7 +4,7 @@ ghost use Rattle.cal_ast.specs.Numbers.{HasNumbers};
 ghost use Rattle.cal_ast.specs.Plain.{HasPlainTree};
 ghost use Rattle.cal_ast.specs.Tree.{design_of};
 ghost use Rattle.cal_ast.specs.Wired.{IsWired};
-ghost use Rattle.cal_parse.specs.Written.{DesignIsWritten};
+ghost use Rattle.cal_ast.specs.Written.{DesignIsWritten};
 ghost use Rattle.cal_net.specs.Lowers.{LowersControl};
 
 use cal_ast::{CalOk, WireDesign};

@@ -6,7 +6,7 @@ use Rattle.hw_grammar.proofs.PlainNames.{name_plain}
 use Rattle.hw_prims.specs.Table.{Pin}
 use Rattle.cal_ast.specs.Plain.{HasPlainTree, IsPlainCell, IsPlainComponent, IsPlainPin}
 use Rattle.cal_ast.specs.Tree.{CellDef, Component, Design}
-use Rattle.cal_parse.specs.Written.{CellIsWritten, ComponentIsWritten, DesignIsWritten, InputIsWritten, IsCalName, PinIsWritten}
+use Rattle.cal_ast.specs.Written.{CellIsWritten, ComponentIsWritten, DesignIsWritten, InputIsWritten, IsCalName, PinIsWritten}
 
 cal_plain : (name : Text) → IsCalName name → IsPlain name
 cal_plain name is = name_plain Cal name is.0

@@ -9,7 +9,7 @@ use Rattle.net_core.specs.declared.stimulus.CycleList.{CycleList}
 use Rattle.cal_ast.proofs.ListLemmas.{Contains-at}
 use Rattle.cal_ast.specs.Plain.{HasPlainTree}
 use Rattle.cal_ast.specs.Rules.{CalRules}
-use Rattle.cal_parse.specs.Written.{DesignIsWritten}
+use Rattle.cal_ast.specs.Written.{DesignIsWritten}
 use Rattle.filc_load.specs.Built.{IsCalReady}
 use Rattle.filc_load.specs.declared.cal_file.CalBuilt.{CalBuilt}
 use Rattle.filc_stop.specs.Leaving.{HasReport, IsCutShort, Leaves, LeavesAt, MakesNone}

@@ -5,7 +5,7 @@ use Rattle.net_text.specs.Names.{HasText}
 use Rattle.cal_ast.specs.Tree.{design_of}
 use Rattle.cal_ast.specs.declared.tree.CalDesign.{CalDesign}
 use Rattle.cal_net.specs.Refining.{RefinesTop}
-use Rattle.cal_parse.specs.Written.{DesignIsWritten}
+use Rattle.cal_ast.specs.Written.{DesignIsWritten}
 use Rattle.filc_load.proofs.CalLemmas.{some_comps}
 use Rattle.filc_calyx.proofs.TextLemmas.{of_ready}
 use Rattle.filc_calyx.specs.Made.{IsNetlistFor}

@@ -3,7 +3,7 @@ use Rattle.std.specs.Prelude.{IfOk}
 use Rattle.cal_ast.specs.Tree.{design_of}
 use Rattle.cal_ast.specs.declared.tree.CalDesign.{CalDesign}
 use Rattle.cal_net.specs.Lowers.{IsLoweredText}
-use Rattle.cal_parse.specs.Written.{DesignIsWritten}
+use Rattle.cal_ast.specs.Written.{DesignIsWritten}
 use Rattle.filc_load.proofs.CalLemmas.{some_comps}
 use Rattle.filc_calyx.proofs.text.lowered_text.Goals as goal
 
