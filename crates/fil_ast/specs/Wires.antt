@@ -68,9 +68,9 @@ pub data ReadsPort (through : Text → Text → Text → Type 0) (scope : Scope)
   ByConnection : ReadsByConnection scope port other → ReadsPort through scope port other
   ByInstance : ReadsByInstance through scope port other → ReadsPort through scope port other
 
--- the port reads the other, at once or over ports between
+-- the port reads the other, straight or over ports between
 pub data Reaches (through : Text → Text → Text → Type 0) (scope : Scope) (other : Text) : Text → Type 0 where
-  AtOnce : (port : Text) → ReadsPort through scope port other → Reaches through scope other port
+  Straight : (port : Text) → ReadsPort through scope port other → Reaches through scope other port
   Over : (port between : Text) → ReadsPort through scope port between → Reaches through scope other between → Reaches through scope other port
 
 -- of these components, the latest first: an output of the one with the name reaches an input of it, over those before

@@ -10,7 +10,7 @@ use Rattle.fil_ast.specs.Behaviours.{Itself, component_behaviour, timed_port}
 use Rattle.fil_ast.specs.Flow.{component_flow, flow_of, value_named}
 use Rattle.fil_ast.specs.Signature.{sig_port}
 use Rattle.fil_ast.specs.Tree.{DataPort, Component, Design}
-use Rattle.fil_fsm.specs.Refines.{Refines}
+use Rattle.fil_promise.specs.Refines.{Refines}
 use Rattle.fil_driven.specs.Laws.{IsRunWith, NothingElseMatters}
 use Rattle.fil_driven.proofs.ListLemmas.{map_agree}
 

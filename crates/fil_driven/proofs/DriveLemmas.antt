@@ -20,7 +20,7 @@ use Rattle.fil_ast.specs.Transactions.{inputs_given, is_of_event}
 use Rattle.fil_ast.specs.Tree.{Event, DataPort, Component, Design}
 use Rattle.fil_ast.specs.declared.tx.Tx.{Tx}
 use Rattle.fil_ast.specs.declared.tx.TxList.{TxList}
-use Rattle.fil_fsm.specs.Refines.{GiveInputs}
+use Rattle.fil_promise.specs.Refines.{GiveInputs}
 use Rattle.fil_share.specs.Carried.{IsOfEvent}
 use Rattle.fil_share.proofs.CarriedLemmas.{transactions_are_legal, transactions_have_own_values}
 use Rattle.fil_share.proofs.ListLemmas.{Contains-at, two_of}

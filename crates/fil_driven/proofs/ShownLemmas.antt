@@ -17,7 +17,7 @@ use Rattle.fil_ast.specs.Transactions.{is_of_event, transaction_flow}
 use Rattle.fil_ast.specs.Tree.{DataPort, Component, Design}
 use Rattle.fil_ast.specs.declared.tx.Tx.{Tx}
 use Rattle.fil_ast.specs.declared.tx.TxList.{TxList}
-use Rattle.fil_fsm.specs.Refines.{CarriesList}
+use Rattle.fil_promise.specs.Refines.{CarriesList}
 use Rattle.fil_share.specs.Carried.{IsOfEvent}
 use Rattle.fil_share.proofs.CarriedLemmas.{transactions_keep_flow}
 use Rattle.fil_share.proofs.Lookup.{same_name}

@@ -14,7 +14,7 @@ use Rattle.fil_ast.specs.Transactions.{is_of_event}
 use Rattle.fil_ast.specs.Tree.{DataPort, Component, Design}
 use Rattle.fil_ast.specs.declared.tx.Tx.{Tx}
 use Rattle.fil_ast.specs.declared.tx.TxList.{TxList}
-use Rattle.fil_fsm.specs.Refines.{Refines, CarriesList, GiveInputs}
+use Rattle.fil_promise.specs.Refines.{Refines, CarriesList, GiveInputs}
 use Rattle.fil_share.specs.Uses.{starts_of}
 use Rattle.stim_read.specs.Fits.{AreLegal, FitsSignature}
 use Rattle.stim_read.specs.TxEvents.{HasFixedDelay}

@@ -6,7 +6,7 @@ use Rattle.std.proofs.lemmas.List.Elements.{All-nil, All-cons, All-append, All-p
 use Rattle.std.proofs.lemmas.Option.{slice_get-get_or}
 use Rattle.hw_names.proofs.NameLemmas.{Contains-slice_get, HasNoDot-from_test}
 use Rattle.hw_names.specs.Name.{Text, dot, HasNoDot, IsPlain, KeepsTexts}
-use Rattle.fil_fsm.specs.Chain.{IsDigit, IsGenerated}
+use Rattle.fil_promise.specs.Refines.{IsDigit, IsGenerated}
 use Rattle.fil_fsm.specs.Registers.{generated_name, AreRegisterTexts}
 use Rattle.fil_fsm.specs.declared.register.RegisterTexts.{RegisterTexts}
 

@@ -10,7 +10,8 @@ use Rattle.net_core.specs.Numbers.{IsNumberOf}
 use Rattle.cal_ast.specs.Numbers.{PortHasNumbers}
 use Rattle.cal_ast.specs.Tree.{PortName, cell_tree, assignment_tree, port_tree}
 use Rattle.cal_ast.specs.declared.tree.CalPort.{CalPort}
-use Rattle.fil_fsm.specs.Chain.{register, bit_of, takes, chain_sets, chain_bits, IsGenerated, IsShiftRegister}
+use Rattle.fil_fsm.specs.Chain.{register, bit_of, takes, chain_sets, chain_bits, IsShiftRegister}
+use Rattle.fil_promise.specs.Refines.{IsGenerated}
 use Rattle.fil_fsm.specs.Registers.{generated_name, AreRegisterTexts}
 use Rattle.fil_fsm.specs.declared.register.RegisterTexts.{RegisterTexts}
 use Rattle.fil_fsm.specs.declared.shift.FsmParts.{FsmParts}

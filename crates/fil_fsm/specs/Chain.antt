@@ -1,9 +1,10 @@
 -- Chains of one-bit registers: bit 0 is a port, and each further bit is a register that takes the bit before it in every row. This project's.
-use Rattle.std.specs.Prelude.{◌≡◌, ℕ, ◌+◌, ◌≤◌, false, List, [], ◌∷◌, ◌++◌, length, map, codes, None, All, Contains}
+use Rattle.std.specs.Prelude.{◌≡◌, ℕ, ◌+◌, false, List, [], ◌∷◌, ◌++◌, length, map, codes, None, All, Contains}
 use Rattle.hw_names.specs.Name.{Text, IsPlain, AreDistinct}
 use Rattle.net_core.specs.declared.net.Src.TheVariants.{Port, Lit}
 use Rattle.cal_ast.specs.Tree.{PortName, port_of, CellDef, Assignment, cell_tree, assignment_tree, port_tree}
 use Rattle.cal_ast.specs.declared.tree.CalPort.{CalPort}
+use Rattle.fil_promise.specs.Refines.{IsGenerated}
 use Rattle.fil_fsm.specs.declared.shift.FsmParts.{FsmParts}
 
 -- a register of one bit
@@ -27,13 +28,6 @@ chain_sets bit (name ∷ registers) = takes bit name ++ chain_sets (bit_of name)
 
 abbrev pub chain_bits : PortName → List Text → List PortName
 chain_bits go registers = go ∷ map bit_of registers
-
-abbrev pub IsDigit : ℕ → Type 0
-IsDigit byte = (48 ≤ byte) × (byte ≤ 57)
-
--- the names that lowering makes: `f$` and digits
-abbrev pub IsGenerated : Text → Type 0
-IsGenerated name = (digits : Text) × (name ≡ codes "f$" ++ digits) × All IsDigit digits
 
 -- the parts are a chain of so many bits after this port, whose registers have names that are new to the list
 pub record IsShiftRegister (old new : List Text) (go : CalPort) (n : ℕ) (parts : FsmParts) : Type 0 where

@@ -1,4 +1,3 @@
 pub mod Chain
 pub mod Delays
 pub mod Registers
-pub mod Refines

@@ -15,9 +15,6 @@
 //! in every row, by names of `f$` and digits. The law `parts_make_chains` says that a component with these parts, whose registers
 //! nothing else drives, has the chain; `chains_delay` says that then in every run and every instance bit i is the port as it was
 //! i rows before, and 0 before that.
-//!
-//! Here stands also what lowering has to keep of a Filament design (`CarriesLists`): the circuit that it is lowered to carries
-//! every legal list of transactions, at each instance.
 #![tactic(auto)]
 
 mod laws;

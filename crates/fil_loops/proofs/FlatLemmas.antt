@@ -14,7 +14,7 @@ use Rattle.fil_ast.specs.Naming.{instance_names}
 use Rattle.fil_ast.specs.Rules.{KeepsComponent, KeepsRules, all_rules}
 use Rattle.fil_ast.specs.Scope.{Scope}
 use Rattle.fil_ast.specs.Tree.{Component, Design}
-use Rattle.fil_ast.specs.Wires.{AtOnce, Over, Reaches, ReadsPort, through_before, whole_scope}
+use Rattle.fil_ast.specs.Wires.{Straight, Over, Reaches, ReadsPort, through_before, whole_scope}
 use Rattle.fil_ast.specs.declared.tree.FilComp.{FilComp}
 use Rattle.fil_loops.proofs.PortGraphLemmas.{IsWithin}
 use Rattle.fil_loops.proofs.ThroughLemmas.{by_inner, by_own, known_of, own_or_inner, there_at}
@@ -174,18 +174,18 @@ module _ (comps : Design) (c : Component) (names : List Text) (earlier : Earlier
     -- ---- readings one after another
 
     text_reaches : (i j : ℕ) → numbers.Reaches g.entries.items cells i j → (port other : Text) → IsNamed i port → IsNamed j other → ReachesText port other
-    text_reaches i j (numbers.Directly n m read) port other at_port at_other = AtOnce port (text_reads n m port other at_port at_other read)
+    text_reaches i j (numbers.Directly n m read) port other at_port at_other = Straight port (text_reads n m port other at_port at_other read)
     text_reaches i j (numbers.Through n next m read rest) port other at_port at_other =
         let mid = there_at g.ports.names next (reads_within n next read).1 in
         Over port mid.0 (text_reads n next port mid.0 at_port mid.1 read) (text_reaches next m rest mid.0 other mid.1 at_other)
 
     -- what reaches another reads one
     first_read : (other port : Text) → ReachesText port other → (next : Text) × ReadsText port next
-    first_read other port (AtOnce p read) = (other, read)
+    first_read other port (Straight p read) = (other, read)
     first_read other port (Over p next read rest) = (next, read)
 
     number_reaches : (other port : Text) → ReachesText port other → (i j : ℕ) → IsNamed i port → IsNamed j other → numbers.Reaches g.entries.items cells i j
-    number_reaches other port (AtOnce p read) i j at_port at_other = numbers.Directly i j (number_reads i j p other at_port at_other read)
+    number_reaches other port (Straight p read) i j at_port at_other = numbers.Directly i j (number_reads i j p other at_port at_other read)
     number_reaches other port (Over p next read rest) i j at_port at_other =
         let on = first_read other next rest in
         let mid = at_of g.ports.names next (in_of g.ports.names next (between p next on.0 read on.1)) in

@@ -13,7 +13,7 @@ use Rattle.fil_ast.specs.Naming.{instance_names}
 use Rattle.fil_ast.specs.Rules.{KeepsRules, all_rules}
 use Rattle.fil_ast.specs.Scope.{Instance, Scope}
 use Rattle.fil_ast.specs.Tree.{Component, DataPort, Design}
-use Rattle.fil_ast.specs.Wires.{AtOnce, ByArgument, ByConnection, ByInstance, DependsWithin, HasNoLoop, OfComponent, OfPrimitive, Over, Reaches, ReadsAlong, ReadsByInstance, ReadsPort, through_before, whole_scope}
+use Rattle.fil_ast.specs.Wires.{Straight, ByArgument, ByConnection, ByInstance, DependsWithin, HasNoLoop, OfComponent, OfPrimitive, Over, Reaches, ReadsAlong, ReadsByInstance, ReadsPort, through_before, whole_scope}
 use Rattle.fil_ast.specs.declared.tree.FilComp.{FilComp}
 use Rattle.fil_place.proofs.GeneralLemmas.{mapped_at}
 use Rattle.fil_loops.proofs.InstanceLemmas.{IsOwnReading, IsThroughAt, no_table_at, own_reading, through_told}
@@ -246,7 +246,7 @@ module _ (comps : Design) (c : Component) (names : List Text) (earlier : Earlier
         ]
 
     start_named : (before other port : Text) → PartReading before port → Reaches (through_before comps) scope other port → IsNamed port
-    start_named before other port a (AtOnce p r) = after_part before p other a r
+    start_named before other port a (Straight p r) = after_part before p other a r
     start_named before other port a (Over p between r rest) = after_part before p between a r
 
     -- so is what is read and reaches
@@ -258,7 +258,7 @@ module _ (comps : Design) (c : Component) (names : List Text) (earlier : Earlier
         ]
 
     pub falls : (other port : Text) → Reaches (through_before comps) scope other port → (m n : ℕ) → slice_get g.ports.names m ≡ Some port → slice_get g.ports.names n ≡ Some other → IsBelow found n m
-    falls other port (AtOnce p r) m n at_port at_other = one_falls p other r m n at_port at_other
+    falls other port (Straight p r) m n at_port at_other = one_falls p other r m n at_port at_other
     falls other port (Over p between r rest) m n at_port at_other =
         let mid = between_named p between other r rest in
         let first : IsBelow found mid.0 m = one_falls p between r m mid.0 at_port mid.1 in
@@ -267,7 +267,7 @@ module _ (comps : Design) (c : Component) (names : List Text) (earlier : Earlier
 
     -- what is reached, and reads through an instance, is named
     end_named : (other port after : Text) → Reaches (through_before comps) scope other port → PartReading other after → IsNamed other
-    end_named other port after (AtOnce p r) b =
+    end_named other port after (Straight p r) b =
         elim (split p other r) [
           | inl direct ↦ read_named p other direct
           | inr through ↦ absurd (apart p other after through b)
@@ -278,7 +278,7 @@ module _ (comps : Design) (c : Component) (names : List Text) (earlier : Earlier
     itself_named port reach = by port reach refl
       where
         by : (p : Text) → Reaches (through_before comps) scope port p → p ≡ port → IsNamed port
-        by p (AtOnce x r) same =
+        by p (Straight x r) same =
             let own : ReadsPort (through_before comps) scope port port = subst (λ (t : Text). ReadsPort (through_before comps) scope t port) same r in
             elim (split port port own) [
               | inl direct ↦ reader_named port port direct
@@ -292,7 +292,7 @@ module _ (comps : Design) (c : Component) (names : List Text) (earlier : Earlier
             ]
 
     along_reaches : (port : Text) (others : List Text) (back : Text) → ReadsAlong comps c (port ∷ others) back → Reaches (through_before comps) scope back port
-    along_reaches port [] back r = AtOnce port r
+    along_reaches port [] back r = Straight port r
     along_reaches port (next ∷ others) back along = Over port next along.0 (along_reaches next others back along.1)
 
     pub no_loop_by_levels : HasNoLoop comps c

@@ -19,7 +19,7 @@ use Rattle.hw_names.proofs.NameLemmas.{same_number}
 use Rattle.hw_names.specs.Name.{Text, AreDistinct}
 use Rattle.fil_ast.specs.Rules.{KeepsComponent, all_rules}
 use Rattle.fil_ast.specs.Tree.{Component, DataPort, Design}
-use Rattle.fil_ast.specs.Wires.{AtOnce, HasNoLoop, IsLeastLoop, Over, Reaches, ReadsAlong, ReadsPort, through_before, whole_scope}
+use Rattle.fil_ast.specs.Wires.{Straight, HasNoLoop, IsLeastLoop, Over, Reaches, ReadsAlong, ReadsPort, through_before, whole_scope}
 use Rattle.fil_share.proofs.ListLemmas.{Contains-at}
 use Rattle.fil_loops.proofs.DependLemmas.{number_of, numbered_length}
 use Rattle.fil_loops.proofs.OwnPortLemmas.{inputs_differ, ports_differ}
@@ -51,15 +51,15 @@ module _ (earlier : Design) (c : Component) where
 
   -- the first step of a way, and the last
   first_step : (other port : Text) → ReachesText port other → (next : Text) × Reads port next
-  first_step other port (AtOnce p read) = (other, read)
+  first_step other port (Straight p read) = (other, read)
   first_step other port (Over p between read rest) = (between, read)
 
   last_step : (other port : Text) → ReachesText port other → (before : Text) × Reads before other
-  last_step other port (AtOnce p read) = (p, read)
+  last_step other port (Straight p read) = (p, read)
   last_step other port (Over p between read rest) = last_step other between rest
 
   along_reaches : (port : Text) (others : List Text) (back : Text) → ReadsAlong earlier c (port ∷ others) back → ReachesText port back
-  along_reaches port [] back read = AtOnce port read
+  along_reaches port [] back read = Straight port read
   along_reaches port (next ∷ others) back along = Over port next along.0 (along_reaches next others back along.1)
 
 module _ (earlier : Design) (c : Component) (names : List Text) (reads : List (List ℕ)) (is : LeadsAsRead earlier c names reads) where

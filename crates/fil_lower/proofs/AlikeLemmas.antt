@@ -4,8 +4,7 @@ use Rattle.std.specs.List.{AllZip}
 use Rattle.std.specs.Prelude.{Contains, slice_get}
 use Rattle.hw_prims.specs.Row.{Row, Text}
 use Rattle.hw_prims.specs.Timed.{NeverOverlap, Behaviour, CarriesInputs, CarriesOutputs, Covers, HasDelay, AreLegalTransactions, TimedPort, Transaction, end_of}
-use Rattle.fil_lower.specs.Laws.{IsSeparate}
-use Rattle.fil_lower.specs.PlanLaws.{AreAlike}
+use Rattle.fil_lower.specs.Separate.{AreAlike, IsSeparate}
 use Rattle.fil_lower.proofs.ListLemmas.{contains_none, first_or_later}
 use Rattle.fil_lower.proofs.SlotLemmas.{zip_pairs}
 

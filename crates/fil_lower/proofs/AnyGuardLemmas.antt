@@ -13,7 +13,7 @@ use Rattle.net_core.specs.declared.net.Src.TheVariants.{Port}
 use Rattle.cal_ast.specs.Numbers.{GuardHasNumbers, GuardsHaveNumbers}
 use Rattle.cal_ast.specs.Tree.{PortName, port_tree}
 use Rattle.cal_ast.specs.declared.tree.CalPort.{CalPort}
-use Rattle.fil_lower.specs.Lowering.{any_of}
+use Rattle.fil_lower.specs.inside.Lowering.{any_of}
 
 any_of_many : (ports : List PortName) → 2 ≤ length ports → AnyOf (guards_of (map (λ p. Reads (Port p)) ports)) ≡ any_of ports
 any_of_many [] many = absurd (omega (arith, many))

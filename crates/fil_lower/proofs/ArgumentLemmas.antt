@@ -1,7 +1,7 @@
 -- What drives an input of an instance: over a component's lowered invocations, the arguments that the plan says.
-use Rattle.std.proofs.Common.{◌≡◌, ℕ, ◌+◌, ◌-◌, ◌<◌, Bool, true, false, List, [], ◌∷◌, ◌++◌, map, flat_map, take, get_or, slice_get, All, Option, Some, option_map, refl, sym, ap, ap₂, subst, ◌∙◌, arith}
+use Rattle.std.proofs.Common.{◌≡◌, ℕ, ◌+◌, ◌-◌, ◌<◌, Bool, true, false, List, [], ◌∷◌, ◌++◌, map, flat_map, take, slice_get, Option, Some, option_map, refl, sym, ap, ap₂, subst, ◌∙◌, arith}
 use Rattle.std.specs.List.{AllZip}
-use Rattle.std.specs.Option.{option_and_then, option_map_or}
+use Rattle.std.specs.Option.{option_map_or}
 use Rattle.std.specs.Prelude.{◌&&◌, Contains, bytes_eq, if◌then◌else◌}
 use Rattle.std.proofs.lemmas.List.Elements.{All-contains, All-weaker}
 use Rattle.std.proofs.lemmas.Option.{slice_get-map, slice_get_within}
@@ -13,39 +13,33 @@ use Rattle.cal_ast.specs.CalRun.{look}
 use Rattle.cal_ast.specs.Laws.{local_values}
 use Rattle.cal_ast.specs.Tree.{port_of}
 use Rattle.fil_ast.proofs.HoldLemmas.{use_listed}
-use Rattle.fil_ast.proofs.UseLemmas.{parts_of}
 use Rattle.fil_ast.specs.Behaviours.{timed_event, timed_port}
 use Rattle.fil_ast.specs.Holds.{uses_of}
 use Rattle.fil_ast.specs.Items.{scope_after}
-use Rattle.fil_ast.specs.Naming.{IsKnownValue, NamesEvent}
+use Rattle.fil_ast.specs.Naming.{IsKnownValue}
 use Rattle.fil_ast.specs.Scope.{Invocation, invocations_at}
 use Rattle.fil_ast.specs.Signature.{SigPort, Signature, event_number, sig_event}
 use Rattle.fil_ast.specs.Timeline as timeline
-use Rattle.fil_ast.specs.Timeline.{IsUse, interval_at, interval_between}
-use Rattle.fil_ast.specs.Tree.{Design, Event, Statement, ValueTree, New, Call, Both, Connect, TimeAt}
+use Rattle.fil_ast.specs.Timeline.{interval_between}
+use Rattle.fil_ast.specs.Tree.{Design, Event, Statement}
 use Rattle.fil_ast.specs.Wires.{whole_scope}
 use Rattle.fil_share.proofs.ListLemmas.{Contains-at, Contains-here, Contains-there}
-use Rattle.fil_share.proofs.OwnLemmas.{names_of}
-use Rattle.fil_lower.specs.Lowered.{LoweredRun, drives, source_in, values_where}
-use Rattle.fil_lower.specs.LoweredDesign.{run_at}
-use Rattle.fil_lower.specs.Lowering.{Lowering, argument_set, argument_sets, go_of, inputs_of_callee, invocation_sets, lowered_value, lowering_with}
-use Rattle.fil_lower.specs.Plan.{Plan, Slot, Use}
-use Rattle.fil_lower.specs.PlanOf.{Resolved, args_of, callee_of, plan_of, resolved, resolved_calls, slot_of, source_of}
-use Rattle.fil_lower.proofs.AvailableLemmas.{args_at}
+use Rattle.fil_lower.specs.inside.Lowered.{LoweredRun, drives, source_in, values_where}
+use Rattle.fil_lower.specs.inside.LoweredDesign.{run_at}
+use Rattle.fil_lower.specs.inside.Lowering.{Lowering, argument_set, argument_sets, go_of, inputs_of_callee, invocation_sets, lowered_value, lowering_with}
+use Rattle.fil_lower.specs.inside.Plan.{Plan, Slot, Use}
+use Rattle.fil_lower.specs.inside.PlanOf.{Resolved, callee_of, plan_of, resolved, resolved_calls, slot_of}
 use Rattle.fil_lower.proofs.BitLemmas.{was_on_in}
 use Rattle.fil_lower.proofs.CallLemmas.{IsCalled, all_called}
 use Rattle.fil_lower.proofs.CellLemmas.{DrivesCell, argument_cells, elsewhere_by}
 use Rattle.fil_lower.proofs.FeedLemmas.{argument_at, feeds_is, feeds_of}
 use Rattle.fil_lower.proofs.GuardLemmas.{guard_is_open}
+use Rattle.fil_lower.proofs.InvocationLemmas.{IsArgument, args_known, argument_of, argument_source}
 use Rattle.fil_lower.proofs.LoweredParts.{LoweredComp, StandingComp}
 use Rattle.fil_lower.proofs.SourceLemmas.{IsMadeAt, all_made, known_before, reads_same}
-use Rattle.fil_lower.proofs.TimedAsLemmas.{contains_map, number_of}
-use Rattle.fil_lower.proofs.UseLemmas.{some_at}
+use Rattle.fil_lower.proofs.TimedAsLemmas.{contains_map}
 use Rattle.fil_lower.proofs.ValueLemmas.{IsElsewhere, flat_values, no_values}
 use Rattle.fil_lower.proofs.WellLemmas.{timed}
-
-only_one : (x y : Invocation) → ◌≡◌ {A = List Invocation} (x ∷ []) (y ∷ []) → x ≡ y
-only_one x y same = ap (λ (l : List Invocation). get_or l 0 x) same
 
 module _ (comp : LoweredComp) (standing : StandingComp comp) where
   open comp use {pair, pair.{comps, rules, plain, design, lowered}, n, c, here, registers, enough, new}
@@ -67,64 +61,8 @@ module _ (comp : LoweredComp) (standing : StandingComp comp) where
   abbrev pub rows : LoweredRun
   rows = run_at path (feeds_of plan seen) height trace
 
-  -- an argument is known before its statement
-  args_known : (k : ℕ) (s : Statement) → slice_get c.body k ≡ Some s → (v : Invocation) → invocations_at s ≡ v ∷ [] → All (IsKnownValue (scope_after earlier c (take k c.body))) v.gives.args
-  args_known k (New name made params) at_k v only = absurd (cc)
-  args_known k (Connect output value) at_k v only = absurd (cc)
-  args_known k (Call name inst gives) at_k v only =
-      subst (λ (w : Invocation). All (IsKnownValue (scope_after earlier c (take k c.body))) w.gives.args) (only_one (record { name = name; inst = inst; gives = gives }) v only)
-      ((names_of comps rules n c here).known_names k (Call name inst gives) at_k).1.args
-  args_known k (Both name made params gives) at_k v only =
-      subst (λ (w : Invocation). All (IsKnownValue (scope_after earlier c (take k c.body))) w.gives.args) (only_one (record { name = name; inst = name; gives = gives }) v only)
-      ((names_of comps rules n c here).known_names k (Both name made params gives) at_k).1.args
-
   callee_inputs : (v : Invocation) (f : IsCalled earlier c v) → inputs_of_callee l v.inst ≡ f.sig.ins
   callee_inputs v f = ap (λ (o : Option Signature). option_map_or (λ (x : Signature). x.ins) o []) f.signed
-
-  -- the argument of an invocation for an input of its callee, and the use of the input's event
-  record IsArgument (v : Invocation) (f : IsCalled earlier c v) (p : TimedPort) : Type 0 where
-    k : ℕ
-    q : SigPort
-    at_q : slice_get f.sig.ins k ≡ Some q
-    is : timed_port q ≡ p
-    arg : ValueTree
-    at_arg : slice_get v.gives.args k ≡ Some arg
-    use_at : timeline.Use
-    used : IsUse f.sig v.inst v.gives.times use_at
-    number : use_at.event ≡ q.from.event
-    between : interval_at v.gives.times q ≡ Some (interval_between use_at.at use_at.at q)
-    event : Event
-    at_event : slice_get c.events (event_number c.events use_at.at.event) ≡ Some event
-    event_named : event.name ≡ use_at.at.event
-
-  argument_of : (v : Invocation) (f : IsCalled earlier c v) (p : TimedPort) → Contains (callee_of earlier c v.inst).sig.ins p → IsArgument v f p
-  argument_of v f p has_p =
-      let t = timed comps rules n c here v f in
-      let input = t.ins p has_p in
-      let q = input.1 in
-      let within = slice_get_within f.sig.ins input.0 q input.2 in
-      let arg = some_at v.gives.args input.0 (omega (arith, within, f.each.args)) in
-      let s = t.starts p has_p v.inst v.gives.times f.each.times in
-      let number : s.0.event ≡ q.from.event = s.2 ∙ sym (ap (λ (x : TimedPort). x.event) input.3) in
-      let start : slice_get v.gives.times q.from.event ≡ Some s.0.at = ap (slice_get v.gives.times) (sym number) ∙ (parts_of s.1).time in
-      let e = number_of c.events s.0.at.event (All-contains (λ (t : TimeAt). NamesEvent c t.event) v.gives.times s.0.at f.times (Contains-at v.gives.times s.0.event s.0.at (parts_of s.1).time)) in
-      record {
-        k = input.0;
-        q = q;
-        at_q = input.2;
-        is = input.3;
-        arg = arg.0;
-        at_arg = arg.1;
-        use_at = s.0;
-        used = s.1;
-        number = number;
-        between =
-            ap (option_and_then (λ s. option_map (λ t. interval_between s t q) (slice_get v.gives.times q.to.event))) start
-            ∙ ap (option_map (λ t. interval_between s.0.at t q)) (ap (slice_get v.gives.times) input.4 ∙ start);
-        event = e.0;
-        at_event = e.1;
-        event_named = e.2;
-      }
 
   module _ (r : ℕ) (below : r < height) where
     -- an interval on an event, by the slot of a use of it
@@ -142,7 +80,7 @@ module _ (comp : LoweredComp) (standing : StandingComp comp) where
 
     -- the guard of the argument says when it drives
     guard_feeds : (v : Invocation) → Contains l.scope.invocations v → (call : Use) → Contains plan.uses call → v.inst ≡ call.inst → map (slot_of c) (uses_of (whole_scope earlier c) v) ≡ call.slots →
-        (f : IsCalled earlier c v) (p : TimedPort) → Contains (callee_of earlier c v.inst).sig.ins p → (a : IsArgument v f p) → guard_holds (look path (trace r)) (argument_set l v a.q a.arg).guard ≡ feeds_of plan seen call a.q.name r
+        (f : IsCalled earlier c v) (p : TimedPort) → Contains (callee_of earlier c v.inst).sig.ins p → (a : IsArgument comps rules n c here v f p) → guard_holds (look path (trace r)) (argument_set l v a.q a.arg).guard ≡ feeds_of plan seen call a.q.name r
     guard_feeds v has_v call has inst slots f p has_p a =
         let u = a.use_at in
         let has_q : Contains (inputs_of_callee l v.inst) a.q = subst (λ (ps : List SigPort). Contains ps a.q) (sym (callee_inputs v f)) (Contains-at f.sig.ins a.k a.q a.at_q) in
@@ -155,15 +93,13 @@ module _ (comp : LoweredComp) (standing : StandingComp comp) where
 
     -- and its value is what the plan reads
     argument_value : (v : Invocation) (f : IsCalled earlier c v) (k : ℕ) (s : Statement) → slice_get c.body k ≡ Some s → invocations_at s ≡ v ∷ [] → (call : Use) → (resolved earlier c (known_before comps rules n c here k) v).call ≡ call →
-        (p : TimedPort) (a : IsArgument v f p) → source_value (look path (trace r)) (lowered_value l a.arg) ≡ source_in rows (trace r) (call.args a.q.name)
+        (p : TimedPort) (a : IsArgument comps rules n c here v f p) → source_value (look path (trace r)) (lowered_value l a.arg) ≡ source_in rows (trace r) (call.args a.q.name)
     argument_value v f k s at_k only call is p a =
         let known = known_before comps rules n c here k in
         let within = slice_get_within c.body k s at_k in
-        let source : args_of known (inputs_of_callee l v.inst) v.gives.args a.q.name ≡ source_of known a.arg =
-        ap (λ (ps : List SigPort). args_of known ps v.gives.args a.q.name) (callee_inputs v f) ∙ args_at known f.sig.ins v.gives.args a.k a.q a.arg (timed comps rules n c here v f).distinct a.at_q a.at_arg in
         reads_same comps rules n c here registers path (feeds_of plan seen) height trace (trace r) k (omega (arith, within)) known (λ name call is. is) a.arg
-        (All-contains (IsKnownValue (scope_after earlier c (take k c.body))) v.gives.args a.arg (args_known k s at_k v only) (Contains-at v.gives.args a.k a.arg a.at_arg))
-        ∙ ap (source_in rows (trace r)) (sym source ∙ ap (λ (x : Use). x.args a.q.name) is)
+        (All-contains (IsKnownValue (scope_after earlier c (take k c.body))) v.gives.args a.arg (args_known comps rules n c here k s at_k v only) (Contains-at v.gives.args a.k a.arg a.at_arg))
+        ∙ ap (source_in rows (trace r)) (sym (argument_source comps rules n c here v f k call is p a))
 
     -- of an invocation's arguments that of the port, where it drives
     own_values : (v : Invocation) → Contains l.scope.invocations v → (k : ℕ) (s : Statement) → slice_get c.body k ≡ Some s → invocations_at s ≡ v ∷ [] →
@@ -171,7 +107,7 @@ module _ (comp : LoweredComp) (standing : StandingComp comp) where
         local_values (look path (trace r)) (port_of v.inst p.name) (invocation_sets l v) ≡ (if feeds_of plan seen call p.name r then source_in rows (trace r) (call.args p.name) ∷ [] else [])
     own_values v has_v k s at_k only call is has p has_p =
         let f : IsCalled earlier c v = All-contains (IsCalled earlier c) l.scope.invocations v (all_called comps rules n c here) has_v in
-        let a = argument_of v f p has_p in
+        let a = argument_of comps rules n c here v f p has_p in
         let ports = callee_inputs v f in
         let distinct = (timed comps rules n c here v f).distinct in
         let is_name : a.q.name ≡ p.name = ap (λ (x : TimedPort). x.name) a.is in

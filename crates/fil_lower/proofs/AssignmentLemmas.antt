@@ -18,9 +18,9 @@ use Rattle.fil_ast.specs.Rules.{FilRules}
 use Rattle.fil_ast.specs.Scope.{instance_signature}
 use Rattle.fil_ast.specs.Signature.{SigPort, component_signature, sig_port}
 use Rattle.fil_ast.specs.Tree.{Component, Design}
-use Rattle.fil_fsm.specs.Refines as wires
+use Rattle.fil_promise.specs.Refines as wires
 use Rattle.fil_share.proofs.ListLemmas.{Contains-at}
-use Rattle.fil_lower.specs.Lowering.{HasEnoughBits, HasNewRegisters, IsLoweringOf, Lowering, Registers, all_registers, lowered_component, lowered_sets, lowered_value, lowering_with}
+use Rattle.fil_lower.specs.inside.Lowering.{HasEnoughBits, HasNewRegisters, IsLoweringOf, Lowering, Registers, all_registers, lowered_component, lowered_sets, lowered_value, lowering_with}
 use Rattle.fil_lower.proofs.AvailableLemmas.{found_passes}
 use Rattle.fil_lower.proofs.CallLemmas.{all_called, found_among, sound_at}
 use Rattle.fil_lower.proofs.MadeLemmas.{instance_signed}

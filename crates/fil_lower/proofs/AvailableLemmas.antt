@@ -23,9 +23,9 @@ use Rattle.fil_ast.specs.Tree.{Component, Design, Event, Statement, TimeAt, Valu
 use Rattle.fil_ast.specs.Wires.{whole_scope}
 use Rattle.fil_share.specs.Instances.{signature_of}
 use Rattle.fil_share.proofs.OwnLemmas.{KeepsNames, cut_before, same_meaning}
-use Rattle.fil_lower.specs.Plan.{Slot, Use}
-use Rattle.fil_lower.specs.PlanOf.{Resolved, args_of, call_named, callee_of, output_of_call, plan_of, resolved, resolved_after, slot_of, source_of}
-use Rattle.fil_lower.specs.PlanRules.{IsAvailable}
+use Rattle.fil_lower.specs.inside.Plan.{Slot, Use}
+use Rattle.fil_lower.specs.inside.PlanOf.{Resolved, args_of, call_named, callee_of, output_of_call, plan_of, resolved, resolved_after, slot_of, source_of}
+use Rattle.fil_lower.specs.inside.PlanRules.{IsAvailable}
 use Rattle.fil_lower.proofs.CallLemmas.{IsCalled, found_among}
 use Rattle.fil_lower.proofs.NameLemmas.{first_differs, from_map, later_distinct, other_name, same_name, sig_names}
 use Rattle.fil_lower.proofs.TimedAsLemmas.{IsTimedAs, contains_map, named_at_number}

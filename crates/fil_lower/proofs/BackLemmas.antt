@@ -21,8 +21,8 @@ use Rattle.fil_ast.specs.Scope.{Instance, instance_named, signature_in}
 use Rattle.fil_ast.specs.Tree.{Component}
 use Rattle.fil_ast.specs.Wires.{whole_scope}
 use Rattle.fil_fsm.specs.Chain.{register}
-use Rattle.fil_lower.specs.LoweredDesign.{Stands, AtTop, Within}
-use Rattle.fil_lower.specs.Lowering.{lowered_cell, lowered_component, lowering_with}
+use Rattle.fil_lower.specs.Wires.{Stands, AtTop, Within}
+use Rattle.fil_lower.specs.inside.Lowering.{lowered_cell, lowered_component, lowering_with}
 use Rattle.fil_lower.proofs.CallLemmas.{found_among, signature_is}
 use Rattle.fil_lower.proofs.ChainLemmas.{all_of, registers_joined}
 use Rattle.fil_lower.proofs.LoweredParts.{LoweredComp, LoweredPair, comp_of}

@@ -7,7 +7,7 @@ use Rattle.net_core.specs.Guard.{Reads, any_holds, guards_of, holds}
 use Rattle.net_core.specs.declared.net.Src.TheVariants.{Port}
 use Rattle.cal_ast.specs.Tree.{PortName}
 use Rattle.hw_names.specs.Name.{Text}
-use Rattle.fil_lower.specs.Lowering.{Lowering, any_of, bit_at, bits_from}
+use Rattle.fil_lower.specs.inside.Lowering.{Lowering, any_of, bit_at, bits_from}
 use Rattle.fil_lower.proofs.ListLemmas.{contains_none, first_or_later}
 use Rattle.fil_share.proofs.ListLemmas.{Contains-here, Contains-there}
 

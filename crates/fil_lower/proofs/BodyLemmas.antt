@@ -1,16 +1,16 @@
 -- What a statement of a body gives: its invocation or instance, with numbers and small times.
-use Rattle.std.proofs.Common.{◌≡◌, ℕ, ◌<◌, ◌++◌, [], ◌∷◌, List, All, Contains, length, map, flat_map, get_or, slice_get, Some, None, Option, option_map, refl, sym, ap, subst, ◌∙◌, arith}
+use Rattle.std.proofs.Common.{◌≡◌, ℕ, ◌<◌, ◌++◌, [], ◌∷◌, List, All, Contains, length, flat_map, get_or, slice_get, Some, Option, refl, sym, ap, subst, ◌∙◌}
 use Rattle.std.specs.Option.{option_map_or}
 use Rattle.std.proofs.lemmas.List.{append-nil}
 use Rattle.std.proofs.lemmas.List.Elements.{All-head, Contains-append_right}
 use Rattle.std.proofs.lemmas.Option.{slice_get_read}
 use Rattle.fil_ast.specs.Naming.{MakesNewNames, invocation_names, port_names}
 use Rattle.fil_ast.specs.Scope.{Invocation, Scope, instance_signature, invocations_at}
-use Rattle.fil_ast.specs.Signature.{SigPort, Signature}
+use Rattle.fil_ast.specs.Signature.{Signature}
 use Rattle.fil_ast.specs.Timeline.{interval_at}
 use Rattle.fil_ast.specs.Tree.{Statement}
 use Rattle.hw_names.specs.Name.{Text}
-use Rattle.fil_lower.specs.Lowering.{Lowering, wants_in}
+use Rattle.fil_lower.specs.inside.Lowering.{Lowering, wants_in}
 use Rattle.fil_lower.specs.inside.Place.{greatest, wanted_by_ports}
 
 -- an element that a loop reads is at its place in the list

@@ -27,7 +27,7 @@ use Rattle.fil_share.proofs.CalleeLemmas.{named_among}
 use Rattle.fil_share.proofs.ListLemmas.{All-flat_map, Contains-at}
 use Rattle.fil_share.proofs.MakesLemmas.{at_statement, makes_instances}
 use Rattle.fil_share.proofs.OwnLemmas.{KeepsNames, cut_before, cut_with, find_last, found_more, names_of, pairs_in_time, same_meaning, some_there, uses_paired}
-use Rattle.fil_lower.specs.PlanOf.{behaviour_made, behaviour_named}
+use Rattle.fil_lower.specs.inside.PlanOf.{behaviour_made, behaviour_named}
 use Rattle.fil_lower.proofs.CalleeLemmas.{is_first}
 use Rattle.fil_lower.proofs.NameLemmas.{found_back}
 use Rattle.fil_lower.proofs.PlanLemmas.{inputs_differ}

@@ -21,7 +21,7 @@ use Rattle.fil_ast.specs.Scope.{Instance, bare_signature, component_named, sig_p
 use Rattle.fil_ast.specs.Signature.{SigPort, Signature, component_signature, sig_port}
 use Rattle.fil_ast.specs.Tree.{Component, DataPort, Design}
 use Rattle.fil_share.proofs.CalleeLemmas.{named_among}
-use Rattle.fil_lower.specs.PlanOf.{behaviour_made, behaviour_named}
+use Rattle.fil_lower.specs.inside.PlanOf.{behaviour_made, behaviour_named}
 use Rattle.fil_lower.proofs.NameLemmas.{found_back, from_map, given_each, given_to, map_agree, same_element, sig_names}
 use Rattle.fil_lower.proofs.PrimitiveLemmas.{inputs_distinct, one_output}
 use Rattle.fil_lower.proofs.TimingLemmas.{filament_is_timed}

@@ -18,11 +18,11 @@ use Rattle.cal_ast.specs.Tree as calyx
 use Rattle.fil_ast.specs.Behaviours.{IsGiven, component_behaviour}
 use Rattle.fil_ast.specs.Signature.{component_signature}
 use Rattle.fil_ast.specs.Tree.{Component}
-use Rattle.fil_fsm.specs.Refines.{CarriesList, GiveInputs}
+use Rattle.fil_promise.specs.Refines.{CarriesList, GiveInputs}
 use Rattle.fil_share.proofs.ListLemmas.{Contains-at}
-use Rattle.fil_lower.specs.LoweredDesign.{CarriesAll, IsLoweredDesign}
-use Rattle.fil_lower.specs.Lowering.{lowered_sets, lowering_with}
-use Rattle.fil_lower.specs.LoweringLaws.{LoweringsArePlain, LoweringsCarry}
+use Rattle.fil_lower.specs.inside.LoweredDesign.{CarriesAll, IsLoweredDesign}
+use Rattle.fil_lower.specs.inside.Lowering.{lowered_sets, lowering_with}
+use Rattle.fil_lower.specs.inside.LoweringLaws.{LoweringsArePlain, LoweringsCarry}
 use Rattle.fil_lower.proofs.BackLemmas.{stands_back, stands_given}
 use Rattle.fil_lower.proofs.DesignLemmas.{every_path}
 use Rattle.fil_lower.proofs.FewLemmas.{few_values}
@@ -113,6 +113,7 @@ module _ (pair : LoweredPair) (from_top : TopRun pair) (c : Component) (here : s
   carries_list = record {
     whole = whole;
     clean = clean;
+    legal = λ path b given is. (carries path b given is).legal;
     carries = λ path b given is r below. let all = carries path b given is in (all.inputs r below, all.outputs r below);
   }
 

@@ -12,7 +12,7 @@ use Rattle.fil_ast.specs.Scope.{Instance, Invocation, instance_signature}
 use Rattle.fil_ast.specs.Signature.{SigEvent, SigPort, Signature}
 use Rattle.fil_ast.specs.Tree.{Event, Statement, New, Call, Both, Connect, ValueTree}
 use Rattle.fil_fsm.specs.Chain.{bit_of, chain_sets, takes}
-use Rattle.fil_lower.specs.Lowering.{Lowering, all_registers, argument_set, argument_sets, connection_set, go_of, register_sets, registers_of, start_set, start_sets, start_sets_from, starting_bits}
+use Rattle.fil_lower.specs.inside.Lowering.{Lowering, all_registers, argument_set, argument_sets, connection_set, go_of, register_sets, registers_of, start_set, start_sets, start_sets_from, starting_bits}
 use Rattle.fil_lower.proofs.ListLemmas.{contains_none}
 use Rattle.fil_lower.proofs.NameLemmas.{other_name}
 use Rattle.fil_lower.proofs.ValueLemmas.{IsElsewhere, flat_none, flat_values, no_values}

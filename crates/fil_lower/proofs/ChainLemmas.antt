@@ -5,7 +5,7 @@ use Rattle.std.specs.Option.{option_and_then, option_map_or, option_or}
 use Rattle.std.specs.Prelude.{◌≢◌, Contains, bytes_eq}
 use Rattle.std.proofs.lemmas.Bool.{false≢true}
 use Rattle.std.proofs.lemmas.List.{append-nil, map-append}
-use Rattle.std.proofs.lemmas.List.Elements.{All-contains, All-weaker, Contains-append_right, Contains-get_or, filter-append}
+use Rattle.std.proofs.lemmas.List.Elements.{All-contains, All-weaker, Contains-get_or, filter-append}
 use Rattle.std.proofs.lemmas.List.Folds.{find-append}
 use Rattle.std.proofs.lemmas.Option.{get_or_from_slice_get, none-some, option_and_then_some, same_Some, slice_get-map}
 use Rattle.std.proofs.lemmas.Simd.{map-map}
@@ -24,17 +24,18 @@ use Rattle.fil_ast.specs.Scope.{Instance, Invocation, instance_named, signature_
 use Rattle.fil_ast.specs.Signature.{event_number}
 use Rattle.fil_ast.specs.Tree.{Event}
 use Rattle.fil_ast.specs.Wires.{whole_scope}
-use Rattle.fil_fsm.specs.Chain.{IsGenerated, chain_sets, register}
+use Rattle.fil_fsm.specs.Chain.{chain_sets, register}
+use Rattle.fil_promise.specs.Refines.{IsGenerated}
 use Rattle.fil_fsm.specs.Delays.{HasChain, drives_cell}
 use Rattle.fil_share.proofs.ListLemmas.{AllPairs-left, Contains-at}
 use Rattle.fil_share.proofs.Lookup.{find_nowhere}
-use Rattle.fil_lower.specs.Lowering.{Lowering, all_registers, connection_set, go_of, inputs_of_callee, invocation_sets, last_bit, lowered_cell, lowered_component, lowered_sets, lowering_with, register_sets, registers_of, start_sets}
+use Rattle.fil_lower.specs.inside.Lowering.{Lowering, all_registers, connection_set, go_of, inputs_of_callee, invocation_sets, last_bit, lowered_cell, lowered_component, lowered_sets, lowering_with, register_sets, registers_of, start_sets}
 use Rattle.fil_lower.proofs.AvailableLemmas.{found_passes, mapped_from}
 use Rattle.fil_lower.proofs.CallLemmas.{IsCalled, all_called, found_among}
 use Rattle.fil_lower.proofs.CellLemmas.{DrivesCell, DrivesOne, among_lists, argument_cells, chain_cells, connection_cells, other_cell, start_cells}
 use Rattle.fil_lower.proofs.ListLemmas.{contains_in_flat, contains_none, first_or_later}
 use Rattle.fil_lower.proofs.LoweredParts.{LoweredComp}
-use Rattle.fil_lower.proofs.NameLemmas.{apart_joined, distinct_rest, first_differs, later_distinct}
+use Rattle.fil_lower.proofs.NameLemmas.{apart_joined, distinct_rest}
 use Rattle.fil_lower.proofs.TimedAsLemmas.{contains_map, number_of}
 use Rattle.fil_lower.proofs.ValueLemmas.{filter_flat, filter_none, flat_none, flat_only}
 

@@ -1,5 +1,5 @@
 -- A component that is lowered, and those before it, in names that grow.
-use Rattle.std.proofs.Common.{◌≡◌, ◌≢◌, ℕ, zero, suc, ◌+◌, ◌<◌, ◌⊎◌, List, [], ◌∷◌, ◌++◌, length, map, flat_map, take, get_or, slice_get, All, Contains, Some, inl, inr, refl, sym, ap, ap₂, subst, ◌∙◌, arith}
+use Rattle.std.proofs.Common.{◌≡◌, ℕ, zero, suc, ◌⊎◌, List, [], ◌∷◌, ◌++◌, length, map, flat_map, get_or, slice_get, All, Contains, Some, inl, inr, refl, sym, ap, ap₂, subst, ◌∙◌, arith}
 use Rattle.std.proofs.lemmas.List.Elements.{All-cons, All-contains, All-nil, All-weaker}
 use Rattle.std.proofs.lemmas.Option.{none-some, same_Some}
 use Rattle.hw_names.proofs.NameLemmas.{Contains-slice_get, slice_get-text_of}
@@ -19,10 +19,10 @@ use Rattle.fil_ast.specs.declared.tree.Stmt.{Stmt}
 use Rattle.fil_ast.specs.declared.tree.Stmt.TheVariants as stmts
 use Rattle.fil_fsm.proofs.FreshLemmas.{Contains-KeepsTexts}
 use Rattle.fil_fsm.specs.Chain.{register}
-use Rattle.fil_fsm.specs.Refines.{inputs_of, outputs_of}
+use Rattle.fil_promise.specs.Refines.{inputs_of, outputs_of}
 use Rattle.fil_share.proofs.ListLemmas.{All-flat_map}
 use Rattle.fil_sig.proofs.ListLemmas.{All-mapped}
-use Rattle.fil_lower.specs.Lowering.{HasEnoughBits, HasNewRegisters, IsLoweredTo, Lowering, Registers, all_registers, lowered_cell, lowered_component, lowered_sets}
+use Rattle.fil_lower.specs.inside.Lowering.{HasEnoughBits, HasNewRegisters, IsLoweredTo, Lowering, Registers, lowered_cell, lowered_component, lowered_sets}
 use Rattle.fil_lower.specs.inside.Place.{AreNew, ShowsBody}
 use Rattle.fil_lower.specs.declared.body.Body.{Body}
 use Rattle.fil_lower.proofs.KeptLemmas.{component_kept, component_numbers}

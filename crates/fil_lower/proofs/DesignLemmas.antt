@@ -30,11 +30,13 @@ use Rattle.fil_ast.specs.Wires.{whole_scope}
 use Rattle.fil_share.proofs.CalleeLemmas.{named_among}
 use Rattle.fil_share.proofs.ListLemmas.{slice_get-take}
 use Rattle.fil_share.proofs.MakesLemmas.{names_differ, take_next}
-use Rattle.fil_lower.specs.Laws.{IsNeeded, IsSeparate}
-use Rattle.fil_lower.specs.LoweredDesign.{CarriesAll, ComponentsAreTimed, ComponentsStaySeparate, EveryPathCarries, IsLoweredDesign, Stands, AtTop, Within, run_at}
-use Rattle.fil_lower.specs.Plan.{Use}
-use Rattle.fil_lower.specs.PlanOf.{behaviour_made, behaviour_named, callee_of, nothing_promised, plan_of}
-use Rattle.fil_lower.specs.PlanRules.{given_transactions}
+use Rattle.fil_lower.specs.Separate.{ComponentsStaySeparate, IsSeparate}
+use Rattle.fil_lower.specs.Wires.{Stands, AtTop, Within}
+use Rattle.fil_lower.specs.inside.Laws.{IsNeeded}
+use Rattle.fil_lower.specs.inside.LoweredDesign.{CarriesAll, ComponentsAreTimed, EveryPathCarries, IsLoweredDesign, run_at}
+use Rattle.fil_lower.specs.inside.Plan.{Use}
+use Rattle.fil_lower.specs.inside.PlanOf.{behaviour_made, behaviour_named, callee_of, nothing_promised, plan_of}
+use Rattle.fil_lower.specs.inside.PlanRules.{given_transactions}
 use Rattle.fil_lower.proofs.AlikeLemmas.{alike_inputs, alike_legal, alike_outputs}
 use Rattle.fil_lower.proofs.AvailableLemmas.{found_passes}
 use Rattle.fil_lower.proofs.CallLemmas.{sound_at, sound_before, timed_as}
@@ -103,23 +105,23 @@ module _ (comps : Design) (rules : FilRules comps) (n : ℕ) (c : Component) (he
   distinct_before = names_differ comps rules n (let below = slice_get_within comps n c here in omega (arith, below))
 
   -- an instance of a primitive, or of component m
-  record OfPrimitiveHere (inst : Text) : Type 0 where
-    i : Instance
-    found : instance_named instances inst ≡ Some i
-    prim : Primitive
-    is : filament_primitive i.made i.params ≡ Some prim
-    promises : callee_of earlier c inst ≡ behaviour_of prim
+  pub record OfPrimitiveHere (inst : Text) : Type 0 where
+    pub i : Instance
+    pub found : instance_named instances inst ≡ Some i
+    pub prim : Primitive
+    pub is : filament_primitive i.made i.params ≡ Some prim
+    pub promises : callee_of earlier c inst ≡ behaviour_of prim
 
-  record OfComponentHere (inst : Text) : Type 0 where
-    i : Instance
-    found : instance_named instances inst ≡ Some i
-    none : is_filament_primitive i.made ≡ false
-    m : ℕ
-    below : m < n
-    d : Component
-    at : slice_get comps m ≡ Some d
-    is_named : d.name ≡ i.made
-    promises : callee_of earlier c inst ≡ component_behaviour (take m comps) d
+  pub record OfComponentHere (inst : Text) : Type 0 where
+    pub i : Instance
+    pub found : instance_named instances inst ≡ Some i
+    pub none : is_filament_primitive i.made ≡ false
+    pub m : ℕ
+    pub below : m < n
+    pub d : Component
+    pub at : slice_get comps m ≡ Some d
+    pub is_named : d.name ≡ i.made
+    pub promises : callee_of earlier c inst ≡ component_behaviour (take m comps) d
 
   pub primitive_promises : (inst : Text) (i : Instance) (prim : Primitive) → instance_named instances inst ≡ Some i → filament_primitive i.made i.params ≡ Some prim → callee_of earlier c inst ≡ behaviour_of prim
   primitive_promises inst i prim found is =
@@ -157,7 +159,7 @@ module _ (comps : Design) (rules : FilRules comps) (n : ℕ) (c : Component) (he
           inr (record { i = i; found = found; none = is; m = place.0; below = below; d = d; at = at; is_named = is_named; promises = component_promises inst i place.0 d found is below at is_named }))
 
   -- each invocation's instance is of one kind, and its inputs are needed
-  call_kind : (call : Use) → Contains (plan_of earlier c).uses call → (OfPrimitiveHere call.inst ⊎ OfComponentHere call.inst) × IsNeeded (callee_of earlier c call.inst).sig
+  pub call_kind : (call : Use) → Contains (plan_of earlier c).uses call → (OfPrimitiveHere call.inst ⊎ OfComponentHere call.inst) × IsNeeded (callee_of earlier c call.inst).sig
   call_kind call has =
       let a = call_of comps rules n c here call has in
       let f = a.is_called in
@@ -174,7 +176,7 @@ unfolding given
 given_event (StdReg w) p = refl
 given_event prim p = refl
 
-primitive_separate : (prim : Primitive) → IsSeparate (behaviour_of prim)
+pub primitive_separate : (prim : Primitive) → IsSeparate (behaviour_of prim)
 primitive_separate prim o has v w same =
     let m = from_map (given prim) (data_outputs prim) o has in
     let event : 0 ≡ o.event = sym (given_event prim m.0) ∙ ap (λ (x : TimedPort). x.event) m.2 in

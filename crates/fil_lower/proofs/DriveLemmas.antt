@@ -1,5 +1,5 @@
 -- At most one argument drives a port of an instance in a row: that of the transaction whose interval the row lies in.
-use Rattle.std.proofs.Common.{◌≡◌, ◌⊎◌, ℕ, suc, ◌+◌, ◌<◌, ◌≤◌, Bool, true, false, List, [], ◌∷◌, length, Option, Some, None, refl, sym, ap, ◌∙◌, subst, inl, inr, arith}
+use Rattle.std.proofs.Common.{◌≡◌, ◌⊎◌, ◌↔◌, ℕ, suc, ◌+◌, ◌<◌, ◌≤◌, Bool, true, false, List, [], ◌∷◌, length, Option, Some, None, refl, sym, ap, ◌∙◌, subst, inl, inr, arith}
 use Rattle.std.proofs.lemmas.List.Elements.{All-contains}
 use Rattle.std.proofs.lemmas.Slice.Eq.{bytes_eq-Decides}
 use Rattle.std.specs.Prelude.{◌&&◌, AllPairs, Contains, bytes_eq, if◌then◌else◌}
@@ -7,10 +7,10 @@ use Rattle.hw_prims.specs.Row.{Text}
 use Rattle.hw_prims.specs.Timed.{NeverOverlap, CarriesStarts, Covers, AreLegalTransactions, TimedEvent, TimedPort, Transaction, end_of}
 use Rattle.fil_share.proofs.ListLemmas.{two_of, AllPairs-head, AllPairs-tail}
 use Rattle.net_core.specs.Circuit.{settled}
-use Rattle.fil_lower.specs.Laws.{ArgumentsDoNotClash}
-use Rattle.fil_lower.specs.Lowered.{IsLowered, LoweredRun, StartsIn, drives, source_in, values_where}
-use Rattle.fil_lower.specs.Plan.{Plan, Slot, Use}
-use Rattle.fil_lower.specs.PlanRules.{AreShared, IsEvent, IsWellTimed, given_by}
+use Rattle.fil_lower.specs.inside.Laws.{ArgumentsDoNotClash}
+use Rattle.fil_lower.specs.inside.Lowered.{IsLowered, LoweredRun, StartsIn, drives, source_in, values_where}
+use Rattle.fil_lower.specs.inside.Plan.{Plan, Slot, Use}
+use Rattle.fil_lower.specs.inside.PlanRules.{AreShared, IsEvent, IsWellTimed, given_by}
 use Rattle.fil_lower.proofs.GivenLemmas.{held_for}
 use Rattle.fil_lower.proofs.ListLemmas.{contains_none, first_or_later, pairs_more}
 
@@ -35,14 +35,14 @@ none_where test value (x ∷ xs) none = by (test x) refl (none_where test value 
     by false is rest = rest
 
 -- no two pass the test
-abbrev Excludes : (Use → Bool) → Use → Use → Type 0
+abbrev pub Excludes : (Use → Bool) → Use → Use → Type 0
 Excludes test a b = test a ≡ true → test b ≡ true → ⊥
 
 none_after : (test : Use → Bool) (value : Use → ℕ) (x : Use) (xs : List Use) → AllPairs (Excludes test) (x ∷ xs) → test x ≡ true → values_where test value xs ≡ []
 none_after test value x xs pairs is =
     none_where test value xs (λ call has passes. All-contains (Excludes test x) xs call (AllPairs-head (Excludes test) x xs pairs) has is passes)
 
-one_where : (test : Use → Bool) (value : Use → ℕ) (calls : List Use) (c : Use) → AllPairs (Excludes test) calls → Contains calls c → test c ≡ true → values_where test value calls ≡ value c ∷ []
+pub one_where : (test : Use → Bool) (value : Use → ℕ) (calls : List Use) (c : Use) → AllPairs (Excludes test) calls → Contains calls c → test c ≡ true → values_where test value calls ≡ value c ∷ []
 one_where test value [] c pairs has is = absurd (contains_none c has)
 one_where test value (x ∷ xs) c pairs has is =
     by (test x) refl (first_or_later x xs c has) (λ later. one_where test value xs c (AllPairs-tail (Excludes test) x xs pairs) later is)
@@ -63,7 +63,33 @@ few_where test value (x ∷ xs) pairs = by (test x) refl (few_where test value x
         omega (arith, none)
     by false fails rest = rest
 
-module _ (plan : Plan) (well : IsWellTimed plan) (run : LoweredRun) (low : IsLowered plan run) (txs : List Transaction) (legal : AreLegalTransactions plan.sig txs)
+-- what the laws of overlap rest on: as in a lowered component, but for an input that no argument drives, or several do
+pub record Acts (plan : Plan) (run : LoweredRun) : Type 0 where
+  pub driven : (r : ℕ) → r < run.height → (call : Use) → Contains plan.uses call → (p : TimedPort) → Contains (plan.callee call.inst).sig.ins p → run.feeds call p.name r ≡ true →
+      AllPairs (Excludes (drives run call.inst p.name r)) plan.uses → run.trace r (run.cell call.inst p.name) ≡ source_in run (run.trace r) (call.args p.name)
+  pub fed : (r : ℕ) → r < run.height → (call : Use) → Contains plan.uses call → (slot : Slot) → Contains call.slots slot → (p : TimedPort) → Contains (plan.callee call.inst).sig.ins p → p.event ≡ slot.target →
+      (event : TimedEvent) (go : Text) → IsEvent plan.sig slot.event event → event.go ≡ Some go →
+      (run.feeds call p.name r ≡ true) ↔ ((u : ℕ) × StartsIn plan run slot.event u × (u + slot.plus + p.from ≤ r) × (r < u + slot.plus + end_of p slot.hold))
+  pub always : (r : ℕ) → r < run.height → (call : Use) → Contains plan.uses call → (slot : Slot) → Contains call.slots slot → (p : TimedPort) → Contains (plan.callee call.inst).sig.ins p → p.event ≡ slot.target →
+      (event : TimedEvent) → IsEvent plan.sig slot.event event → event.go ≡ None → run.feeds call p.name r ≡ true
+  pub started : (r : ℕ) → r < run.height → (inst : Text) (n : ℕ) (event : TimedEvent) (go : Text) → IsEvent (plan.callee inst).sig n event → event.go ≡ Some go →
+      (run.trace r (run.cell inst go) ≡ 1)
+      ↔ ((call : Use) × Contains plan.uses call × (call.inst ≡ inst) × (slot : Slot) × Contains call.slots slot × (slot.target ≡ n) × (u : ℕ) × (u + slot.plus ≡ r) × StartsIn plan run slot.event u)
+  pub connected : (r : ℕ) → r < run.height → (p : TimedPort) → Contains plan.sig.outs p → run.trace r (run.own p.name) ≡ source_in run (run.trace r) (plan.outputs p.name)
+
+pub lowered_acts : (plan : Plan) (run : LoweredRun) → IsLowered plan run → Acts plan run
+lowered_acts plan run low = record {
+  driven = λ r below call of_use p of_p feeds alone.
+      low.driven r below call.inst p of_p
+      ∙ ap settled (one_where (drives run call.inst p.name r) (λ (c : Use). source_in run (run.trace r) (c.args p.name)) plan.uses call alone of_use
+      (and_both (bytes_eq call.inst call.inst) (run.feeds call p.name r) ((bytes_eq-Decides call.inst call.inst).1 refl) feeds));
+  fed = low.fed;
+  always = low.always;
+  started = low.started;
+  connected = low.connected;
+}
+
+module _ (plan : Plan) (well : IsWellTimed plan) (run : LoweredRun) (low : Acts plan run) (txs : List Transaction) (legal : AreLegalTransactions plan.sig txs)
     (r : ℕ) (below : r < run.height) (starts : (s : ℕ) → s ≤ r → CarriesStarts plan.sig run.own (run.trace s) txs s) where
   -- a start up to row r is a transaction's
   pub start_of : (n u : ℕ) → u ≤ r → StartsIn plan run n u → (tx : Transaction) × Contains txs tx × (tx.event ≡ n) × (tx.start ≡ u)
@@ -144,9 +170,7 @@ module _ (plan : Plan) (well : IsWellTimed plan) (run : LoweredRun) (low : IsLow
   pub driven_by : (call : Use) → Contains plan.uses call → (slot : Slot) → Contains call.slots slot → (p : TimedPort) → Contains (plan.callee call.inst).sig.ins p → (tx : Transaction) → Contains txs tx → slot.event ≡ tx.event → Covers p (given_by plan tx call slot) r →
       run.trace r (run.cell call.inst p.name) ≡ source_in run (run.trace r) (call.args p.name)
   driven_by call of_use slot of_slot p of_p tx of_tx on covers =
-      low.driven r below call.inst p of_p ∙
-      ap settled (one_where (drives run call.inst p.name r) (λ (c : Use). source_in run (run.trace r) (c.args p.name)) plan.uses call (exclude call.inst p of_p) of_use
-      (and_both (bytes_eq call.inst call.inst) (run.feeds call p.name r) ((bytes_eq-Decides call.inst call.inst).1 refl) (feeds_for call of_use slot of_slot p of_p tx of_tx on covers)))
+      low.driven r below call of_use p of_p (feeds_for call of_use slot of_slot p of_p tx of_tx on covers) (exclude call.inst p of_p)
 
 pub no_clash : ArgumentsDoNotClash
-no_clash plan well run low txs legal r below starts inst p in_ins value = arguments_few plan well run low txs legal r below starts inst p in_ins value
+no_clash plan well run low txs legal r below starts inst p in_ins value = arguments_few plan well run (lowered_acts plan run low) txs legal r below starts inst p in_ins value

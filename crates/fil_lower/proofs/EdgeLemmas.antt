@@ -29,7 +29,7 @@ use Rattle.fil_ast.specs.Signature.{SigPort, Signature, sig_port}
 use Rattle.fil_ast.specs.Tree.{Component, DataPort, Design, Interface, ValueTree, Connect}
 use Rattle.fil_fsm.specs.Chain.{register}
 use Rattle.fil_share.proofs.ListLemmas.{AllPairs-left, Contains-at}
-use Rattle.fil_lower.specs.Lowering.{IsLoweringOf, Lowering, all_registers, lowered_component}
+use Rattle.fil_lower.specs.inside.Lowering.{IsLoweringOf, Lowering, all_registers, lowered_component}
 use Rattle.fil_lower.proofs.AssignmentLemmas.{set_is}
 use Rattle.fil_lower.proofs.AvailableLemmas.{found_passes}
 use Rattle.fil_lower.proofs.CallLemmas.{found_among}

@@ -1,7 +1,7 @@
 -- The shift register of an event, or nothing where the event has no interface port.
-use Rattle.std.proofs.Common.{◌≡◌, ℕ, ◌+◌, List, [], length, map, All, Some, None, refl, sym, ap, subst, ◌∙◌, arith}
+use Rattle.std.proofs.Common.{◌≡◌, ℕ, ◌+◌, List, [], length, map, All, Some, None, sym, ap, subst, ◌∙◌, arith}
 use Rattle.std.specs.Option.{option_map_or}
-use Rattle.std.specs.Prelude.{AllPairs, flat_map}
+use Rattle.std.specs.Prelude.{flat_map}
 use Rattle.std.proofs.lemmas.List.Elements.{All-nil}
 use Rattle.hw_names.specs.Name.{Text}
 use Rattle.cal_ast.specs.Numbers.{CellHasNumbers, PortHasNumbers, SetHasNumbers}
@@ -14,7 +14,7 @@ use Rattle.fil_ast.specs.Signature.{interface_of}
 use Rattle.fil_fsm.specs.Chain.{IsShiftRegister, chain_bits, chain_sets}
 use Rattle.fil_fsm.specs.Registers.{PartsHaveNumbers}
 use Rattle.fil_fsm.specs.declared.shift.FsmParts.{FsmParts}
-use Rattle.fil_lower.specs.Lowering.{wanted_by}
+use Rattle.fil_lower.specs.inside.Lowering.{wanted_by}
 use Rattle.fil_lower.specs.inside.Place.{ShowsEvent, greatest, unregistered}
 
 module _ (old new : List Text) (scope : Scope) (event : Text) (parts : FsmParts) where

@@ -1,5 +1,5 @@
 -- When the argument of an invocation drives its port, said from the plan; and which argument of a lowered invocation drives a port.
-use Rattle.std.proofs.Common.{◌≡◌, ℕ, zero, suc, ◌+◌, ◌-◌, Bool, true, false, cond, List, [], ◌∷◌, take, slice_get, Option, Some, refl, sym, ap, ap₂, subst, ◌∙◌, inl, inr, arith}
+use Rattle.std.proofs.Common.{◌≡◌, ◌↔◌, ℕ, zero, suc, ◌+◌, ◌-◌, ◌<◌, ◌≤◌, Bool, true, false, cond, List, [], ◌∷◌, take, slice_get, Option, Some, None, refl, sym, ap, ap₂, subst, ◌∙◌, inl, inr, arith}
 use Rattle.std.specs.List.{find}
 use Rattle.std.specs.Option.{option_map_or}
 use Rattle.std.specs.Prelude.{◌==◌, Contains, bytes_eq, if◌then◌else◌}
@@ -8,6 +8,7 @@ use Rattle.std.proofs.lemmas.Bool.Decides.{Decides-eqb}
 use Rattle.std.proofs.lemmas.Option.{none-some, same_Some}
 use Rattle.std.proofs.lemmas.Slice.Eq.{bytes_eq-Decides}
 use Rattle.hw_names.specs.Name.{Text, AreDistinct}
+use Rattle.hw_prims.specs.Row.{Trace}
 use Rattle.hw_prims.specs.Timed.{TimedEvent, TimedPort, TimedSignature, end_of}
 use Rattle.net_core.specs.Guard.{guard_holds, source_value}
 use Rattle.cal_ast.specs.Laws.{local_values}
@@ -18,11 +19,12 @@ use Rattle.fil_ast.specs.Scope.{Invocation}
 use Rattle.fil_ast.specs.Signature.{SigPort, Signature}
 use Rattle.fil_ast.specs.Tree.{Component, Design, ValueTree}
 use Rattle.fil_share.proofs.ListLemmas.{Contains-at, Contains-here, Contains-there, two_of}
-use Rattle.fil_lower.specs.Lowering.{Lowering, argument_set, argument_sets, lowered_value}
-use Rattle.fil_lower.specs.Plan.{Plan, Slot, Use}
-use Rattle.fil_lower.specs.PlanOf.{plan_of}
-use Rattle.fil_lower.specs.PlanRules.{IsWellTimed}
-use Rattle.fil_lower.proofs.BitLemmas.{was_on_in}
+use Rattle.fil_lower.proofs.BitLemmas.{start_was_on, was_on_in, was_on_start}
+use Rattle.fil_lower.specs.inside.Lowered.{LoweredRun, StartsIn}
+use Rattle.fil_lower.specs.inside.Lowering.{Lowering, argument_set, argument_sets, lowered_value}
+use Rattle.fil_lower.specs.inside.Plan.{Plan, Slot, Use}
+use Rattle.fil_lower.specs.inside.PlanOf.{plan_of}
+use Rattle.fil_lower.specs.inside.PlanRules.{IsEvent, IsWellTimed}
 use Rattle.fil_lower.proofs.CellLemmas.{elsewhere_pin}
 use Rattle.fil_lower.proofs.ListLemmas.{contains_none, first_or_later}
 use Rattle.fil_lower.proofs.NameLemmas.{first_differs, later_distinct, same_element, same_name, sig_names}
@@ -85,6 +87,43 @@ module _ (comps : Design) (rules : FilRules comps) (n : ℕ) (c : Component) (he
       ]) in
       ap (λ (o : Option TimedPort). option_map_or (opened_by plan seen r call.slots) o false) port
       ∙ ap (λ (o : Option Slot). option_map_or (λ (s : Slot). opened_at plan seen r s p) o false) only
+
+  -- ---- in the rows of a run
+
+  module _ (own : Text → Text) (cell : Text → Text → Text) (height : ℕ) (trace : Trace) where
+    abbrev seen : Text → ℕ → ℕ
+    seen go u = trace u (own go)
+
+    -- its rows, where arguments drive so
+    abbrev pub fed_run : LoweredRun
+    fed_run = record { own = own; cell = cell; feeds = feeds_of plan seen; height = height; trace = trace }
+
+    pub fed_rows : (r : ℕ) (call : Use) → Contains plan.uses call → (slot : Slot) → Contains call.slots slot → (p : TimedPort) → Contains (plan.callee call.inst).sig.ins p → p.event ≡ slot.target →
+        (event : TimedEvent) (go : Text) → IsEvent plan.sig slot.event event → event.go ≡ Some go →
+        (fed_run.feeds call p.name r ≡ true) ↔ ((u : ℕ) × StartsIn plan fed_run slot.event u × (u + slot.plus + p.from ≤ r) × (r < u + slot.plus + end_of p slot.hold))
+    fed_rows r call has slot has_slot p has_p on event go is is_go =
+        let count = slot.plus + end_of p slot.hold - (slot.plus + p.from) in
+        let opened : fed_run.feeds call p.name r ≡ was_on_in (seen go) r (slot.plus + p.from) count =
+        feeds_is seen call has p has_p slot has_slot (sym on) r
+        ∙ ap (λ (o : Option TimedEvent). option_map_or (λ (e : TimedEvent). option_map_or (λ go. was_on_in (seen go) r (slot.plus + p.from) count) e.go true) o true) is
+        ∙ ap (λ (o : Option Text). option_map_or (λ go. was_on_in (seen go) r (slot.plus + p.from) count) o true) is_go in (
+          (λ fed.
+              let m = was_on_start (seen go) r (slot.plus + p.from) count (sym opened ∙ fed) in
+              (m.0, record { event = event; is = is; go = go; has = is_go; on = m.1 }, omega (arith, m.2), omega (arith, m.2, m.3))),
+          λ m.
+              let s = m.1 in
+              let same : event ≡ s.event = same_Some event s.event (sym is ∙ s.is) in
+              let name : s.go ≡ go = same_Some s.go go (sym s.has ∙ sym (ap (λ (e : TimedEvent). e.go) same) ∙ is_go) in
+              opened ∙ start_was_on (seen go) r (slot.plus + p.from) count m.0 (ap (λ (x : Text). seen x m.0) (sym name) ∙ s.on) (omega (arith, m.2)) (omega (arith, m.2, m.3)),
+        )
+
+    pub always_fed : (r : ℕ) (call : Use) → Contains plan.uses call → (slot : Slot) → Contains call.slots slot → (p : TimedPort) → Contains (plan.callee call.inst).sig.ins p → p.event ≡ slot.target →
+        (event : TimedEvent) → IsEvent plan.sig slot.event event → event.go ≡ None → fed_run.feeds call p.name r ≡ true
+    always_fed r call has slot has_slot p has_p on event is none =
+        let count = slot.plus + end_of p slot.hold - (slot.plus + p.from) in
+        feeds_is seen call has p has_p slot has_slot (sym on) r
+        ∙ ap (λ (o : Option TimedEvent). option_map_or (λ (e : TimedEvent). option_map_or (λ go. was_on_in (seen go) r (slot.plus + p.from) count) e.go true) o true) is
+        ∙ ap (λ (o : Option Text). option_map_or (λ go. was_on_in (seen go) r (slot.plus + p.from) count) o true) none
 
 -- ---- which argument drives a port
 

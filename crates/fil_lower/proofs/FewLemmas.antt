@@ -30,10 +30,10 @@ use Rattle.fil_ast.specs.Tree.{DataPort, Design, Event}
 use Rattle.fil_ast.specs.Wires.{whole_scope}
 use Rattle.fil_fsm.specs.Chain.{bit_of, chain_sets, takes}
 use Rattle.fil_fsm.proofs.DelayLemmas.{local_values-filter}
-use Rattle.fil_lower.specs.Lowered.{source_in}
-use Rattle.fil_lower.specs.Lowering.{Lowering, go_of, last_bit, lowered_component, lowered_sets, lowering_with, registers_of, starting_bits, wanted_by}
-use Rattle.fil_lower.specs.Plan.{Plan, Use}
-use Rattle.fil_lower.specs.PlanOf.{plan_of}
+use Rattle.fil_lower.specs.inside.Lowered.{source_in}
+use Rattle.fil_lower.specs.inside.Lowering.{Lowering, go_of, last_bit, lowered_component, lowered_sets, lowering_with, registers_of, starting_bits, wanted_by}
+use Rattle.fil_lower.specs.inside.Plan.{Plan, Use}
+use Rattle.fil_lower.specs.inside.PlanOf.{plan_of}
 use Rattle.fil_lower.proofs.ArgumentLemmas.{arguments_are}
 use Rattle.fil_lower.proofs.AvailableLemmas.{found_passes}
 use Rattle.fil_lower.proofs.BackLemmas.{register_cell}

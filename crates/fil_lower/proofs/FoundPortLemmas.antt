@@ -25,8 +25,8 @@ use Rattle.fil_ast.specs.Scope.{Instance, instance_signature}
 use Rattle.fil_ast.specs.Signature.{Signature}
 use Rattle.fil_ast.specs.Tree.{Component, Design}
 use Rattle.fil_fsm.specs.Chain.{register}
-use Rattle.fil_fsm.specs.Refines as wires
-use Rattle.fil_lower.specs.Lowering.{HasNewRegisters, IsLoweringOf, Lowering, Registers, all_registers, lowered_cell, lowered_component, lowering_with}
+use Rattle.fil_promise.specs.Refines as wires
+use Rattle.fil_lower.specs.inside.Lowering.{HasNewRegisters, IsLoweringOf, Lowering, Registers, all_registers, lowered_cell, lowered_component, lowering_with}
 use Rattle.fil_lower.proofs.CallLemmas.{sound_at}
 use Rattle.fil_lower.proofs.LoweredLemmas.{component_cell, instance_cell, new_names, primitive_cell, register_cell, register_made}
 use Rattle.fil_lower.proofs.MadeLemmas.{OfComponent, OfPrimitive, found_by_name, is_instance}

@@ -6,9 +6,9 @@ use Rattle.std.specs.Prelude.{◌==◌, AllPairs, Contains, bytes_eq, flat_map}
 use Rattle.hw_prims.specs.Row.{Text}
 use Rattle.hw_prims.specs.Timed.{NeverOverlap, Chosen, Delay, Fixed, HasDelay, AreLegalTransactions, TimedEvent, TimedSignature, Transaction}
 use Rattle.fil_share.proofs.ListLemmas.{two_of}
-use Rattle.fil_lower.specs.Laws.{InnerListsAreLegal}
-use Rattle.fil_lower.specs.Plan.{Plan, Slot, Use}
-use Rattle.fil_lower.specs.PlanRules.{AreShared, IsEvent, IsSharedBy, IsWellTimed, given_by, given_by_slot, given_by_use, given_transactions}
+use Rattle.fil_lower.specs.inside.Laws.{InnerListsAreLegal}
+use Rattle.fil_lower.specs.inside.Plan.{Plan, Slot, Use}
+use Rattle.fil_lower.specs.inside.PlanRules.{AreShared, IsEvent, IsSharedBy, IsWellTimed, given_by, given_by_slot, given_by_use, given_transactions}
 use Rattle.fil_lower.proofs.ListLemmas.{contains_in_flat, contains_in_if, first_or_later, from_flat, from_if, contains_none, pairs_flat, pairs_if, pairs_more, pairs_of_one}
 
 -- where a transaction of an instance comes from

@@ -1,22 +1,21 @@
 -- In a design that keeps the rules and the limits, the inputs of each instance are good.
-use Rattle.std.proofs.Common.{◌≡◌, ℕ, ◌<◌, ◌≤◌, Bool, true, false, List, [], ◌∷◌, length, map, filter, take, get_or, slice_get, All, Option, Some, None, option_map, refl, sym, ap, subst, ◌∙◌, arith}
+use Rattle.std.proofs.Common.{◌≡◌, ℕ, ◌<◌, ◌≤◌, Bool, true, false, List, [], ◌∷◌, length, filter, take, get_or, All, Option, Some, None, option_map, refl, ap, subst, arith}
 use Rattle.std.specs.Option.{option_and_then}
 use Rattle.std.specs.Prelude.{if◌then◌else◌}
 use Rattle.std.proofs.lemmas.List.Elements.{All-contains, All-take}
 use Rattle.std.proofs.lemmas.Option.{none-some, option_and_then_some, same_Some, slice_get-get_or}
 use Rattle.hw_names.specs.Name.{Text}
 use Rattle.hw_prims.specs.Filament.{is_data_pin}
-use Rattle.hw_prims.specs.Table.{Pin, inputs_of}
+use Rattle.hw_prims.specs.Table.{inputs_of}
 use Rattle.hw_prims.specs.declared.prim.Primitive.{Primitive}
 use Rattle.fil_ast.specs.Items.{TheSignature}
 use Rattle.fil_ast.specs.Limits.{HasSmallOffsets}
 use Rattle.fil_ast.specs.Primitives.{filament_primitive, input_port, is_filament_primitive, primitive_signature, signature_by, timing_of}
 use Rattle.fil_ast.specs.Rules.{F1, FilRules}
 use Rattle.fil_ast.specs.Scope.{Scope, bare_signature, component_named, instance_named, signature_in}
-use Rattle.fil_ast.specs.Signature.{SigPort, Signature, component_signature, event_number, sig_port}
+use Rattle.fil_ast.specs.Signature.{Signature, component_signature, event_number, sig_port}
 use Rattle.fil_ast.specs.Tree.{Component, DataPort, Design, component_tree, design_of, port_tree}
 use Rattle.fil_ast.specs.Typing.{IsInterval}
-use Rattle.fil_ast.specs.declared.tree.FilComp.{FilComp}
 use Rattle.fil_ast.specs.declared.tree.FilDesign.{FilDesign}
 use Rattle.hw_limits.specs.declared.limits.TheConstants.{MOST_OFFSET}
 use Rattle.fil_share.proofs.CalleeLemmas.{named_among}

@@ -23,8 +23,8 @@ use Rattle.fil_ast.specs.Signature.{SigPort, Signature, component_signature, sig
 use Rattle.fil_ast.specs.Tree.{Component, DataPort, Design, Interface, ValueTree, InputValue, OutputValue, Literal}
 use Rattle.fil_ast.specs.Typing.{value_width}
 use Rattle.fil_ast.specs.Wires.{whole_scope}
-use Rattle.fil_fsm.specs.Refines as wires
-use Rattle.fil_lower.specs.Lowering.{HasNewRegisters, IsLoweringOf, Lowering, Registers, any_of, lowered_component, lowered_value, lowering_with}
+use Rattle.fil_promise.specs.Refines as wires
+use Rattle.fil_lower.specs.inside.Lowering.{HasNewRegisters, IsLoweringOf, Lowering, Registers, any_of, lowered_component, lowered_value, lowering_with}
 use Rattle.fil_lower.proofs.AvailableLemmas.{found_passes, mapped_from}
 use Rattle.fil_lower.proofs.CallLemmas.{found_among, sound_at}
 use Rattle.fil_lower.proofs.GuardBitLemmas.{IsBit, Later, Start, IsGuard, Always, Where}

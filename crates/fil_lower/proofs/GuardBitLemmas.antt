@@ -20,7 +20,7 @@ use Rattle.fil_ast.specs.Timeline.{Interval, Use, interval_at}
 use Rattle.fil_ast.specs.Tree.{Event, Interface}
 use Rattle.fil_fsm.specs.Chain.{bit_of, chain_bits}
 use Rattle.fil_share.proofs.ListLemmas.{Contains-at}
-use Rattle.fil_lower.specs.Lowering.{Lowering, HasEnoughBits, all_registers, any_of, bit_at, bits_from, bits_of, during, go_of, inputs_of_callee, last_bit, registers_of, wanted_by, wants_in}
+use Rattle.fil_lower.specs.inside.Lowering.{Lowering, HasEnoughBits, all_registers, any_of, bit_at, bits_from, bits_of, during, go_of, inputs_of_callee, last_bit, registers_of, wanted_by, wants_in}
 use Rattle.fil_lower.proofs.ListLemmas.{contains_in_flat, contains_in_if, contains_none, first_or_later, in_filter}
 use Rattle.fil_lower.proofs.NameLemmas.{from_map, same_name}
 use Rattle.fil_lower.proofs.TimedAsLemmas.{contains_map, number_of}

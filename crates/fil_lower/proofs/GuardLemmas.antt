@@ -20,7 +20,7 @@ use Rattle.fil_ast.specs.Tree.{Event}
 use Rattle.fil_fsm.specs.Chain.{bit_of, chain_bits}
 use Rattle.fil_fsm.specs.Delays.{IsDelayed}
 use Rattle.fil_fsm.proofs.DelayLemmas.{chains_delay}
-use Rattle.fil_lower.specs.Lowering.{Lowering, any_of, bit_at, bits_from, bits_of, during, go_of, inputs_of_callee, last_bit, lowered_component, lowering_with, registers_of, wanted_by, wants_in}
+use Rattle.fil_lower.specs.inside.Lowering.{Lowering, any_of, bit_at, bits_from, bits_of, during, go_of, inputs_of_callee, last_bit, lowered_component, lowering_with, registers_of, wanted_by, wants_in}
 use Rattle.fil_lower.proofs.BitLemmas.{any_of_holds, bits_were_on, was_on, was_on_in}
 use Rattle.fil_lower.proofs.ChainLemmas.{has_chain, plain_registers, registers_at}
 use Rattle.fil_lower.proofs.ListLemmas.{contains_in_flat, contains_none, first_or_later}

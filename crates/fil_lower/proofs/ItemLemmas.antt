@@ -11,7 +11,7 @@ use Rattle.hw_prims.specs.Table.{is_primitive, pin}
 use Rattle.hw_prims.specs.declared.prim.Primitive.TheVariants.{StdReg}
 use Rattle.cal_ast.specs.Items.{Item, TheSignature, TheCell, TheAssignment, TheStatement, each_after, items_of}
 use Rattle.cal_ast.specs.Naming as calyx_names
-use Rattle.cal_ast.specs.Naming.{HasNewNames, Unreserved, IsKnownCell, IsNewCell, Reaches, Itself, Over, cell_names}
+use Rattle.cal_ast.specs.Naming.{HasNewNames, Unreserved, IsKnownCell, IsNewCell, Involves, Itself, Over, cell_names}
 use Rattle.cal_ast.specs.Ports as ports
 use Rattle.cal_ast.specs.Ports.{part_of, primitive_of}
 use Rattle.cal_ast.specs.Rules.{KeepsComponent, KeepsRules, Keeps, Rule, C1, C2, C3, C4, C5, C6, all_rules}
@@ -28,7 +28,7 @@ use Rattle.fil_ast.specs.Typing as types
 use Rattle.fil_fsm.specs.Chain.{register}
 use Rattle.fil_share.proofs.ListLemmas.{Contains-at}
 use Rattle.fil_share.proofs.MakesLemmas.{map_take}
-use Rattle.fil_lower.specs.Lowering.{IsLoweringOf, Lowering, lowered_cell, lowered_component}
+use Rattle.fil_lower.specs.inside.Lowering.{IsLoweringOf, Lowering, lowered_cell, lowered_component}
 use Rattle.fil_lower.proofs.AssignmentLemmas.{sets_good}
 use Rattle.fil_lower.proofs.CallLemmas.{sound_at}
 use Rattle.fil_lower.proofs.DesignLemmas.{names_distinct}
@@ -102,7 +102,7 @@ module _ (comps : Design) (rules : FilRules comps) (design : calyx.Design) (lowe
                 (k.m, k.below, sub_lw.there ∙ ap Some same)
           ]
 
-  reach_above : (n : ℕ) (c : Component) → slice_get comps n ≡ Some c → (part : calyx.Component) → Reaches design c.name part → (m : ℕ) → slice_get design m ≡ Some part → n ≤ m
+  reach_above : (n : ℕ) (c : Component) → slice_get comps n ≡ Some c → (part : calyx.Component) → Involves design c.name part → (m : ℕ) → slice_get design m ≡ Some part → n ≤ m
   reach_above n c here part (Itself part' same) m at =
       let D : List Text → Type 0 = AreDistinct in
       let name_of : calyx.Component → Text = λ d. d.name in

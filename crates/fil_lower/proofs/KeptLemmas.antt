@@ -1,11 +1,11 @@
 -- Trees and their numbers stay where names keep their texts.
-use Rattle.std.proofs.Common.{◌≡◌, ◌<◌, ◌≤◌, List, [], ◌∷◌, length, map, Option, Some, None, option_map, IfSome, All, refl, sym, ap, ap₂, subst, ◌∙◌, arith}
+use Rattle.std.proofs.Common.{◌≡◌, List, [], ◌∷◌, map, Option, Some, None, option_map, IfSome, All, refl, sym, ap, ap₂, subst, ◌∙◌, arith}
 use Rattle.std.proofs.lemmas.List.Elements.{All-head, All-nil, All-tail, All-weaker}
 use Rattle.hw_names.proofs.NameLemmas.{length-KeepsTexts, text_of-KeepsTexts}
 use Rattle.hw_names.specs.Name.{KeepsTexts, Text, text_of}
 use Rattle.hw_names.specs.declared.names.NameId.{NameId}
 use Rattle.hw_prims.specs.Table.{Pin}
-use Rattle.net_core.specs.Guard.{GuardTree, GuardTrees, Reads, Compares, Negates, AllOf, AnyOf, MoreGuards, guard_option, guard_tree, guard_trees, source_tree}
+use Rattle.net_core.specs.Guard.{GuardTree, Reads, Compares, Negates, AllOf, AnyOf, MoreGuards, guard_option, guard_tree, guard_trees, source_tree}
 use Rattle.net_core.specs.Numbers.{IsNumberOf}
 use Rattle.net_core.specs.declared.net.Guard.{Guard, Row_of-Guard, end_of-Guard, more_of-Guard}
 use Rattle.net_core.specs.declared.net.Guard as code

@@ -26,8 +26,8 @@ use Rattle.fil_ast.specs.Tree.{Component, DataPort, Design, Interface, ValueTree
 use Rattle.fil_ast.specs.Wires as texts
 use Rattle.fil_ast.specs.Wires.{IsPortOf, OwnInput, ByInvocation, ByArgument, ByConnection, ByInstance, through_before, through_of, whole_scope}
 use Rattle.fil_fsm.specs.Chain.{register}
-use Rattle.fil_fsm.specs.Refines as wires
-use Rattle.fil_lower.specs.Lowering.{IsLoweringOf, Lowering, lowered_cell, lowered_component, lowered_value}
+use Rattle.fil_promise.specs.Refines as wires
+use Rattle.fil_lower.specs.inside.Lowering.{IsLoweringOf, Lowering, lowered_cell, lowered_component, lowered_value}
 use Rattle.fil_lower.proofs.DesignLemmas.{turned}
 use Rattle.fil_lower.proofs.EdgeLemmas.{IsEdge, BySet, Through, Inside, IsStart, cell_of, guard_bit, no_part, register_no_through, set_of}
 use Rattle.fil_lower.proofs.GuardBitLemmas.{IsBit}

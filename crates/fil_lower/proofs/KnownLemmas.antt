@@ -1,7 +1,6 @@
 -- What the rules give where assignments are made: known names, and bits that are there.
 use Rattle.std.proofs.Common.{◌≡◌, ◌≢◌, ℕ, zero, suc, ◌+◌, ◌-◌, ◌<◌, ◌≤◌, Bool, true, false, cond, max, List, [], ◌∷◌, ◌++◌, length, map, filter, flat_map, take, drop, get_or, slice_get, bytes_eq, is_some, All, inl, inr, Contains, Option, Some, None, option_map, refl, sym, ap, subst, ◌∙◌, add-one, arith}
-use Rattle.std.specs.List.{fold}
-use Rattle.std.specs.Option.{IfSome, IsSome, option_and_then, option_map_or}
+use Rattle.std.specs.Option.{IsSome, option_and_then, option_map_or}
 use Rattle.std.specs.Prelude.{if◌then◌else◌}
 use Rattle.std.proofs.lemmas.List.{length-map, map-append, take-append-drop}
 use Rattle.std.proofs.lemmas.List.Concat.{flat_map-append}
@@ -14,7 +13,6 @@ use Rattle.fil_ast.specs.Holds.{uses_of}
 use Rattle.fil_ast.specs.Items.{scope_after}
 use Rattle.fil_ast.specs.Naming.{IsKnownValue, NamesEvent, UsesKnownNames, instance_names, invocation_names}
 use Rattle.fil_ast.specs.Scope.{Instance, Invocation, Scope, instance_signature, instances_at, invocation_named, invocations_at, result_at}
-use Rattle.fil_ast.specs.Sharing.{HasInterface}
 use Rattle.fil_ast.specs.Signature.{SigEvent, SigPort, Signature, event_number, interface_of}
 use Rattle.fil_ast.specs.Timeline.{Interval, IsUse, Use, interval_at, interval_between}
 use Rattle.fil_ast.specs.Tree.{Component, Design, Event, Interface, Statement, TimeAt, New, Call, Both, Connect, ValueTree, InputValue, OutputValue, Literal}
@@ -22,7 +20,7 @@ use Rattle.fil_fsm.specs.Chain.{bit_of, chain_bits}
 use Rattle.fil_share.proofs.ListLemmas.{All-flat_map, Contains-at, Contains-here, Contains-there}
 use Rattle.fil_share.proofs.OwnLemmas.{names_of}
 use Rattle.cal_ast.specs.Tree.{PortName, own}
-use Rattle.fil_lower.specs.Lowering.{HasEnoughBits, Lowering, argument_set, argument_sets, bits_of, go_of, inputs_of_callee, last_bit, registers_of, wanted_by, wants_in}
+use Rattle.fil_lower.specs.inside.Lowering.{HasEnoughBits, Lowering, argument_set, argument_sets, bits_of, go_of, inputs_of_callee, last_bit, registers_of, wanted_by, wants_in}
 use Rattle.fil_lower.specs.inside.Place.{NamesInvocation, ShowsBody, Starts, greatest}
 use Rattle.fil_lower.specs.declared.body.Body.{Body}
 use Rattle.fil_lower.proofs.CallLemmas.{IsCalled, all_called}

@@ -27,6 +27,7 @@ pub mod ChainLemmas
 pub mod GuardLemmas
 pub mod SourceLemmas
 pub mod FeedLemmas
+pub mod InvocationLemmas
 pub mod ArgumentLemmas
 pub mod PinLemmas
 pub mod PartLemmas
@@ -53,6 +54,11 @@ pub mod PlainLemmas
 pub mod EdgeLemmas
 pub mod KindLemmas
 pub mod LoopLemmas
+pub mod BitSetLemmas
+pub mod TimedInstances
+pub mod WireLemmas
+pub mod WiredLemmas
+pub mod LowersLemmas
 pub mod StepLemmas
 pub mod AnyGuardLemmas
 pub mod PortNameLemmas

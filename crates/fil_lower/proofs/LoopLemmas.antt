@@ -12,7 +12,7 @@ use Rattle.cal_ast.specs.Ports.{is_bare}
 use Rattle.cal_ast.specs.Tree as calyx
 use Rattle.cal_ast.specs.Tree.{CellDef, PortName, own, port_of}
 use Rattle.cal_ast.specs.Wires as wiring
-use Rattle.cal_ast.specs.Wires.{ReadsPort, Reaches, AtOnce, Over, shown, set_ports}
+use Rattle.cal_ast.specs.Wires.{ReadsPort, Reaches, Straight, Over, shown, set_ports}
 use Rattle.cal_ast.proofs.LocalLemmas.{same_port}
 use Rattle.cal_ast.proofs.LookupLemmas.{cell_outputs-part, cell_outputs-primitive}
 use Rattle.cal_ast.proofs.PlainLemmas.{plain_readable}
@@ -23,8 +23,8 @@ use Rattle.fil_ast.specs.Tree.{Component, DataPort, Design}
 use Rattle.fil_ast.specs.Wires as texts
 use Rattle.fil_ast.specs.Wires.{through_before, whole_scope}
 use Rattle.fil_share.proofs.ListLemmas.{Contains-at}
-use Rattle.fil_lower.specs.Lowering.{IsLoweringOf, Lowering, lowered_component}
-use Rattle.fil_lower.specs.LoweringLaws.{LoweringsAreWired}
+use Rattle.fil_lower.specs.inside.Lowering.{IsLoweringOf, Lowering, lowered_component}
+use Rattle.fil_lower.specs.inside.LoweringLaws.{LoweringsAreWired}
 use Rattle.fil_lower.proofs.EdgeLemmas.{IsEdge, BySet, Through, Inside, IsStart, bit_reads_nothing, edge_is, interface_no_input, own_or_cell, start_reads_bits}
 use Rattle.fil_lower.proofs.GuardBitLemmas.{IsBit, Later, Start}
 use Rattle.fil_lower.proofs.ItemLemmas.{keeps_all}
@@ -67,7 +67,7 @@ module _ (comps : Design) (rules : FilRules comps) (design : calyx.Design) (lowe
     -- ---- what reaches a data input
 
     first_edge : (x : calyx.Component) (p t : PortName) → x ≡ low → Reaches design x p t → (q : PortName) × IsEdge design low p q
-    first_edge x p t same (AtOnce y p' t' edge) = (t, edge_is comps rules design lowered n c here y p t same edge)
+    first_edge x p t same (Straight y p' t' edge) = (t, edge_is comps rules design lowered n c here y p t same edge)
     first_edge x p t same (Over y p' q t' edge rest) = (q, edge_is comps rules design lowered n c here y p q same edge)
 
     -- from a bit nothing is reached, and from an interface port of an instance bits alone
@@ -75,14 +75,14 @@ module _ (comps : Design) (rules : FilRules comps) (design : calyx.Design) (lowe
     not_bit x q t same is reaches = let e = first_edge x q t same reaches in bit_reads_nothing comps rules design lowered n c here q e.0 is e.1
 
     not_start : (x : calyx.Component) (q t : PortName) → x ≡ low → (IsBit l t → ⊥) → IsStart comps rules design lowered n c here q → Reaches design x q t → ⊥
-    not_start x q t same no_bit is (AtOnce y q' t' edge) = no_bit (start_reads_bits comps rules design lowered n c here q t is (edge_is comps rules design lowered n c here y q t same edge))
+    not_start x q t same no_bit is (Straight y q' t' edge) = no_bit (start_reads_bits comps rules design lowered n c here q t is (edge_is comps rules design lowered n c here y q t same edge))
     not_start x q t same no_bit is (Over y q' r t' edge rest) =
         not_bit y r t same (start_reads_bits comps rules design lowered n c here q r is (edge_is comps rules design lowered n c here y q r same edge)) rest
 
     path_text : (x : calyx.Component) (p t : PortName) → x ≡ low → (IsBit l t → ⊥) → (IsStart comps rules design lowered n c here t → ⊥) → Reaches design x p t → texts.Reaches (through_before (take n comps)) l.scope (shown t) (shown p)
-    path_text x p t same no_bit no_start (AtOnce y p' t' edge) =
+    path_text x p t same no_bit no_start (Straight y p' t' edge) =
         elim (kind p t (edge_is comps rules design lowered n c here y p t same edge)) [
-          | InText reads ↦ texts.AtOnce (shown p) reads
+          | InText reads ↦ texts.Straight (shown p) reads
           | ToBit is ↦ absurd (no_bit is)
           | ToStart is ↦ absurd (no_start is)
         ]

@@ -27,7 +27,7 @@ use Rattle.fil_ast.specs.Tree.{Component, Design}
 use Rattle.fil_fsm.specs.Chain.{register}
 use Rattle.fil_share.proofs.ListLemmas.{AllPairs-append, Contains-at}
 use Rattle.fil_share.proofs.OwnLemmas.{names_of}
-use Rattle.fil_lower.specs.Lowering.{HasEnoughBits, HasNewRegisters, IsLoweringOf, Lowering, Registers, all_registers, lowered_cell, lowered_component, lowering_with}
+use Rattle.fil_lower.specs.inside.Lowering.{HasEnoughBits, HasNewRegisters, IsLoweringOf, Lowering, Registers, all_registers, lowered_cell, lowered_component, lowering_with}
 use Rattle.fil_lower.proofs.DesignLemmas.{names_distinct}
 use Rattle.fil_lower.proofs.ListLemmas.{contains_in_flat, from_flat}
 use Rattle.fil_lower.proofs.MadeLemmas.{OfPrimitive, OfComponent, found_by_name}

@@ -11,7 +11,7 @@ use Rattle.cal_ast.specs.Tree.{Assignment}
 use Rattle.fil_ast.specs.Plain.{HasPlainTree}
 use Rattle.fil_ast.specs.Rules.{FilRules}
 use Rattle.fil_ast.specs.Tree.{Component, Design}
-use Rattle.fil_lower.specs.Lowering.{HasEnoughBits, HasNewRegisters, IsLoweringOf, Registers, lowered_component, lowered_sets, lowering_with}
+use Rattle.fil_lower.specs.inside.Lowering.{HasEnoughBits, HasNewRegisters, IsLoweringOf, Registers, lowered_component, lowered_sets, lowering_with}
 
 -- a design that keeps the rules, and its lowering; the names of both are plain
 pub record LoweredPair : Type 0 where

@@ -3,18 +3,18 @@ use Rattle.std.proofs.Common.{◌≡◌, ℕ, zero, suc, ◌+◌, ◌-◌, ◌<�
 use Rattle.std.proofs.lemmas.Bool.{cases_lt}
 use Rattle.std.specs.Prelude.{Contains, if◌then◌else◌}
 use Rattle.hw_prims.specs.Row.{Text}
-use Rattle.hw_prims.specs.Timed.{CarriesInputs, CarriesStarts, Covers, HasInputs, AreLegalTransactions, IsTimed, TimedEvent, TimedPort, Transaction, end_of}
-use Rattle.fil_lower.specs.Laws.{AreTimed, InstancesCarry, LoweredComponentsAreTimed}
-use Rattle.fil_lower.specs.Lowered.{IsLowered, LoweredRun, StartsIn, source_in}
-use Rattle.fil_lower.specs.Plan.{Input, Literal, Output, Plan, Slot, Source, Use, value_of}
-use Rattle.fil_lower.specs.PlanRules.{IsAvailable, IsEvent, IsOfUse, IsWellTimed, given_by, given_transactions}
-use Rattle.fil_lower.proofs.DriveLemmas.{driven_by, start_by, start_of}
+use Rattle.fil_lower.proofs.DriveLemmas.{Acts, driven_by, lowered_acts, start_by, start_of}
+use Rattle.fil_lower.specs.inside.Laws.{AreTimed, InstancesCarry, LoweredComponentsAreTimed}
+use Rattle.fil_lower.specs.inside.Lowered.{LoweredRun, StartsIn, source_in}
+use Rattle.fil_lower.specs.inside.Plan.{Input, Literal, Output, Plan, Slot, Source, Use, behaviour_of_plan, value_of}
+use Rattle.fil_lower.specs.inside.PlanRules.{IsAvailable, IsEvent, IsOfUse, IsWellTimed, given_by, given_transactions}
+use Rattle.hw_prims.specs.Timed.{AreLegalTransactions, CarriesInputs, CarriesOutputs, CarriesStarts, Covers, HasInputs, IsTimed, TimedEvent, TimedPort, Transaction, end_of}
 use Rattle.fil_lower.proofs.GivenLemmas.{comes_from, given_legal, is_given, same_event}
 
 fixed_end : (p : TimedPort) (hold : ℕ) → p.stays ≡ false → end_of p hold ≡ p.to
 fixed_end p hold fixed = ap (λ b. p.to + (if b then hold else 0)) fixed ∙ omega arith
 
-module _ (plan : Plan) (well : IsWellTimed plan) (run : LoweredRun) (low : IsLowered plan run) (txs : List Transaction) (legal : AreLegalTransactions plan.sig txs) where
+module _ (plan : Plan) (well : IsWellTimed plan) (run : LoweredRun) (low : Acts plan run) (txs : List Transaction) (legal : AreLegalTransactions plan.sig txs) where
   -- an instance starts exactly where it is given a transaction
   inner_starts : (r : ℕ) → r < run.height → ((s : ℕ) → s ≤ r → CarriesStarts plan.sig run.own (run.trace s) txs s) → (inst : Text) →
       CarriesStarts (plan.callee inst).sig (run.cell inst) (run.trace r) (given_transactions plan txs inst) r
@@ -121,8 +121,8 @@ starts_up_to plan run txs r carried now s within =
           subst (λ u. CarriesStarts plan.sig run.own (run.trace u) txs u) same now
     ]
 
-pub lowered_is_timed : LoweredComponentsAreTimed
-lowered_is_timed plan well run low timed txs legal r below carried now tx of_tx has p of_p covers =
+pub acts_timed : (plan : Plan) → IsWellTimed plan → (run : LoweredRun) → Acts plan run → AreTimed plan run → IsTimed (behaviour_of_plan plan) run.own run.height run.trace
+acts_timed plan well run low timed txs legal r below carried now tx of_tx has p of_p covers =
     let starts = starts_up_to plan run txs r carried now in
     let before = inside_before plan well run low txs legal timed r (omega arith) carried in
     let e = fixed_end p tx.hold (well.fixed_outs p of_p) in
@@ -132,8 +132,14 @@ lowered_is_timed plan well run low timed txs legal r below carried now tx of_tx 
     source_is plan well run low txs legal timed r below starts before tx of_tx has (plan.outputs p.name) (well.outputs_scoped p.name) (r - tx.start) (omega arith)
     (subst (λ v. IsAvailable plan (plan.outputs p.name) v (r - tx.start)) covers.0 (well.connected p of_p (r - tx.start) (omega arith) (omega arith)))
 
-pub instances_carry_all : InstancesCarry
-instances_carry_all plan well run low timed txs legal carried inst r below =
+pub lowered_is_timed : LoweredComponentsAreTimed
+lowered_is_timed plan well run low = acts_timed plan well run (lowered_acts plan run low)
+
+pub acts_carry : (plan : Plan) → IsWellTimed plan → (run : LoweredRun) → Acts plan run → AreTimed plan run →
+    (txs : List Transaction) → AreLegalTransactions plan.sig txs → ((r : ℕ) → r < run.height → CarriesInputs plan.sig run.own (run.trace r) txs r) →
+    (inst : Text) (r : ℕ) → r < run.height →
+    CarriesInputs (plan.callee inst).sig (run.cell inst) (run.trace r) (given_transactions plan txs inst) r × CarriesOutputs (plan.callee inst) (run.cell inst) (run.trace r) (given_transactions plan txs inst) r
+acts_carry plan well run low timed txs legal carried inst r below =
     let all = inside_before plan well run low txs legal timed run.height (omega arith) carried in (
       all r below inst,
       λ x inside.
@@ -141,3 +147,6 @@ instances_carry_all plan well run low timed txs legal carried inst r below =
           let t = subst (λ n. IsTimed (plan.callee n) (run.cell n) run.height run.trace) f.by (timed f.call f.of_use) in
           t (given_transactions plan txs inst) (given_legal plan well txs legal inst) r below (λ s earlier. all s (omega arith) inst) (all r below inst).starts x inside ((all r below inst).values x inside),
     )
+
+pub instances_carry_all : InstancesCarry
+instances_carry_all plan well run low = acts_carry plan well run (lowered_acts plan run low)

@@ -31,12 +31,12 @@ use Rattle.fil_ast.specs.Signature.{Signature, component_signature}
 use Rattle.fil_ast.specs.Tree.{Component, DataPort, Design, Interface}
 use Rattle.fil_ast.specs.Wires.{whole_scope}
 use Rattle.fil_fsm.specs.Chain.{register}
-use Rattle.fil_fsm.specs.Refines as calyx_ports
+use Rattle.fil_promise.specs.Refines as calyx_ports
 use Rattle.fil_share.proofs.CalleeLemmas.{named_among}
 use Rattle.fil_share.proofs.ListLemmas.{Contains-at, slice_get-take}
 use Rattle.fil_share.proofs.Lookup.{find_at_place}
-use Rattle.fil_lower.specs.Lowering.{IsLoweredTo, lowered_cell, lowered_component, lowering_with}
-use Rattle.fil_lower.specs.PlanOf.{callee_of}
+use Rattle.fil_lower.specs.inside.Lowering.{IsLoweredTo, lowered_cell, lowered_component, lowering_with}
+use Rattle.fil_lower.specs.inside.PlanOf.{callee_of}
 use Rattle.fil_lower.proofs.AvailableLemmas.{found_passes}
 use Rattle.fil_lower.proofs.CallLemmas.{found_among, sound_at}
 use Rattle.fil_lower.proofs.CalleeLemmas.{bare}

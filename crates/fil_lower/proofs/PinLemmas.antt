@@ -21,11 +21,11 @@ use Rattle.hw_prims.specs.declared.prim.Primitive.{Primitive}
 use Rattle.hw_prims.specs.declared.prim.Primitive.TheVariants.{StdMemD1, StdMemD2, StdMultPipe, StdReg}
 use Rattle.fil_ast.specs.Behaviours.{timed_event, timed_port, timed_signature}
 use Rattle.fil_ast.specs.Naming.{HasNewNames, NamesEvents}
-use Rattle.fil_ast.specs.Primitives.{Timing, input_port, register_timing, signature_by, timing}
+use Rattle.fil_ast.specs.Primitives.{Timing, register_timing, signature_by, timing}
 use Rattle.fil_ast.specs.Signature.{SigEvent, SigPort, Signature, component_signature, event_number, interface_of, sig_event, sig_port}
 use Rattle.fil_ast.specs.Tree.{Component, DataPort, Design, Event, Interface}
 use Rattle.fil_ast.specs.Typing.{HasShape}
-use Rattle.fil_fsm.specs.Refines as calyx_ports
+use Rattle.fil_promise.specs.Refines as calyx_ports
 use Rattle.fil_share.proofs.ListLemmas.{AllPairs-left, Contains-here, Contains-there}
 use Rattle.fil_lower.proofs.AvailableLemmas.{mapped_from}
 use Rattle.fil_lower.proofs.GuardLemmas.{filtered_has}
@@ -42,10 +42,6 @@ pub record HasPins (b : TimedSignature) (sig : Signature) (pins : List Text) : T
   -- no data input is an interface port, and an interface port is that of one event
   pub apart : (p : TimedPort) → Contains b.ins p → (k : ℕ) (event : TimedEvent) (go : Text) → slice_get b.events k ≡ Some event → event.go ≡ Some go → p.name ≡ go → ⊥
   pub one_go : (k j : ℕ) (e f : SigEvent) (go : Text) → slice_get sig.events k ≡ Some e → e.go ≡ Some go → slice_get sig.events j ≡ Some f → f.go ≡ Some go → k ≡ j
-  -- both have the same interface ports
-  pub event_is : (k : ℕ) (event : TimedEvent) → slice_get b.events k ≡ Some event → (e : SigEvent) × (slice_get sig.events k ≡ Some e) × (e.go ≡ event.go)
-  pub go_is : (k : ℕ) (e : SigEvent) (go : Text) → slice_get sig.events k ≡ Some e → e.go ≡ Some go → (event : TimedEvent) × (slice_get b.events k ≡ Some event) × (event.go ≡ Some go)
-  pub ins_are : b.ins ≡ map timed_port sig.ins
   pub plain : All IsPlain pins
 
 -- ---- primitives
@@ -114,14 +110,12 @@ module _ (prim : Primitive) where
   not_both true is fails = false≢true fails
   not_both false is fails = false≢true is
 
-  -- what is known of a signature's events
-  record HasGo (sig : Signature) : Type 0 where
-    first : (e : SigEvent) × (slice_get sig.events 0 ≡ Some e) × (e.go ≡ go_of prim)
-    only : (k : ℕ) (e : SigEvent) (go : Text) → slice_get sig.events k ≡ Some e → e.go ≡ Some go → k ≡ 0
-    ins : sig.ins ≡ map input_port (data_inputs prim)
+  -- the first event alone has an interface port
+  abbrev HasOneGo : Signature → Type 0
+  HasOneGo sig = (k : ℕ) (e : SigEvent) (go : Text) → slice_get sig.events k ≡ Some e → e.go ≡ Some go → k ≡ 0
 
-  primitive_pins_by : (sig : Signature) → is_timed prim ≡ true → HasGo sig → HasPins (filament.timed_signature prim) sig (pin_names (inputs_of prim))
-  primitive_pins_by sig timed has = record {
+  primitive_pins_by : (sig : Signature) → is_timed prim ≡ true → HasOneGo sig → HasPins (filament.timed_signature prim) sig (pin_names (inputs_of prim))
+  primitive_pins_by sig timed only = record {
     data_pin = λ p has_p.
         let m = from_map needed (data_inputs prim) p has_p in
         subst (λ (name : Text). Contains (pin_names (inputs_of prim)) name) (ap (λ (x : TimedPort). x.name) m.2)
@@ -140,15 +134,7 @@ module _ (prim : Primitive) where
         let passes = (from_filter is_data_pin (inputs_of prim) m.0 m.1).1 in
         let name : m.0.name ≡ go = ap (λ (x : TimedPort). x.name) m.2 ∙ same in
         not_both (is_data_pin (pin go 1)) (sym (ap (λ (x : Text). is_data_pin (pin x 1)) name) ∙ passes) (go_there go ((first_go k event at).1 ∙ is)).1;
-    one_go = λ k j e f go at_k is_k at_j is_j. has.only k e go at_k is_k ∙ sym (has.only j f go at_j is_j);
-    event_is = λ k event at.
-        let f = first_go k event at in
-        (has.first.0, ap (slice_get sig.events) f.0 ∙ has.first.1, has.first.2 ∙ f.1);
-    go_is = λ k e go at is.
-        let zero_at = has.only k e go at is in
-        let same : has.first.0 ≡ e = same_Some has.first.0 e (sym has.first.1 ∙ ap (slice_get sig.events) (sym zero_at) ∙ at) in
-        (record { delay = delay_of prim; go = go_of prim }, ap (slice_get (filament.timed_signature prim).events) zero_at, sym has.first.2 ∙ ap (λ (x : SigEvent). x.go) same ∙ is);
-    ins_are = sym (ap (map timed_port) has.ins ∙ map-map timed_port input_port (data_inputs prim));
+    one_go = λ k j e f go at_k is_k at_j is_j. only k e go at_k is_k ∙ sym (only j f go at_j is_j);
     plain = primitive_names_plain prim;
   }
 
@@ -156,18 +142,9 @@ one_event_only : (events : List SigEvent) (e : SigEvent) → events ≡ e ∷ []
 one_event_only events e is zero f at = refl
 one_event_only events e is (suc k) f at = absurd (none-some f (sym (ap (λ (es : List SigEvent). slice_get es (suc k)) is) ∙ at))
 
-go_by_timing : (t : Timing) (prim : Primitive) → IsTiming t prim → HasGo prim (signature_by t prim)
-unfolding go_of
-go_by_timing t prim (Plain rows latency go prim' some timed fixed is_go port) = record {
-  first = (_, refl, sym is_go);
-  only = λ k e g at is. one_event_only (timing rows go latency).events _ refl k e at;
-  ins = refl;
-}
-go_by_timing t prim (Register w) = record {
-  first = (_, refl, refl);
-  only = λ k e g at is. register_go k e g at is;
-  ins = refl;
-}
+go_by_timing : (t : Timing) (prim : Primitive) → IsTiming t prim → HasOneGo prim (signature_by t prim)
+go_by_timing t prim (Plain rows latency go prim' some timed fixed is_go port) = λ k e g at is. one_event_only (timing rows go latency).events _ refl k e at
+go_by_timing t prim (Register w) = register_go
   where
     register_go : (k : ℕ) (e : SigEvent) (g : Text) → slice_get register_timing.events k ≡ Some e → e.go ≡ Some g → k ≡ 0
     register_go zero e g at is = refl
@@ -283,8 +260,5 @@ module _ (earlier : Design) (d : Component) (names : HasNewNames earlier d) (eve
         let same : b.0.name ≡ a.0.name = sym b.4 ∙ ap (λ (g : Interface). g.event) (sym one) ∙ a.4 in
         same_number (map name_of d.events) k j a.0.name names.events
         (slice_get-map name_of d.events k ∙ ap (option_map name_of) a.1) (slice_get-map name_of d.events j ∙ ap (option_map name_of) b.1 ∙ ap Some same);
-    event_is = λ k event at. let e = timed_at k event at in (e.0, e.1, ap (λ (x : TimedEvent). x.go) e.2);
-    go_is = λ k e go at is. (timed_event e, slice_get-map timed_event sig.events k ∙ ap (option_map timed_event) at, is);
-    ins_are = refl;
     plain = plain;
   }

@@ -1,12 +1,12 @@
 -- Bits of events, and ports, as they are found where assignments are made.
-use Rattle.std.proofs.Common.{◌≡◌, ◌≢◌, ℕ, zero, suc, ◌+◌, ◌-◌, ◌<◌, ◌≤◌, List, [], ◌∷◌, length, map, take, drop, get_or, slice_get, slice_index_or, All, Contains, Option, Some, None, Result, Ok, Err, Vec, option_map, refl, sym, ap, ap₂, subst, ◌∙◌, add-one, arith}
-use Rattle.std.specs.Option.{IfSome, option_map_or}
+use Rattle.std.proofs.Common.{◌≡◌, ℕ, zero, suc, ◌+◌, ◌-◌, ◌<◌, ◌≤◌, List, [], ◌∷◌, length, map, take, drop, slice_get, All, Option, Some, None, Result, Ok, Err, Vec, option_map, refl, sym, ap, ap₂, subst, ◌∙◌, arith}
+use Rattle.std.specs.Option.{option_map_or}
 use Rattle.std.specs.Prelude.{IfOk, slice_range}
 use Rattle.std.specs.declared.alloc.Global.{Global}
 use Rattle.std.proofs.Math.Seq.{drop-cons}
 use Rattle.std.proofs.lemmas.List.{length-map}
 use Rattle.std.proofs.lemmas.List.Elements.{All-drop, All-take}
-use Rattle.std.proofs.lemmas.Option.{none-some, same_Some, slice_get-map, slice_get_read, slice_get_within}
+use Rattle.std.proofs.lemmas.Option.{none-some, same_Some, slice_get-map}
 use Rattle.hw_names.proofs.NameLemmas.{length-KeepsTexts, text_of-KeepsTexts}
 use Rattle.hw_names.specs.Name.{KeepsTexts, Text, text_of}
 use Rattle.hw_names.specs.declared.names.NameId.{NameId}
@@ -25,7 +25,7 @@ use Rattle.fil_ast.specs.declared.tree.Stmt.TheVariants as stmts
 use Rattle.fil_ast.specs.declared.tree.Value.{Value}
 use Rattle.fil_ast.specs.Typing.{HasShape}
 use Rattle.fil_fsm.specs.Chain.{chain_bits}
-use Rattle.fil_lower.specs.Lowering.{Lowering, bit_at, bits_from, bits_of, connection_set, go_of, registers_of}
+use Rattle.fil_lower.specs.inside.Lowering.{Lowering, bit_at, bits_from, bits_of, connection_set, go_of, registers_of}
 use Rattle.fil_lower.specs.inside.Place.{ShowsBody, ShowsPlace, bits_shown}
 use Rattle.fil_lower.specs.declared.body.Body.{Body}
 use Rattle.fil_lower.specs.declared.place.Place.{Place}

@@ -13,11 +13,11 @@ use Rattle.fil_ast.specs.Plain.{HasPlainTree, IsPlainComponent, IsPlainInstance}
 use Rattle.fil_ast.specs.Rules.{FilRules}
 use Rattle.fil_ast.specs.Scope.{Instance}
 use Rattle.fil_ast.specs.Tree.{Component, Design}
-use Rattle.fil_fsm.specs.Chain.{IsGenerated}
-use Rattle.fil_fsm.specs.Refines as wires
+use Rattle.fil_promise.specs.Refines.{IsGenerated}
+use Rattle.fil_promise.specs.Refines as wires
 use Rattle.fil_share.proofs.ListLemmas.{All-left, All-right, Contains-at}
-use Rattle.fil_lower.specs.Lowering.{IsLoweringOf, Lowering, all_registers, lowered_component}
-use Rattle.fil_lower.specs.LoweringLaws.{LoweringsArePlain}
+use Rattle.fil_lower.specs.inside.Lowering.{IsLoweringOf, Lowering, all_registers, lowered_component}
+use Rattle.fil_lower.specs.inside.LoweringLaws.{LoweringsArePlain}
 use Rattle.fil_lower.proofs.LoweredLemmas.{IsLowered, IsCellOf, OfInstance, OfRegister, cell_is, lowered_at, lowering_at}
 use Rattle.fil_lower.proofs.SignaturePinLemmas.{component_plain}
 use Rattle.fil_lower.proofs.UseLemmas.{some_at}

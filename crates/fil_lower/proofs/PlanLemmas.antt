@@ -26,10 +26,11 @@ use Rattle.fil_ast.specs.Wires.{whole_scope}
 use Rattle.fil_share.proofs.MakesLemmas.{at_statement, names_differ}
 use Rattle.fil_share.proofs.OwnLemmas.{KeepsNames, names_of}
 use Rattle.fil_share.proofs.ListLemmas.{AllPairs-left}
-use Rattle.fil_lower.specs.Plan.{Literal, Slot, behaviour_of_plan, value_of}
-use Rattle.fil_lower.specs.PlanLaws.{AreAlike, PlansGiveTheSame, PlansPromiseTheSame}
-use Rattle.fil_lower.specs.PlanOf.{Resolved, behaviour_made, callee_of, nothing_promised, plan_of, resolved_calls, slot_of, source_of}
-use Rattle.fil_lower.specs.PlanRules.{given_by, given_by_slot, given_by_use, given_transactions}
+use Rattle.fil_lower.specs.Separate.{AreAlike}
+use Rattle.fil_lower.specs.inside.Plan.{Literal, Slot, behaviour_of_plan, value_of}
+use Rattle.fil_lower.specs.inside.PlanLaws.{PlansGiveTheSame, PlansPromiseTheSame}
+use Rattle.fil_lower.specs.inside.PlanOf.{Resolved, behaviour_made, callee_of, nothing_promised, plan_of, resolved_calls, slot_of, source_of}
+use Rattle.fil_lower.specs.inside.PlanRules.{given_by, given_by_slot, given_by_use, given_transactions}
 use Rattle.fil_lower.proofs.CalleeLemmas.{data_names, promised}
 use Rattle.fil_lower.proofs.NameLemmas.{distinct_rest, given_to}
 use Rattle.fil_lower.proofs.ResolvedLemmas.{AreResolved, IsResolved, IsThere, all_resolved, called, flows, inputs, known_there, knowns, there_still, value_is, value_of_name, whole}
@@ -37,7 +38,7 @@ use Rattle.fil_lower.proofs.ResolvedLemmas.{AreResolved, IsResolved, IsThere, al
 -- ---- two lists that agree place by place, joined
 
 module _ {X Y : Type 0} (R : X → Y → Type 0) where
-  zip_append : (xs : List X) (ys : List Y) (us : List X) (vs : List Y) → AllZip R xs ys → AllZip R us vs → AllZip R (xs ++ us) (ys ++ vs)
+  pub zip_append : (xs : List X) (ys : List Y) (us : List X) (vs : List Y) → AllZip R xs ys → AllZip R us vs → AllZip R (xs ++ us) (ys ++ vs)
   zip_append [] [] us vs first later = later
   zip_append [] (y ∷ ys) us vs first later = absurd first
   zip_append (x ∷ xs) [] us vs first later = absurd first

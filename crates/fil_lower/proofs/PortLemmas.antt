@@ -27,8 +27,8 @@ use Rattle.fil_ast.specs.Signature.{SigPort, Signature}
 use Rattle.fil_ast.specs.Tree.{Design, Statement, New, Call, Both, Connect, ValueTree}
 use Rattle.fil_ast.specs.Wires.{whole_scope}
 use Rattle.fil_share.proofs.ListLemmas.{Contains-at, Contains-here}
-use Rattle.fil_lower.specs.Lowering.{Lowering, connection_set, inputs_of_callee, invocation_sets, lowered_component, lowered_sets, lowered_value, lowering_with, register_sets, start_set, start_sets, start_sets_from, starting_bits}
-use Rattle.fil_lower.specs.PlanOf.{callee_of}
+use Rattle.fil_lower.specs.inside.Lowering.{Lowering, connection_set, inputs_of_callee, invocation_sets, lowered_component, lowered_sets, lowered_value, lowering_with, register_sets, start_set, start_sets, start_sets_from, starting_bits}
+use Rattle.fil_lower.specs.inside.PlanOf.{callee_of}
 use Rattle.fil_lower.proofs.AvailableLemmas.{found_passes}
 use Rattle.fil_lower.proofs.BitLemmas.{some_on}
 use Rattle.fil_lower.proofs.CallLemmas.{found_among}
@@ -41,8 +41,9 @@ use Rattle.fil_lower.proofs.NameLemmas.{from_map, sig_names}
 use Rattle.fil_lower.proofs.PartLemmas.{pins_here}
 use Rattle.fil_lower.proofs.PinLemmas.{HasPins}
 use Rattle.fil_lower.proofs.StartLemmas.{no_start, one_start, start_value}
-use Rattle.fil_lower.proofs.TimedAsLemmas.{contains_map, place_of}
+use Rattle.fil_lower.proofs.TimedAsLemmas.{IsTimedAs, contains_map, place_of}
 use Rattle.fil_lower.proofs.ValueLemmas.{IsElsewhere, first_value, flat_none, flat_only, flat_values, four_values, later_values, no_values}
+use Rattle.fil_lower.proofs.WellLemmas.{instance_timed}
 
 module _ (comp : LoweredComp) where
   open comp use {pair, pair.{comps, rules, plain, design, lowered}, n, c, here, registers, enough, new}
@@ -73,6 +74,10 @@ module _ (comp : LoweredComp) where
 
     pub pins : HasPins (callee_of earlier c inst).sig is.sig (pin_names (cell_inputs design low inst))
     pins = pins_here comp inst is.i is.sig is.found has_signature
+
+    -- when its ports are valid is what its signature says
+    timed_here : IsTimedAs (callee_of earlier c inst).sig is.sig
+    timed_here = instance_timed comps rules n c here inst is.i is.sig is.found has_signature
 
     among : Contains instances is.i
     among = found_among (λ (i : Instance). bytes_eq i.name inst) instances is.i is.found
@@ -125,7 +130,7 @@ module _ (comp : LoweredComp) where
         four_values see pt (register_sets l c.events) (flat_map (invocation_sets l) l.scope.invocations) (flat_map (start_sets l) instances) (flat_map (connection_set l) c.body)
         ∙ ap₂ ◌++◌ (ap₂ ◌++◌ (ap (λ (first : List ℕ). first ++ local_values see pt (flat_map (invocation_sets l) l.scope.invocations)) (of_registers see p.name))
         (of_starts see p.name ∙ no_start see inst l p.name 0 is.sig.events (λ j e go at is_go same.
-        let event = pins.go_is j e go at is_go in pins.apart p has j event.0 go event.1 event.2 (sym same)))) (of_connections see p.name)
+        let event = timed_here.go_is j e go at is_go in pins.apart p has j event.0 go event.1 event.2 (sym same)))) (of_connections see p.name)
         ∙ only_arguments see p.name (local_values see pt (flat_map (invocation_sets l) l.scope.invocations))
 
     -- no argument drives an interface port
@@ -141,7 +146,7 @@ module _ (comp : LoweredComp) where
             ap (λ (name : Text). inputs_of_callee l name) same ∙ ap (λ (o : Option Signature). option_map_or (λ (x : Signature). x.ins) o []) is.signed in
             let q = from_map (λ (x : SigPort). x.name) is.sig.ins go (subst (λ (ps : List SigPort). Contains (sig_names ps) go) ins has) in
             let p : Contains (callee_of earlier c inst).sig.ins (timed_port q.0) =
-            subst (λ (ps : List TimedPort). Contains ps (timed_port q.0)) (sym pins.ins_are) (contains_map timed_port is.sig.ins q.0 q.1) in
+            subst (λ (ps : List TimedPort). Contains ps (timed_port q.0)) (sym timed_here.ins_are) (contains_map timed_port is.sig.ins q.0 q.1) in
             pins.apart (timed_port q.0) p k event go at is_go q.2
 
         by : (v : Invocation) (b : Bool) → bytes_eq v.inst inst ≡ b → local_values see (port_of inst go) (invocation_sets l v) ≡ []
@@ -157,7 +162,7 @@ module _ (comp : LoweredComp) where
         local_values see (port_of inst go) (lowered_sets l) ≡ (if some_on see (starting_bits l inst k) then 1 ∷ [] else [])
     go_values see k event go at is_go =
         let pt = port_of inst go in
-        let e = pins.event_is k event at in
+        let e = timed_here.event_is k event at in
         let is_e : e.0.go ≡ Some go = e.2 ∙ is_go in
         let zero_plus : 0 + k ≡ k = omega arith in
         four_values see pt (register_sets l c.events) (flat_map (invocation_sets l) l.scope.invocations) (flat_map (start_sets l) instances) (flat_map (connection_set l) c.body)

@@ -1,5 +1,5 @@
 -- Names of ports stay among names that keep their texts.
-use Rattle.std.proofs.Common.{List, All, Contains, Option, Some, None}
+use Rattle.std.proofs.Common.{List, Contains, Option, Some, None}
 use Rattle.std.specs.Option.{IfSome}
 use Rattle.std.proofs.lemmas.List.Elements.{All-weaker}
 use Rattle.hw_names.specs.Name.{KeepsTexts, Text}

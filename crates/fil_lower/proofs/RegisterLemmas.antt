@@ -1,15 +1,15 @@
 -- Shift registers of a component's events, one after another.
-use Rattle.std.proofs.Common.{◌≡◌, ◌≢◌, ℕ, zero, suc, Bool, ◌+◌, ◌<◌, ◌≤◌, List, [], ◌∷◌, ◌++◌, length, map, flat_map, take, get_or, slice_get, slice_index_or, All, Contains, Some, None, Vec, option_map, refl, sym, ap, ap₂, subst, ◌∙◌, append-nil, append_assoc, arith}
+use Rattle.std.proofs.Common.{◌≡◌, ◌≢◌, ℕ, zero, suc, Bool, ◌+◌, List, [], ◌∷◌, ◌++◌, length, map, flat_map, take, get_or, slice_get, slice_index_or, All, Contains, Some, Vec, option_map, refl, sym, ap, ap₂, subst, ◌∙◌, append-nil, append_assoc, arith}
 use Rattle.std.specs.Prelude.{if◌then◌else◌}
 use Rattle.std.specs.declared.alloc.Global.{Global}
-use Rattle.std.proofs.lemmas.List.{length-append, length-map, map-append}
+use Rattle.std.proofs.lemmas.List.{length-map, map-append}
 use Rattle.std.proofs.lemmas.List.Concat.{flat_map-append}
 use Rattle.std.proofs.lemmas.List.Elements.{All-append, All-nil, All-push, All-weaker}
 use Rattle.hw_names.proofs.NameLemmas.{Contains-slice_get, slice_get-text_of}
 use Rattle.std.proofs.lemmas.Option.{none-some, same_Some, slice_get-map}
 use Rattle.hw_names.specs.Name.{AreDistinct, IsPlain, KeepsTexts, Text, text_of}
 use Rattle.cal_ast.specs.Numbers.{CellHasNumbers, PortHasNumbers, SetHasNumbers}
-use Rattle.cal_ast.specs.Tree.{Assignment, CellDef, PortName, assignment_tree, cell_tree, port_tree}
+use Rattle.cal_ast.specs.Tree.{Assignment, CellDef, PortName, assignment_tree, cell_tree}
 use Rattle.cal_ast.specs.declared.tree.Assign.{Assign}
 use Rattle.cal_ast.specs.declared.tree.CalCell.{CalCell}
 use Rattle.cal_ast.specs.declared.tree.CalPort.{CalPort}
@@ -17,12 +17,13 @@ use Rattle.fil_ast.specs.Scope.{Scope}
 use Rattle.fil_ast.specs.Signature.{event_number}
 use Rattle.fil_ast.specs.Tree.{Event}
 use Rattle.fil_fsm.proofs.FreshLemmas.{Contains-KeepsTexts}
-use Rattle.fil_fsm.specs.Chain.{IsGenerated, register}
+use Rattle.fil_fsm.specs.Chain.{register}
+use Rattle.fil_promise.specs.Refines.{IsGenerated}
 use Rattle.fil_fsm.specs.declared.shift.FsmParts.{FsmParts}
 use Rattle.fil_share.proofs.ListLemmas.{AllPairs-append, Contains-at}
 use Rattle.fil_share.proofs.MakesLemmas.{take_next}
 use Rattle.fil_sig.proofs.ListLemmas.{All-mapped}
-use Rattle.fil_lower.specs.Lowering.{Lowering, Registers, last_bit, registers_of}
+use Rattle.fil_lower.specs.inside.Lowering.{Lowering, Registers, last_bit, registers_of}
 use Rattle.fil_lower.specs.inside.Place.{AreNew, ShowsEvent, ShowsRegisters, bits_shown, event_bits, event_sets, unregistered}
 use Rattle.fil_lower.specs.declared.bits.EventBits.{EventBits}
 use Rattle.fil_lower.proofs.KeptLemmas.{cell_numbers, cells_kept, map_kept, port_numbers, ports_kept, set_numbers, sets_kept}

@@ -1,5 +1,5 @@
 -- Invocation by invocation: the resolved form has the value that the text means.
-use Rattle.std.proofs.Common.{◌≡◌, ℕ, zero, suc, ◌+◌, ◌<◌, ◌≤◌, Bool, true, false, cond, List, [], ◌∷◌, ◌++◌, length, map, flat_map, reverse, take, drop, get_or, slice_get, All, Option, Some, None, refl, sym, ap, ap₂, subst, ◌∙◌, add-one, append_assoc, arith}
+use Rattle.std.proofs.Common.{◌≡◌, ℕ, zero, suc, ◌+◌, ◌<◌, ◌≤◌, Bool, true, false, cond, List, [], ◌∷◌, ◌++◌, length, map, flat_map, reverse, take, drop, get_or, slice_get, All, Option, Some, None, refl, sym, ap, subst, ◌∙◌, add-one, append_assoc, arith}
 use Rattle.std.specs.List.{AllZip, find}
 use Rattle.std.specs.Option.{IsSome, IfSome, is_some, option_and_then, option_map, option_map_or}
 use Rattle.std.specs.Prelude.{Contains, bytes_eq, if◌then◌else◌}
@@ -13,7 +13,7 @@ use Rattle.std.proofs.Math.Seq.{take-length}
 use Rattle.hw_names.specs.Name.{Text, AreDistinct}
 use Rattle.hw_prims.specs.Timed.{Values}
 use Rattle.fil_ast.specs.Behaviours.{inputs_of_callee, inputs_with}
-use Rattle.fil_ast.specs.Flow.{Named, flow_of, instance_flow, made_flow, value_in, value_in_body, value_named}
+use Rattle.fil_ast.specs.Flow.{Named, flow_of, instance_flow, made_flow, value_in_body, value_named}
 use Rattle.fil_ast.specs.Holds.{uses_of}
 use Rattle.fil_ast.specs.Items.{scope_after}
 use Rattle.fil_ast.specs.Naming.{IsKnownValue, component_names, instance_names, invocation_names}
@@ -26,8 +26,8 @@ use Rattle.fil_ast.specs.Wires.{whole_scope}
 use Rattle.fil_share.specs.Instances.{signature_of}
 use Rattle.fil_share.proofs.MakesLemmas.{flat_next}
 use Rattle.fil_share.proofs.OwnLemmas.{KeepsNames, cut_before, cut_with, find_last, same_meaning, some_there}
-use Rattle.fil_lower.specs.Plan.{Source, Use, value_of}
-use Rattle.fil_lower.specs.PlanOf.{Resolved, args_of, behaviour_made, call_named, callee_of, nothing_promised, output_of_call, resolved, resolved_after, slot_of, source_of}
+use Rattle.fil_lower.specs.inside.Plan.{Source, Use, value_of}
+use Rattle.fil_lower.specs.inside.PlanOf.{Resolved, args_of, behaviour_made, call_named, callee_of, nothing_promised, output_of_call, resolved, resolved_after, slot_of, source_of}
 use Rattle.fil_lower.proofs.CalleeLemmas.{data_names, promised}
 use Rattle.fil_lower.proofs.ExpressionLemmas.{value_after, value_last, value_still}
 use Rattle.fil_lower.proofs.NameLemmas.{apart_joined, given_to, map_agree}

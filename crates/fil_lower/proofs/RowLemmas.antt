@@ -1,5 +1,5 @@
 -- The rows of a lowered component show what its plan says, at each path at which it stands.
-use Rattle.std.proofs.Common.{◌≡◌, ◌↔◌, ℕ, suc, ◌+◌, ◌-◌, ◌<◌, ◌≤◌, Bool, true, false, [], ◌∷◌, ◌++◌, length, map, flat_map, take, slice_get, All, Option, Some, None, option_map, refl, sym, ap, subst, ◌∙◌, inr, arith}
+use Rattle.std.proofs.Common.{◌≡◌, ◌↔◌, ℕ, suc, ◌+◌, ◌-◌, ◌<◌, Bool, true, false, [], ◌∷◌, ◌++◌, length, map, flat_map, take, slice_get, All, Option, Some, None, option_map, refl, sym, ap, subst, ◌∙◌, inr, arith}
 use Rattle.std.specs.Option.{option_map_or}
 use Rattle.std.specs.Prelude.{◌==◌, Contains, if◌then◌else◌}
 use Rattle.std.proofs.lemmas.Bool.Decides.{Decides-eqb}
@@ -8,7 +8,7 @@ use Rattle.std.proofs.lemmas.Option.{none-some, same_Some, slice_get-map, slice_
 use Rattle.hw_names.specs.Name.{Text, IsPlain, full_name, port_at}
 use Rattle.hw_names.proofs.NameLemmas.{full_name-append}
 use Rattle.hw_prims.specs.Table.{Pin}
-use Rattle.hw_prims.specs.Timed.{TimedEvent, TimedPort, end_of}
+use Rattle.hw_prims.specs.Timed.{TimedEvent, TimedPort}
 use Rattle.net_core.specs.Circuit.{settled}
 use Rattle.net_core.specs.Guard.{source_value}
 use Rattle.cal_ast.proofs.SideLemmas.{cell_input_destination}
@@ -31,20 +31,21 @@ use Rattle.fil_ast.specs.Timeline as timeline
 use Rattle.fil_ast.specs.Timeline.{IsUse}
 use Rattle.fil_ast.specs.Tree.{DataPort, Design, Connect, TimeAt, ValueTree}
 use Rattle.fil_ast.specs.Wires.{whole_scope}
-use Rattle.fil_fsm.specs.Refines as wires
+use Rattle.fil_promise.specs.Refines as wires
 use Rattle.fil_share.proofs.ListLemmas.{Contains-at}
 use Rattle.fil_share.proofs.OwnLemmas.{names_of}
-use Rattle.fil_lower.specs.Lowered.{IsLowered, LoweredRun, StartsIn, drives, source_in, values_where}
-use Rattle.fil_lower.specs.Lowering.{Lowering, bit_at, go_of, lowered_component, lowered_value, lowering_with, starting_bits}
-use Rattle.fil_lower.specs.Plan.{Literal, Plan, Slot, Use}
-use Rattle.fil_lower.specs.PlanOf.{behaviour_made, nothing_promised, plan_of, resolved_calls, slot_of, source_of}
-use Rattle.fil_lower.specs.PlanRules.{IsEvent}
+use Rattle.fil_lower.specs.inside.Lowered.{IsLowered, LoweredRun, StartsIn, drives, source_in, values_where}
+use Rattle.fil_lower.specs.inside.Lowering.{Lowering, bit_at, go_of, lowered_component, lowered_value, lowering_with, starting_bits}
+use Rattle.fil_lower.specs.inside.Plan.{Literal, Plan, Slot, Use}
+use Rattle.fil_lower.specs.inside.PlanOf.{behaviour_made, nothing_promised, plan_of, resolved_calls, slot_of, source_of}
+use Rattle.fil_lower.specs.inside.PlanRules.{IsEvent}
 use Rattle.fil_lower.proofs.ArgumentLemmas.{arguments_are, rows}
-use Rattle.fil_lower.proofs.BitLemmas.{among_on, on_among, some_on, start_was_on, was_on, was_on_from, was_on_in, was_on_parts, was_on_start}
+use Rattle.fil_lower.proofs.BitLemmas.{among_on, on_among, some_on, was_on, was_on_from, was_on_parts}
 use Rattle.fil_lower.proofs.CallLemmas.{IsCalled, all_called, signature_is}
-use Rattle.fil_lower.proofs.FeedLemmas.{feeds_is}
+use Rattle.fil_lower.proofs.FeedLemmas.{always_fed, fed_rows}
 use Rattle.fil_lower.proofs.FoundPortLemmas.{own_driven, own_ports}
 use Rattle.fil_lower.proofs.GuardLemmas.{bit_was_on, use_wants}
+use Rattle.fil_lower.proofs.InvocationLemmas.{IsSlotUse, call_of_use, use_of_slot}
 use Rattle.fil_lower.proofs.ListLemmas.{contains_none}
 use Rattle.fil_lower.proofs.LoweredParts.{LoweredComp, StandingComp}
 use Rattle.fil_lower.proofs.NameLemmas.{from_map}
@@ -53,7 +54,7 @@ use Rattle.fil_lower.proofs.PortLemmas.{IsInstance, data_values, go_values, own_
 use Rattle.fil_lower.proofs.SourceLemmas.{known_stays, reads_same}
 use Rattle.fil_lower.proofs.TimedAsLemmas.{contains_map, number_of}
 use Rattle.fil_lower.proofs.UseLemmas.{all_uses}
-use Rattle.fil_lower.proofs.UseBitLemmas.{IsSlotUse, IsUseBit, bit_of_use, call_of_use, use_of_bit, use_of_slot}
+use Rattle.fil_lower.proofs.UseBitLemmas.{IsUseBit, bit_of_use, use_of_bit}
 use Rattle.fil_lower.proofs.WellLemmas.{connected_some, plans_well_timed}
 
 -- ---- rows
@@ -121,35 +122,6 @@ module _ (comp : LoweredComp) (standing : StandingComp comp) where
         ∙ ap settled (data_values comp inst is (look path (trace r)) p has
         ∙ arguments_are comp standing r below inst p has)
 
-    -- ---- when arguments drive
-
-    fed : (call : Use) → Contains plan.uses call → (slot : Slot) → Contains call.slots slot → (p : TimedPort) → Contains (plan.callee call.inst).sig.ins p → p.event ≡ slot.target →
-        (event : TimedEvent) (go : Text) → IsEvent plan.sig slot.event event → event.go ≡ Some go →
-        (shown.feeds call p.name r ≡ true) ↔ ((u : ℕ) × StartsIn plan shown slot.event u × (u + slot.plus + p.from ≤ r) × (r < u + slot.plus + end_of p slot.hold))
-    fed call has slot has_slot p has_p on event go is is_go =
-        let count = slot.plus + end_of p slot.hold - (slot.plus + p.from) in
-        let opened : shown.feeds call p.name r ≡ was_on_in (seen go) r (slot.plus + p.from) count =
-        feeds_is comps rules n c here seen call has p has_p slot has_slot (sym on) r
-        ∙ ap (λ (o : Option TimedEvent). option_map_or (λ (e : TimedEvent). option_map_or (λ go. was_on_in (seen go) r (slot.plus + p.from) count) e.go true) o true) is
-        ∙ ap (λ (o : Option Text). option_map_or (λ go. was_on_in (seen go) r (slot.plus + p.from) count) o true) is_go in (
-          (λ fed.
-              let m = was_on_start (seen go) r (slot.plus + p.from) count (sym opened ∙ fed) in
-              (m.0, record { event = event; is = is; go = go; has = is_go; on = m.1 }, omega (arith, m.2), omega (arith, m.2, m.3))),
-          λ m.
-              let s = m.1 in
-              let same : event ≡ s.event = same_Some event s.event (sym is ∙ s.is) in
-              let name : s.go ≡ go = same_Some s.go go (sym s.has ∙ sym (ap (λ (e : TimedEvent). e.go) same) ∙ is_go) in
-              opened ∙ start_was_on (seen go) r (slot.plus + p.from) count m.0 (ap (λ (x : Text). seen x m.0) (sym name) ∙ s.on) (omega (arith, m.2)) (omega (arith, m.2, m.3)),
-        )
-
-    always : (call : Use) → Contains plan.uses call → (slot : Slot) → Contains call.slots slot → (p : TimedPort) → Contains (plan.callee call.inst).sig.ins p → p.event ≡ slot.target →
-        (event : TimedEvent) → IsEvent plan.sig slot.event event → event.go ≡ None → shown.feeds call p.name r ≡ true
-    always call has slot has_slot p has_p on event is none =
-        let count = slot.plus + end_of p slot.hold - (slot.plus + p.from) in
-        feeds_is comps rules n c here seen call has p has_p slot has_slot (sym on) r
-        ∙ ap (λ (o : Option TimedEvent). option_map_or (λ (e : TimedEvent). option_map_or (λ go. was_on_in (seen go) r (slot.plus + p.from) count) e.go true) o true) is
-        ∙ ap (λ (o : Option Text). option_map_or (λ go. was_on_in (seen go) r (slot.plus + p.from) count) o true) none
-
     -- ---- starts
 
     -- the bit at which a use starts an event of its instance
@@ -176,7 +148,7 @@ module _ (comp : LoweredComp) (standing : StandingComp comp) where
       bit_starts : (bit : PortName) → IsUseBit comp inst k bit → look path (trace r) bit ≡ 1 → IsStarted inst k
       bit_starts bit b on =
           let u = b.use_at in
-          let x = call_of_use comp b.v b.has_v u b.has_use in
+          let x = call_of_use comps rules n c here b.v b.has_v u b.has_use in
           let of_inst : x.call.inst ≡ inst = x.inst ∙ b.of_inst in
           let t = (plans_well_timed comps rules n c here).triggered x.call x.has_call (slot_of c u) x.has_slot in
           let theirs : event ≡ t.theirs =
@@ -188,7 +160,7 @@ module _ (comp : LoweredComp) (standing : StandingComp comp) where
           (x.call, x.has_call, of_inst, slot_of c u, x.has_slot, b.target, r - u.at.plus, omega (arith, p.0), record { event = t.own; is = t.is_own; go = ours.0; has = ours.1; on = p.1 })
 
       -- and a start a bit that is 1
-      start_on : (call : Use) (slot : Slot) → IsSlotUse comp call slot → call.inst ≡ inst → slot.target ≡ k → (u : ℕ) → u + slot.plus ≡ r → StartsIn plan shown slot.event u → some_on (look path (trace r)) (starting_bits l inst k) ≡ true
+      start_on : (call : Use) (slot : Slot) → IsSlotUse comps rules n c here call slot → call.inst ≡ inst → slot.target ≡ k → (u : ℕ) → u + slot.plus ≡ r → StartsIn plan shown slot.event u → some_on (look path (trace r)) (starting_bits l inst k) ≡ true
       start_on call slot s of_inst target u sum start =
           let x = s.use_at in
           let number : event_number c.events x.at.event ≡ slot.event = ap (λ (y : Slot). y.event) s.is in
@@ -209,7 +181,7 @@ module _ (comp : LoweredComp) (standing : StandingComp comp) where
           ∙ port_has comp standing (Some inst) go (cell_input_destination design low inst go there) plain_port r below
           ∙ ap settled (go_values comp inst instance (look path (trace r)) k event go is is_go) in (
             (λ one. let on = on_among (look path (trace r)) (starting_bits l inst k) (one_if (some_on (look path (trace r)) (starting_bits l inst k)) (sym value ∙ one)) in bit_starts on.0 (use_of_bit comp inst k on.0 on.1) on.2),
-            λ s. value ∙ ap (λ (b : Bool). settled (if b then 1 ∷ [] else [])) (start_on s.0 s.3 (use_of_slot comp s.0 s.1 s.3 s.4) s.2 s.5 s.6 s.7 s.8),
+            λ s. value ∙ ap (λ (b : Bool). settled (if b then 1 ∷ [] else [])) (start_on s.0 s.3 (use_of_slot comps rules n c here s.0 s.1 s.3 s.4) s.2 s.5 s.6 s.7 s.8),
           )
 
     -- ---- outputs
@@ -240,8 +212,8 @@ module _ (comp : LoweredComp) (standing : StandingComp comp) where
   pub is_lowered : IsLowered plan shown
   is_lowered = record {
     driven = driven;
-    fed = fed;
-    always = always;
+    fed = λ r below. fed_rows comps rules n c here shown.own shown.cell height trace r;
+    always = λ r below. always_fed comps rules n c here shown.own shown.cell height trace r;
     started = started;
     connected = connected;
   }

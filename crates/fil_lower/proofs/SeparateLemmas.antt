@@ -2,14 +2,15 @@
 use Rattle.std.proofs.Common.{◌≡◌, ℕ, ◌+◌, ◌<◌, refl, sym, subst, ◌∙◌, arith}
 use Rattle.std.specs.Prelude.{Contains}
 use Rattle.hw_prims.specs.Timed.{TimedPort, Values, end_of}
-use Rattle.fil_lower.specs.Laws.{IsNeeded, IsSeparate, ValuesStaySeparate}
-use Rattle.fil_lower.specs.Plan.{Input, Literal, Output, Plan, Source, Use, value_of}
-use Rattle.fil_lower.specs.PlanRules.{IsAvailable, IsEvent, IsOfUse, IsWellTimed}
+use Rattle.fil_lower.specs.Separate.{IsSeparate}
+use Rattle.fil_lower.specs.inside.Laws.{IsNeeded, ValuesStaySeparate}
+use Rattle.fil_lower.specs.inside.Plan.{Input, Literal, Output, Plan, Source, Use, value_of}
+use Rattle.fil_lower.specs.inside.PlanRules.{IsAvailable, IsEvent, IsOfUse, IsWellTimed}
 
 module _ (plan : Plan) (well : IsWellTimed plan) (callees : (call : Use) → Contains plan.uses call → IsSeparate (plan.callee call.inst) × IsNeeded (plan.callee call.inst).sig)
     (v w : Values) (n : ℕ) (same : (p : TimedPort) → Contains plan.sig.ins p → p.event ≡ n → v p.name ≡ w p.name) where
   -- on inputs that agree on event n, a value that is there after a start of event n is the same
-  agrees : (source : Source) → IsOfUse plan source → (i : ℕ) → IsAvailable plan source n i → value_of plan.callee v source ≡ value_of plan.callee w source
+  pub agrees : (source : Source) → IsOfUse plan source → (i : ℕ) → IsAvailable plan source n i → value_of plan.callee v source ≡ value_of plan.callee w source
   agrees (Input name) of_use i (p, of_p, is, event, from, to) = subst (λ x. v x ≡ w x) is (same p of_p event)
   agrees (Literal value) of_use i available = refl
   agrees (Output inst slots args port) of_use i (p, of_p, is, slot, of_slot, target, event, from, to) =

@@ -21,7 +21,7 @@ use Rattle.fil_ast.specs.Tree.{Component, Design, Event, Statement, New, Call, B
 use Rattle.fil_ast.specs.Wires.{whole_scope}
 use Rattle.fil_fsm.specs.Chain.{bit_of, chain_sets, takes}
 use Rattle.fil_share.proofs.ListLemmas.{All-flat_map, Contains-at}
-use Rattle.fil_lower.specs.Lowering.{Lowering, HasEnoughBits, Registers, all_registers, any_of, argument_sets, bit_at, connection_set, during, go_of, inputs_of_callee, invocation_sets, lowered_sets, lowered_value, lowering_with, register_sets, registers_of, start_set, start_sets, start_sets_from, starting_bits, starts_of}
+use Rattle.fil_lower.specs.inside.Lowering.{Lowering, HasEnoughBits, Registers, all_registers, any_of, argument_sets, bit_at, connection_set, during, go_of, inputs_of_callee, invocation_sets, lowered_sets, lowered_value, lowering_with, register_sets, registers_of, start_set, start_sets, start_sets_from, starting_bits, starts_of}
 use Rattle.fil_lower.proofs.GuardBitLemmas.{IsBit, Later, Start, IsGuard, Where, argument_guard, interface_is, use_bit}
 use Rattle.fil_lower.proofs.CallLemmas.{IsCalled}
 use Rattle.fil_lower.proofs.ListLemmas.{contains_in_flat, contains_none, filter_among}

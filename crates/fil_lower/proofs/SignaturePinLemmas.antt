@@ -21,7 +21,7 @@ use Rattle.fil_ast.specs.Signature as signature
 use Rattle.fil_ast.specs.Signature.{SigEvent, SigPort, Signature, component_signature, sig_event, sig_port}
 use Rattle.fil_ast.specs.Tree.{Component, DataPort, Interface}
 use Rattle.fil_ast.specs.Typing.{HasShape}
-use Rattle.fil_fsm.specs.Refines as wires
+use Rattle.fil_promise.specs.Refines as wires
 use Rattle.fil_lower.proofs.GuardBitLemmas.{interface_is}
 use Rattle.fil_lower.proofs.ListLemmas.{contains_none, filter_among, first_or_later}
 use Rattle.fil_lower.proofs.NameLemmas.{from_map}

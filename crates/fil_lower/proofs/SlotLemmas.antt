@@ -24,9 +24,9 @@ use Rattle.fil_ast.specs.Timeline.{IsUse, hold_of, until}
 use Rattle.fil_ast.specs.Tree.{Component, Design, Event, Interface, TimeAt}
 use Rattle.fil_ast.specs.Wires.{whole_scope}
 use Rattle.fil_share.proofs.ListLemmas.{Contains-at}
-use Rattle.fil_lower.specs.Plan.{Plan, Slot}
-use Rattle.fil_lower.specs.PlanOf.{callee_of, plan_of, slot_of}
-use Rattle.fil_lower.specs.PlanRules.{IsEvent, IsSharedBy, IsTriggered}
+use Rattle.fil_lower.specs.inside.Plan.{Plan, Slot}
+use Rattle.fil_lower.specs.inside.PlanOf.{callee_of, plan_of, slot_of}
+use Rattle.fil_lower.specs.inside.PlanRules.{IsEvent, IsSharedBy, IsTriggered}
 use Rattle.fil_lower.proofs.CallLemmas.{IsCalled, ShareUses}
 use Rattle.fil_lower.proofs.ListLemmas.{contains_none, first_or_later}
 use Rattle.fil_lower.proofs.NameLemmas.{from_map}

@@ -23,11 +23,11 @@ use Rattle.fil_ast.specs.Tree.{Component, Design, Statement, New, Call, Both, Co
 use Rattle.fil_ast.specs.Wires.{whole_scope}
 use Rattle.fil_share.proofs.MakesLemmas.{flat_next}
 use Rattle.fil_share.proofs.OwnLemmas.{some_there}
-use Rattle.fil_lower.specs.Lowered.{source_in}
-use Rattle.fil_lower.specs.LoweredDesign.{run_at}
-use Rattle.fil_lower.specs.Lowering.{Registers, lowered_value, lowering_with}
-use Rattle.fil_lower.specs.Plan.{Use}
-use Rattle.fil_lower.specs.PlanOf.{Resolved, call_named, output_of_call, resolved, resolved_after, resolved_calls, source_of}
+use Rattle.fil_lower.specs.inside.Lowered.{source_in}
+use Rattle.fil_lower.specs.inside.LoweredDesign.{run_at}
+use Rattle.fil_lower.specs.inside.Lowering.{Registers, lowered_value, lowering_with}
+use Rattle.fil_lower.specs.inside.Plan.{Use}
+use Rattle.fil_lower.specs.inside.PlanOf.{Resolved, call_named, output_of_call, resolved, resolved_after, resolved_calls, source_of}
 use Rattle.fil_lower.proofs.AvailableLemmas.{named_more, resolved_cut, resolved_more}
 
 module _ (comps : Design) (rules : FilRules comps) (n : ℕ) (c : Component) (here : slice_get comps n ≡ Some c) where
@@ -115,6 +115,17 @@ module _ (comps : Design) (rules : FilRules comps) (n : ℕ) (c : Component) (he
 
   -- ---- values
 
+  -- an invocation that is known before a statement, as it is resolved, also among more that is
+  pub named_call : (k : ℕ) → k ≤ length c.body → (rs : List Resolved) → ((name : Text) (call : Use) → call_named (known_before k) name ≡ Some call → call_named rs name ≡ Some call) →
+      (invocation port : Text) → IsKnownValue (scope_after earlier c (take k c.body)) (OutputValue invocation port) →
+      (call : Use) × (call_named rs invocation ≡ Some call) × (option_map_or (λ (v : Invocation). v.inst) (invocation_named (whole_scope earlier c).invocations invocation) [] ≡ call.inst)
+  named_call k within rs extends invocation port known =
+      let scope = scope_after earlier c (take k c.body) in
+      let r = some_there (result_of scope invocation port) known in
+      option_and_then_some (λ (v : Invocation). result_at scope v port) (invocation_named (called_before k) invocation) r.0 r.1 (λ w named result.
+      let m = find_made (called_before k) (known_before k) invocation w (made_to k within) named in
+      (m.0, extends invocation m.0 m.1, ap (λ (o : Option Invocation). option_map_or (λ (v : Invocation). v.inst) o []) (named_stays k invocation w named) ∙ sym m.2))
+
   module _ (registers : Registers) (path : Path) (feeds : Use → Text → ℕ → Bool) (height : ℕ) (trace : Trace) (row : Row) (k : ℕ) (within : k ≤ length c.body) where
     -- a value that is known before a statement is read from the same port, also among more that is resolved
     pub reads_same : (rs : List Resolved) → ((name : Text) (call : Use) → call_named (known_before k) name ≡ Some call → call_named rs name ≡ Some call) →
@@ -123,10 +134,7 @@ module _ (comps : Design) (rules : FilRules comps) (n : ℕ) (c : Component) (he
     reads_same rs extends (InputValue name) known = refl
     reads_same rs extends (tree.Literal width value) known = refl
     reads_same rs extends (OutputValue invocation port) known =
-        let r = some_there (result_of (scope_after earlier c (take k c.body)) invocation port) known in
-        option_and_then_some (λ (v : Invocation). result_at (scope_after earlier c (take k c.body)) v port) (invocation_named (called_before k) invocation) r.0 r.1 (λ w named result.
-        let m = find_made (called_before k) (known_before k) invocation w (made_to k within) named in
-        ap (λ (o : Option Invocation). row (dotted (full_name path (option_map_or (λ (v : Invocation). v.inst) o [])) port)) (named_stays k invocation w named)
-        ∙ ap (λ (inst : Text). row (dotted (full_name path inst) port)) (sym m.2)
+        let m = named_call k within rs extends invocation port known in
+        ap (λ (inst : Text). row (dotted (full_name path inst) port)) m.2
         ∙ ap row (sym (full_name-append path m.0.inst port))
-        ∙ sym (ap (λ (o : Option Use). source_in (run_at path feeds height trace) row (output_of_call o port)) (extends invocation m.0 m.1)))
+        ∙ sym (ap (λ (o : Option Use). source_in (run_at path feeds height trace) row (output_of_call o port)) m.1)

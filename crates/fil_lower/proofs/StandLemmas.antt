@@ -28,12 +28,13 @@ use Rattle.fil_ast.specs.Scope.{Instance, instance_named}
 use Rattle.fil_ast.specs.Tree.{Component}
 use Rattle.fil_ast.specs.Wires.{whole_scope}
 use Rattle.fil_share.proofs.ListLemmas.{Contains-at}
-use Rattle.fil_lower.specs.Lowered.{IsLowered}
-use Rattle.fil_lower.specs.LoweredDesign.{IsLoweredDesign, Stands, AtTop, Within, run_at}
-use Rattle.fil_lower.specs.Lowering.{lowered_sets, lowering_with}
-use Rattle.fil_lower.specs.LoweringLaws.{LoweringsArePlain, LoweringsShowPlans}
-use Rattle.fil_lower.specs.Plan.{Use}
-use Rattle.fil_lower.specs.PlanOf.{plan_of}
+use Rattle.fil_lower.specs.Wires.{Stands, AtTop, Within}
+use Rattle.fil_lower.specs.inside.Lowered.{IsLowered}
+use Rattle.fil_lower.specs.inside.LoweredDesign.{IsLoweredDesign, run_at}
+use Rattle.fil_lower.specs.inside.Lowering.{lowered_sets, lowering_with}
+use Rattle.fil_lower.specs.inside.LoweringLaws.{LoweringsArePlain, LoweringsShowPlans}
+use Rattle.fil_lower.specs.inside.Plan.{Use}
+use Rattle.fil_lower.specs.inside.PlanOf.{plan_of}
 use Rattle.fil_lower.proofs.ItemLemmas.{keeps_all}
 use Rattle.fil_lower.proofs.LoweredParts.{LoweredPair, StandingComp, TopRun, comp_of}
 use Rattle.fil_lower.proofs.PartLemmas.{cell_of, comp_at, component_cell, low_at, table_primitive}

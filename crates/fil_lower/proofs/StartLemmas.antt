@@ -8,7 +8,7 @@ use Rattle.net_core.specs.declared.net.Src.TheVariants.{Lit}
 use Rattle.cal_ast.specs.Laws.{local_values}
 use Rattle.cal_ast.specs.Tree.{Assignment, PortName, port_of}
 use Rattle.fil_ast.specs.Signature.{SigEvent}
-use Rattle.fil_lower.specs.Lowering.{Lowering, any_of, start_set, start_sets_from, starting_bits}
+use Rattle.fil_lower.specs.inside.Lowering.{Lowering, any_of, start_set, start_sets_from, starting_bits}
 use Rattle.fil_lower.proofs.BitLemmas.{any_of_holds, some_on}
 use Rattle.fil_lower.proofs.CellLemmas.{elsewhere_pin, start_sets_of}
 use Rattle.fil_lower.proofs.ValueLemmas.{first_value, joined_values, later_values}

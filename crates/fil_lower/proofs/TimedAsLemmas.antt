@@ -24,8 +24,8 @@ use Rattle.fil_ast.specs.Timeline as timeline
 use Rattle.fil_ast.specs.Timeline.{HasShortPorts, HoldsSome, Interval, IsUse, Use, interval_at, interval_between, until}
 use Rattle.fil_ast.specs.Tree.{Component, DataPort, Event, TimeAt}
 use Rattle.fil_ast.specs.Typing.{HasShape, IsInterval}
-use Rattle.fil_lower.specs.Laws.{IsNeeded}
-use Rattle.fil_lower.specs.PlanRules.{IsShort}
+use Rattle.fil_lower.specs.inside.Laws.{IsNeeded}
+use Rattle.fil_lower.specs.inside.PlanRules.{IsShort}
 use Rattle.fil_lower.proofs.ListLemmas.{contains_none, first_or_later}
 use Rattle.fil_lower.proofs.CalleeLemmas.{data_names}
 use Rattle.fil_lower.proofs.NameLemmas.{from_map, sig_names}
@@ -80,6 +80,10 @@ pub record IsTimedAs (b : TimedSignature) (sig : Signature) : Type 0 where
   pub ins : (p : TimedPort) → Contains b.ins p → (k : ℕ) × (q : SigPort) × (slice_get sig.ins k ≡ Some q) × (timed_port q ≡ p) × (q.to.event ≡ q.from.event)
   pub starts : (p : TimedPort) → Contains b.ins p → (inst : Text) (times : List TimeAt) → length times ≡ length sig.events → (u : Use) × IsUse sig inst times u × (u.event ≡ p.event)
   pub distinct : AreDistinct (sig_names sig.ins)
+  pub ins_are : b.ins ≡ map timed_port sig.ins
+  -- both have the same interface ports
+  pub event_is : (k : ℕ) (event : TimedEvent) → slice_get b.events k ≡ Some event → (e : SigEvent) × (slice_get sig.events k ≡ Some e) × (e.go ≡ event.go)
+  pub go_is : (k : ℕ) (e : SigEvent) (go : Text) → slice_get sig.events k ≡ Some e → e.go ≡ Some go → (event : TimedEvent) × (slice_get b.events k ≡ Some event) × (event.go ≡ Some go)
   pub outs : (q : SigPort) → Contains sig.outs q → (p : TimedPort) × Contains b.outs p × (p.name ≡ q.name) × IsOutputBy sig q p
 
 -- a port whose interval goes by one event at number k, of fixed delay, is valid as the use of that event says
@@ -139,6 +143,13 @@ primitive_event : (prim : Primitive) (n : ℕ) (event : TimedEvent) → slice_ge
 primitive_event prim zero event at = sym (ap (λ (e : TimedEvent). e.delay) (same_Some (record { delay = delay_of prim; go = go_of prim }) event at))
 primitive_event prim (suc n) event at = absurd (none-some event at)
 
+first_go : (prim : Primitive) (k : ℕ) (event : TimedEvent) → slice_get (filament.timed_signature prim).events k ≡ Some event → (k ≡ 0) × (go_of prim ≡ event.go)
+first_go prim zero event at = (refl, ap (λ (e : TimedEvent). e.go) (same_Some (record { delay = delay_of prim; go = go_of prim }) event at))
+first_go prim (suc k) event at = absurd (none-some event at)
+
+inputs_are : (t : Timing) (prim : Primitive) → (filament.timed_signature prim).ins ≡ map timed_port (signature_by t prim).ins
+inputs_are t prim = sym (map-map timed_port input_port (data_inputs prim))
+
 abbrev first_event : ℕ → Option Text → SigEvent
 first_event rows go = record { name = codes "G"; delay = signature.Fixed rows; go = go }
 
@@ -158,6 +169,13 @@ plain_timed rows latency go prim some fixed is_go port = record {
       let s = some_at times 0 (omega (arith, long)) in
       (record { inst = inst; event = 0; go = go; at = s.0; hold = rows }, fixed_use (signature_by (timing rows go latency) prim) inst times 0 (first_event rows go) rows s.0 refl refl s.1, ap (λ (x : TimedPort). x.event) m.2);
   distinct = input_names_differ (timing rows go latency) prim;
+  ins_are = inputs_are (timing rows go latency) prim;
+  event_is = λ k event at.
+      let f = first_go prim k event at in
+      (first_event rows go, ap (slice_get (signature_by (timing rows go latency) prim).events) f.0, sym is_go ∙ f.1);
+  go_is = λ k e port_go at is.
+      let only = one_only (first_event rows go) e k at in
+      (record { delay = delay_of prim; go = go_of prim }, ap (slice_get (filament.timed_signature prim).events) only.0, is_go ∙ ap (λ (x : SigEvent). x.go) only.1 ∙ is);
   outs = λ q has.
       let m = from_map (output_port (timing rows go latency)) (data_outputs prim) q has in
       let p : TimedPort = record { name = m.0.name; event = 0; from = latency; to = latency + 1; stays = false } in
@@ -174,6 +192,15 @@ unfolding delay_of go_of
 register_event w zero e at ends = ap (λ (x : SigEvent). Some (timed_event x)) (same_Some (record { name = codes "G"; delay = signature.Gap; go = Some (codes "write_en") }) e at)
 register_event w (suc zero) e at ends = absurd (ends (sym (ap (λ (x : SigEvent). x.delay) (same_Some (record { name = codes "L"; delay = signature.End; go = None }) e at))))
 register_event w (suc (suc k)) e at ends = absurd (none-some e at)
+
+register_go : (w k : ℕ) (e : SigEvent) (go : Text) → slice_get register_timing.events k ≡ Some e → e.go ≡ Some go →
+    (event : TimedEvent) × (slice_get (filament.timed_signature (StdReg w)).events k ≡ Some event) × (event.go ≡ Some go)
+unfolding delay_of go_of
+register_go w zero e go at is =
+    let same = same_Some (record { name = codes "G"; delay = signature.Gap; go = Some (codes "write_en") }) e at in
+    (record { delay = delay_of (StdReg w); go = go_of (StdReg w) }, refl, ap (λ (x : SigEvent). x.go) same ∙ is)
+register_go w (suc zero) e go at is = absurd (none-some go (ap (λ (x : SigEvent). x.go) (same_Some (record { name = codes "L"; delay = signature.End; go = None }) e at) ∙ is))
+register_go w (suc (suc k)) e go at is = absurd (none-some e at)
 
 register_output : (w : ℕ) (pin : Pin) → IsOutputBy (signature_by register_timing (StdReg w)) (output_port register_timing pin) (given (StdReg w) pin)
 unfolding given
@@ -212,6 +239,11 @@ register_timed w = record {
         ap (λ (x : TimedPort). x.event) m.2,
       );
   distinct = input_names_differ register_timing (StdReg w);
+  ins_are = inputs_are register_timing (StdReg w);
+  event_is = λ k event at.
+      let f = first_go (StdReg w) k event at in
+      (record { name = codes "G"; delay = signature.Gap; go = Some (codes "write_en") }, ap (slice_get register_timing.events) f.0, f.1);
+  go_is = register_go w;
   outs = λ q has.
       let m = from_map (output_port register_timing) (data_outputs (StdReg w)) q has in (
         given (StdReg w) m.0,
@@ -233,6 +265,12 @@ pub record IsSound (d : Component) : Type 0 where
   pub shape : HasShape d
   pub short : HasShortPorts d
   pub ins : AreDistinct (data_names d.ins)
+
+-- what stands among timed events
+event_from : (events : List SigEvent) (k : ℕ) (event : TimedEvent) → slice_get (map timed_event events) k ≡ Some event → (e : SigEvent) × (slice_get events k ≡ Some e) × (timed_event e ≡ event)
+event_from [] k event at = absurd (none-some event at)
+event_from (e ∷ events) zero event at = (e, refl, same_Some (timed_event e) event at)
+event_from (e ∷ events) (suc k) event at = event_from events k event at
 
 module _ (d : Component) (sound : IsSound d) where
   -- the event of a port
@@ -284,6 +322,9 @@ module _ (d : Component) (sound : IsSound d) where
     distinct =
         (let D : List Text → Type 0 = AreDistinct in
         subst D (sym (map-map (λ (p : SigPort). p.name) (sig_port d.events) d.ins)) sound.ins);
+    ins_are = refl;
+    event_is = λ k event at. let e = event_from (component_signature d).events k event at in (e.0, e.1, ap (λ (x : TimedEvent). x.go) e.2);
+    go_is = λ k e go at is. (timed_event e, slice_get-map timed_event (component_signature d).events k ∙ ap (option_map timed_event) at, is);
     outs = λ q has.
         let n = from_map (sig_port d.events) d.outs q has in
         let e = event_of d.outs n.0 n.1 (All-contains (λ (p : DataPort). Contains (event_names d) p.from.event × Contains (event_names d) p.to.event) d.outs n.0 sound.names.outs n.1).0 in

@@ -1,8 +1,6 @@
 -- The uses of an instance, by their numbers, and the bits at which they start.
-use Rattle.std.proofs.Common.{◌≡◌, ℕ, zero, suc, ◌+◌, ◌<◌, ◌==◌, ◌&&◌, Bool, true, false, cond, List, [], ◌∷◌, ◌++◌, length, map, filter, flat_map, take, slice_get, bytes_eq, All, Contains, Option, Some, None, option_map, refl, sym, ap, ap₂, subst, ◌∙◌, add-one, append_assoc, append-nil, inl, inr, arith}
+use Rattle.std.proofs.Common.{◌≡◌, ℕ, zero, suc, ◌+◌, ◌<◌, ◌==◌, ◌&&◌, Bool, true, false, cond, List, [], ◌∷◌, ◌++◌, length, map, filter, flat_map, take, slice_get, bytes_eq, Contains, Option, Some, None, option_map, refl, sym, ap, ap₂, subst, ◌∙◌, add-one, append_assoc, append-nil, arith}
 use Rattle.std.specs.Option.{option_map_or}
-use Rattle.std.specs.Prelude.{if◌then◌else◌}
-use Rattle.std.proofs.lemmas.Bool.{cases_Bool}
 use Rattle.std.proofs.lemmas.Bool.Decides.{Decides-eqb}
 use Rattle.std.proofs.lemmas.List.{map-append}
 use Rattle.std.proofs.lemmas.List.Elements.{filter-append}
@@ -16,13 +14,13 @@ use Rattle.cal_ast.specs.Tree.{PortName, port_of}
 use Rattle.net_core.specs.declared.net.Src.TheVariants.{Lit}
 use Rattle.fil_ast.specs.Holds.{uses_of}
 use Rattle.fil_ast.specs.Naming.{NamesEvent}
-use Rattle.fil_ast.specs.Scope.{Invocation, Scope}
+use Rattle.fil_ast.specs.Scope.{Invocation}
 use Rattle.fil_ast.specs.Signature.{SigEvent}
 use Rattle.fil_ast.specs.Timeline as timeline
 use Rattle.fil_share.proofs.MakesLemmas.{take_next}
 use Rattle.fil_share.specs.Uses.{Held, held, held_by, shown_use}
 use Rattle.fil_share.specs.declared.uses.Use.{Use}
-use Rattle.fil_lower.specs.Lowering.{Lowering, any_of, bit_at, bits_of, start_set, start_sets_from, starting_bits, starts_of}
+use Rattle.fil_lower.specs.inside.Lowering.{Lowering, any_of, bit_at, bits_of, start_set, start_sets_from, starting_bits, starts_of}
 use Rattle.fil_lower.specs.inside.Place.{Starts, is_of}
 use Rattle.fil_lower.proofs.KnownLemmas.{among_map}
 use Rattle.fil_lower.proofs.ListLemmas.{from_flat}

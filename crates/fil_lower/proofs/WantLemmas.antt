@@ -1,5 +1,5 @@
 -- The last bit that is wanted of an event: by arguments, or by uses.
-use Rattle.std.proofs.Common.{◌≡◌, ℕ, Bool, true, false, cond, max, List, [], ◌∷◌, ◌++◌, map, filter, flat_map, bytes_eq, refl, sym, ap, ◌∙◌, arith}
+use Rattle.std.proofs.Common.{◌≡◌, Bool, true, false, cond, max, List, [], ◌∷◌, ◌++◌, map, filter, flat_map, bytes_eq, refl, ap, ◌∙◌, arith}
 use Rattle.std.proofs.lemmas.List.{map-append}
 use Rattle.std.proofs.lemmas.List.Elements.{filter-append}
 use Rattle.hw_names.specs.Name.{Text}
@@ -7,7 +7,7 @@ use Rattle.fil_ast.specs.Holds.{uses_of}
 use Rattle.fil_ast.specs.Scope.{Invocation}
 use Rattle.fil_ast.specs.Timeline.{Use}
 use Rattle.fil_share.specs.Uses.{Held, held, held_by, is_on}
-use Rattle.fil_lower.specs.Lowering.{Lowering, wanted_by}
+use Rattle.fil_lower.specs.inside.Lowering.{Lowering, wanted_by}
 use Rattle.fil_lower.specs.inside.Place.{greatest, wanted_by_ports, wanted_by_uses}
 use Rattle.fil_lower.proofs.StepLemmas.{greatest-append}
 

@@ -24,18 +24,18 @@ use Rattle.fil_ast.specs.Rules.{F1, FilRules}
 use Rattle.fil_ast.specs.Scope.{Instance, Invocation, Scope, instance_named, invocations_at, output_of, signature_in}
 use Rattle.fil_ast.specs.Signature.{SigPort, Signature, event_number, sig_port}
 use Rattle.fil_ast.specs.Timeline as timeline
-use Rattle.fil_ast.specs.Timeline.{IsUse, hold_of, until}
+use Rattle.fil_ast.specs.Timeline.{IsUse}
 use Rattle.fil_ast.specs.Tree as tree
-use Rattle.fil_ast.specs.Tree.{Component, DataPort, Design, Event, Interface, Statement, TimeAt, New, Call, Both, Connect, ValueTree, InputValue, OutputValue}
+use Rattle.fil_ast.specs.Tree.{Component, DataPort, Design, Event, Statement, TimeAt, New, Call, Both, Connect, ValueTree, InputValue, OutputValue}
 use Rattle.fil_ast.specs.Typing.{IsInterval}
 use Rattle.fil_ast.specs.Wires.{whole_scope}
 use Rattle.fil_share.proofs.ListLemmas.{All-left, Contains-at}
 use Rattle.fil_share.proofs.MakesLemmas.{at_statement, flat_next, names_differ}
 use Rattle.fil_share.proofs.OwnLemmas.{names_of, some_there}
-use Rattle.fil_lower.specs.Plan.{Slot, Source, Literal, Use}
-use Rattle.fil_lower.specs.PlanLaws.{PlansAreWellTimed}
-use Rattle.fil_lower.specs.PlanOf.{Resolved, args_of, behaviour_made, call_named, callee_of, nothing_promised, output_of_call, plan_of, resolved, resolved_after, resolved_calls, slot_of, source_of}
-use Rattle.fil_lower.specs.PlanRules.{AreShared, IsAvailable, IsOfUse, IsShort, IsTriggered, IsWellTimed}
+use Rattle.fil_lower.specs.inside.Plan.{Slot, Source, Literal, Use}
+use Rattle.fil_lower.specs.inside.PlanLaws.{PlansAreWellTimed}
+use Rattle.fil_lower.specs.inside.PlanOf.{Resolved, args_of, behaviour_made, call_named, callee_of, nothing_promised, output_of_call, plan_of, resolved, resolved_after, resolved_calls, slot_of, source_of}
+use Rattle.fil_lower.specs.inside.PlanRules.{AreShared, IsAvailable, IsOfUse, IsShort, IsTriggered, IsWellTimed}
 use Rattle.fil_lower.proofs.AvailableLemmas.{IsResolvedAs, args_at, available, call_among, found_passes, named_more, resolved_cut, resolved_more, zip_resolved}
 use Rattle.fil_lower.proofs.CallLemmas.{IsCalled, ShareWell, all_called, both_callee, call_callee, found_among, share, sound_at, sound_before, timed_as}
 use Rattle.fil_lower.proofs.ListLemmas.{contains_in_flat, contains_none, first_or_later}
@@ -68,11 +68,15 @@ module _ (comps : Design) (rules : FilRules comps) (n : ℕ) (c : Component) (he
   all : All (IsCalled earlier c) invocations
   all = all_called comps rules n c here
 
+  pub instance_timed : (inst : Text) (i : Instance) (sig : Signature) → instance_named (whole_scope earlier c).instances inst ≡ Some i → signature_in earlier i.made i.params ≡ Some sig → IsTimedAs (callee_of earlier c inst).sig sig
+  instance_timed inst i sig found signed =
+      subst (λ (o : Option Instance). IsTimedAs (option_map_or (behaviour_made earlier) o nothing_promised).sig sig) (sym found)
+      (timed_as earlier distinct (sound_before comps rules n) i sig signed)
+
   pub timed : (v : Invocation) (f : IsCalled earlier c v) → IsTimedAs (callee_of earlier c v.inst).sig f.sig
   timed v f =
       option_and_then_some (λ (i : Instance). signature_in earlier i.made i.params) (instance_named (whole_scope earlier c).instances v.inst) f.sig f.signed (λ i found signed.
-      subst (λ (o : Option Instance). IsTimedAs (option_map_or (behaviour_made earlier) o nothing_promised).sig f.sig) (sym found)
-      (timed_as earlier distinct (sound_before comps rules n) i f.sig signed))
+      instance_timed v.inst i f.sig found signed)
 
   -- where a resolved invocation comes from
   record IsCallAt (r : Resolved) : Type 0 where

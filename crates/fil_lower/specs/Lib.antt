@@ -1,10 +1,4 @@
 pub mod inside
-pub mod Plan
-pub mod PlanRules
-pub mod Lowered
-pub mod Laws
-pub mod PlanOf
-pub mod PlanLaws
-pub mod LoweredDesign
-pub mod Lowering
-pub mod LoweringLaws
+pub mod Separate
+pub mod Wires
+pub mod Lowers

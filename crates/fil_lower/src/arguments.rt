@@ -10,7 +10,7 @@ ghost use Rattle.fil_ast.specs.Scope.{invocations_at};
 ghost use Rattle.fil_ast.specs.Timeline.{interval_at};
 ghost use Rattle.fil_ast.specs.Tree.{statement_tree, value_tree};
 ghost use Rattle.fil_sig.specs.Seen.{seen_port};
-ghost use Rattle.fil_lower.specs.Lowering.{Lowering, argument_set, argument_sets, connection_set, during, inputs_of_callee, invocation_sets};
+ghost use Rattle.fil_lower.specs.inside.Lowering.{Lowering, argument_set, argument_sets, connection_set, during, inputs_of_callee, invocation_sets};
 ghost use Rattle.fil_lower.specs.inside.Parts.{InvocationHasNumbers, invocation_shown};
 ghost use Rattle.fil_lower.specs.inside.Place.{NamesInvocation, ShowsPlace};
 

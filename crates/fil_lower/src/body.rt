@@ -12,7 +12,7 @@ ghost use Rattle.fil_ast.specs.Wires.{whole_scope};
 ghost use Rattle.fil_sig.specs.Seen.{seen_port};
 ghost use Rattle.fil_share.specs.Uses.{IsGoodUse, shown_use};
 ghost use Rattle.hw_limits.specs.declared.limits.TheConstants.{MOST_ROWS};
-ghost use Rattle.fil_lower.specs.Lowering.{Lowering, wanted_by, wants_in};
+ghost use Rattle.fil_lower.specs.inside.Lowering.{Lowering, wanted_by, wants_in};
 ghost use Rattle.fil_lower.specs.inside.Parts.{IsGoodPort};
 ghost use Rattle.fil_lower.specs.inside.Place.{ShowsBody, greatest, wanted_by_ports, wanted_by_uses};
 

@@ -9,8 +9,8 @@ ghost use Rattle.fil_ast.specs.Primitives.{table_name};
 ghost use Rattle.fil_ast.specs.Scope.{instances_at};
 ghost use Rattle.fil_ast.specs.Tree as tree;
 ghost use Rattle.fil_ast.specs.Tree.{component_tree, interface_tree, port_tree};
-ghost use Rattle.fil_fsm.specs.Refines.{inputs_of, outputs_of};
-ghost use Rattle.fil_lower.specs.Lowering.{lowered_cell};
+ghost use Rattle.fil_promise.specs.Refines.{inputs_of, outputs_of};
+ghost use Rattle.fil_lower.specs.inside.Lowering.{lowered_cell};
 ghost use Rattle.fil_lower.specs.inside.Parts.{InstanceHasNumbers, instance_shown};
 
 use crate::parts::{NewInstance, made};

@@ -7,8 +7,8 @@ ghost use Rattle.cal_ast.specs.Tree.{Absent, assignment_tree, cell_tree, compone
 ghost use Rattle.fil_ast.specs.Numbers as fil;
 ghost use Rattle.fil_ast.specs.Scope.{Scope};
 ghost use Rattle.fil_ast.specs.Tree as tree;
-ghost use Rattle.fil_fsm.specs.Refines.{inputs_of, outputs_of};
-ghost use Rattle.fil_lower.specs.Lowering.{IsLoweredTo, Lowering, connection_set, invocation_sets, start_sets};
+ghost use Rattle.fil_promise.specs.Refines.{inputs_of, outputs_of};
+ghost use Rattle.fil_lower.specs.inside.Lowering.{IsLoweredTo, Lowering, connection_set, invocation_sets, start_sets};
 ghost use Rattle.fil_lower.specs.inside.Place.{ShowsBody, ShowsPlace};
 
 use crate::arguments::{push_arguments, push_connections};

@@ -5,7 +5,7 @@ ghost use Rattle.net_core.specs.Guard.{Reads, guard_tree, source_tree};
 ghost use Rattle.net_core.specs.declared.net.Src.{Src};
 ghost use Rattle.cal_ast.specs.Numbers.{GuardHasNumbers, PortHasNumbers, SourceHasNumbers};
 ghost use Rattle.cal_ast.specs.Tree.{port_tree};
-ghost use Rattle.fil_lower.specs.Lowering.{any_of};
+ghost use Rattle.fil_lower.specs.inside.Lowering.{any_of};
 
 use cal_ast::CalPort;
 use hw_bits::Memory;

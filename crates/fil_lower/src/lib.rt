@@ -20,10 +20,15 @@
 //! arguments and of interface ports, each under a guard (`guards`) that one of the bits of its rows is 1; `component` puts them
 //! together, and `body` and `calls` have what names mean.
 //!
-//! What the layer above uses: `lower_fil` makes exactly such a design (`IsLoweringOf`). Where the names of the source are plain,
-//! laws say that its names are plain (`lowerings_are_plain`), that it keeps C1 to C12 (`lowerings_are_wired`), and that each run
-//! whose inputs carry a legal list of transactions has no Conflict, and every instance at every path carries what it is given
-//! (`lowerings_carry`).
+//! What the layer above uses: where the names of the source are plain, `lower_fil` makes a design that keeps what the source
+//! promises (`Lowers`): each component's name, ports and instances, C1 to C12, plain names; and each run, from any component as
+//! the top, whose inputs carry a legal list of transactions has no Conflict, and every instance at every path is given a legal list
+//! and carries it, however the transactions overlap. A law says that an output depends on inputs of its own event alone
+//! (`components_stay_separate`).
+//!
+//! Why that is so, in `specs/inside` and in the proofs: a component with its names resolved is its plan (`Plan`), which keeps
+//! Filament's rules of time (`PlanRules`); rows of wires that show what plans say (`Lowered`) are timed, instance by instance; and
+//! the wires that are made show it (`Lowering`).
 #![tactic(auto)]
 
 mod arguments;
@@ -32,25 +37,14 @@ mod body;
 mod calls;
 mod cells;
 mod component;
-mod designs;
 mod guards;
 mod interval;
 mod laws;
 mod lower;
-mod lowerings;
 mod names;
 mod parts;
 mod place;
-mod plans;
 mod starts;
 
-pub use designs::{components_are_timed, components_stay_separate, every_path_carries};
-pub use laws::{
-    arguments_do_not_clash, inner_lists_are_legal, instances_carry, lowered_components_are_timed,
-    values_stay_separate,
-};
+pub use laws::components_stay_separate;
 pub use lower::lower_fil;
-pub use lowerings::{
-    lowerings_are_plain, lowerings_are_wired, lowerings_carry, lowerings_show_plans,
-};
-pub use plans::{plans_are_well_timed, plans_give_the_same, plans_promise_the_same};

@@ -7,7 +7,7 @@ ghost use Rattle.cal_ast.specs.Tree.{port_tree};
 ghost use Rattle.fil_ast.specs.Naming.{NamesEvent};
 ghost use Rattle.fil_ast.specs.Numbers.{IsNumberOf, ValueHasNumbers};
 ghost use Rattle.fil_ast.specs.Tree.{value_tree};
-ghost use Rattle.fil_lower.specs.Lowering.{Lowering, bits_of, during, lowered_value};
+ghost use Rattle.fil_lower.specs.inside.Lowering.{Lowering, bits_of, during, lowered_value};
 ghost use Rattle.fil_lower.specs.inside.Parts.{interval_shown};
 ghost use Rattle.fil_lower.specs.inside.Place.{NamesInvocation, ShowsPlace};
 

@@ -10,7 +10,7 @@ ghost use Rattle.fil_ast.specs.Scope.{Scope, instance_signature, instances_at};
 ghost use Rattle.fil_ast.specs.Signature.{Signature};
 ghost use Rattle.fil_ast.specs.Tree.{statement_tree};
 ghost use Rattle.fil_sig.specs.Seen.{seen_event};
-ghost use Rattle.fil_lower.specs.Lowering.{Lowering, bit_at, bits_of, start_set, start_sets, start_sets_from, starting_bits};
+ghost use Rattle.fil_lower.specs.inside.Lowering.{Lowering, bit_at, bits_of, start_set, start_sets, start_sets_from, starting_bits};
 ghost use Rattle.fil_lower.specs.inside.Place.{AreUsesOf, ShowsBody, ShowsPlace, ShowsUses, Starts};
 
 use crate::body::Body;

@@ -198,7 +198,7 @@ module _ (comps : Design) (rules : FilRules comps) (n : ℕ) (c : Component) (at
       ap (λ m. flow_of (reverse (take m comps)) c.name args) e ∙ one_more (n + k + 1) (omega arith) (omega arith) ∙ so_far k (omega arith)
 
   -- its flow in the whole design is its body's, over the components before it
-  flow_is : flow_of (reverse comps) c.name args ≡ component_flow (flow_of (reverse (take n comps))) c args
+  pub flow_is : flow_of (reverse comps) c.name args ≡ component_flow (flow_of (reverse (take n comps))) c args
   flow_is =
       let within = slice_get_within comps n c at in
       let k = length comps - suc n in
@@ -208,7 +208,7 @@ module _ (comps : Design) (rules : FilRules comps) (n : ℕ) (c : Component) (at
       ∙ ap (λ (cs : Design). flow_of cs c.name args) (reverse-append (take n comps) (c ∷ [])) ∙ flow_here (reverse (take n comps)) c args
 
 -- each port of different names has its value
-each_found : (ports : List Named) → AreDistinct (map (λ (p : Named). p.name) ports) → All (λ (p : Named). value_named ports p.name ≡ p.value) ports
+pub each_found : (ports : List Named) → AreDistinct (map (λ (p : Named). p.name) ports) → All (λ (p : Named). value_named ports p.name ≡ p.value) ports
 each_found [] distinct = All-nil _
 each_found (p ∷ ports) distinct =
     let names = map (λ (p : Named). p.name) ports in
@@ -226,7 +226,7 @@ map_agree f g [] all = refl
 map_agree {X} f g (x ∷ xs) all =
     let P : X → Type 0 = λ x. f x ≡ g x in ap₂ ◌∷◌ (All-head P x xs all) (map_agree f g xs (All-tail P x xs all))
 
-long_given : (event : Text) (ports : List DataPort) (values : List ℕ) → length (inputs_given event ports values) ≡ length ports
+pub long_given : (event : Text) (ports : List DataPort) (values : List ℕ) → length (inputs_given event ports values) ≡ length ports
 long_given event [] values = refl
 long_given event (p ∷ ports) values = by (is_of_event event p) (long_given event ports)
   where
@@ -247,7 +247,7 @@ with_args (p ∷ ports) [] long = absurd (omega arith)
 with_args (p ∷ ports) (a ∷ args) long = ap (λ (vs : List ℕ). a ∷ vs) (with_args ports args (omega arith))
 
 -- the values of ports of different names, by their names
-given_back : (ports : List DataPort) (args : List ℕ) → length args ≡ length ports → AreDistinct (map (λ (p : DataPort). p.name) ports) → map (λ (p : DataPort). value_named (with_values ports args) p.name) ports ≡ args
+pub given_back : (ports : List DataPort) (args : List ℕ) → length args ≡ length ports → AreDistinct (map (λ (p : DataPort). p.name) ports) → map (λ (p : DataPort). value_named (with_values ports args) p.name) ports ≡ args
 given_back ports args long distinct =
     let D : List Text → Type 0 = AreDistinct in
     let all = with_values ports args in

@@ -8,5 +8,4 @@ pub mod MakesLemmas
 pub mod OwnLemmas
 pub mod TransactionLemmas
 pub mod UseLemmas
-pub mod InnerLemmas
 pub mod CarriedLemmas

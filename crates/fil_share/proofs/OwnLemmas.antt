@@ -26,9 +26,8 @@ use Rattle.fil_ast.specs.Signature.{Signature}
 use Rattle.fil_ast.specs.Timeline.{Use, IsUse, KeepsDelays}
 use Rattle.fil_ast.specs.Tree.{TimeAt, Event, Giving, Component, Design, Statement, New, Call, Both, Connect}
 use Rattle.fil_ast.specs.Wires.{whole_scope}
-use Rattle.fil_share.specs.Inner.{AreSpaced, IsSpaced, SpacedHoldsAreApart}
 use Rattle.fil_share.specs.Instances.{signature_of}
-use Rattle.fil_share.specs.Own.{OwnHoldsAreApart}
+use Rattle.fil_share.specs.Own.{AreSpaced, IsSpaced, OwnHoldsAreApart, SpacedHoldsAreApart}
 use Rattle.fil_share.proofs.ListLemmas.{two_of, AllPairs-head, AllPairs-tail, AllPairs-append, All-flat_map, Contains-at}
 use Rattle.fil_share.proofs.Lookup.{find_nowhere}
 use Rattle.fil_share.proofs.MakesLemmas.{at_statement, flat_next}
@@ -413,15 +412,6 @@ module _ (earlier : Design) (c : Component) (named : KeepsNames earlier c) where
         AllPairs-append NeverMeet (block m s) (holds_from whole (suc m) starts) (block_apart m s) (own_apart (suc m) starts (AllPairs-tail (AreSpaced c) s starts spaced))
         (All-weaker (IsHoldOf m s) (λ h. All (NeverMeet h) (holds_from whole (suc m) starts)) (λ h of_h. apart_after m (suc m) s h of_h starts (AllPairs-head (AreSpaced c) s starts spaced)) (block m s) (block_holds m s))
 
-    -- a hold by one of the transactions
-    abbrev pub IsOwnHold : Hold → Type 0
-    IsOwnHold h = (m : ℕ) × (s : Start) × (v : Invocation) × Contains whole.invocations v × IsHoldBy whole m s v h
-
-    pub own_holds : (m : ℕ) (starts : List Start) → All IsOwnHold (holds_from whole m starts)
-    own_holds m [] = All-nil _
-    own_holds m (s ∷ starts) =
-        All-append IsOwnHold (block m s) (holds_from whole (suc m) starts) (All-weaker (IsHoldOf m s) IsOwnHold (λ h of_h. (m, s, of_h.0, of_h.1, of_h.2)) (block m s) (block_holds m s)) (own_holds (suc m) starts)
-
 module _ (comps : Design) (rules : FilRules comps) (n : ℕ) (c : Component) (there : slice_get comps n ≡ Some c) where
   pub names_of : KeepsNames (take n comps) c
   names_of = record {
@@ -429,7 +419,7 @@ module _ (comps : Design) (rules : FilRules comps) (n : ℕ) (c : Component) (th
     known_names = λ k s at. at_statement comps rules n c there k s at 1 F1 (omega arith);
   }
 
-  pub shared_of : KeepsShared (take n comps) c
+  shared_of : KeepsShared (take n comps) c
   shared_of = record {
     delays = λ k s at. at_statement comps rules n c there k s at 9 F1 (omega arith);
     apart = λ k s at. at_statement comps rules n c there k s at 10 F1 (omega arith);

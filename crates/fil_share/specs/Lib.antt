@@ -3,6 +3,5 @@ pub mod Laws
 pub mod Instances
 pub mod Uses
 pub mod Own
-pub mod Inner
 pub mod Carried
 pub mod Held

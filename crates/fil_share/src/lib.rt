@@ -16,9 +16,9 @@
 //!
 //! What the layers above use: `meeting` is `None` exactly where F11 and F12 hold, and else the first meet (`IsFirstMeet`);
 //! `holds` is exactly the definition `holds_of`, whose list has each hold and nothing else (`holds_are_listed`). Laws say what
-//! the rules are for: of uses no longer than the delay they hold exactly where no legal transactions make two holds meet (`rules_are_exact`); in a design that keeps F1 to F14 what a legal
-//! list of transactions holds of one event of an instance is apart (`own_holds_are_apart`); and an instance that is made of a
-//! component gets starts that are far enough apart again (`inner_starts_are_spaced`).
+//! the rules are for: of uses no longer than the delay they hold exactly where no legal transactions make two holds meet
+//! (`rules_are_exact`); and in a design that keeps F1 to F14 what a legal list of transactions holds of one event of an instance
+//! is apart (`own_holds_are_apart`).
 #![tactic(auto)]
 
 mod callees;
@@ -38,8 +38,6 @@ pub use hold::{Hold, Meet};
 pub use instances::Instances;
 pub use judge::meeting;
 pub use laws::{forms_agree, meet_is_real, rules_are_exact, sharing_keeps_apart};
-pub use own::{
-    holds_are_listed, inner_starts_are_spaced, own_holds_are_apart, spaced_holds_are_apart,
-};
+pub use own::{holds_are_listed, own_holds_are_apart, spaced_holds_are_apart};
 pub use transactions::holds;
 pub use uses::{Use, component_uses};

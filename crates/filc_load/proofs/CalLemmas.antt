@@ -21,7 +21,7 @@ use Rattle.cal_ast.specs.declared.tree.CalDesign.{CalDesign}
 use Rattle.cal_check.specs.Weight.{IsWeight, AreWords, own_weight, own_words}
 use Rattle.cal_parse.specs.Grammar.{IsFile}
 use Rattle.cal_parse.specs.Spelling.{SpellsDesign, IsNested, IsRefusedAt}
-use Rattle.cal_parse.specs.Written.{IsCalName, ComponentIsWritten, DesignIsWritten}
+use Rattle.cal_ast.specs.Written.{IsCalName, ComponentIsWritten, DesignIsWritten}
 use Rattle.cal_parse.proofs.Designs.{one_tree}
 use Rattle.cal_parse.proofs.Passages.{passes-file}
 use Rattle.filc_load.proofs.ListLemmas.{all_at, each_at}

@@ -6,7 +6,7 @@ use Rattle.cal_ast.specs.Numbers as calyx_numbers
 use Rattle.cal_ast.specs.Rules.{CalRules}
 use Rattle.cal_ast.specs.Tree as calyx
 use Rattle.cal_ast.specs.declared.tree.CalDesign.{CalDesign}
-use Rattle.cal_parse.specs.Written as calyx_written
+use Rattle.cal_ast.specs.Written as calyx_written
 use Rattle.fil_ast.specs.Limits.{HasSmallOffsets}
 use Rattle.fil_ast.specs.Numbers.{HasNumbers as HasNumbersOfNames}
 use Rattle.fil_ast.specs.Rules.{FilRules}

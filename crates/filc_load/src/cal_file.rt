@@ -7,7 +7,7 @@ ghost use Rattle.cal_ast.specs.Tree.{design_of};
 ghost use Rattle.cal_check.specs.Refusals.{TellsRefusal};
 ghost use Rattle.cal_parse.specs.Spelling.{EndsBy};
 ghost use Rattle.cal_parse.specs.declared.parse.CalTextEnd.{CalTextEnd};
-ghost use Rattle.cal_parse.specs.Written.{DesignIsWritten};
+ghost use Rattle.cal_ast.specs.Written.{DesignIsWritten};
 ghost use Rattle.filc_stop.specs.Stops.{IsOfSource};
 ghost use Rattle.filc_load.specs.Built.{KnowsFile, IsCalDesignOf, IsCalBuiltFrom, IsCalReady, IsOverweightCal, IsUnbuilt, IsUnfitCal, IsUnread};
 ghost use Rattle.filc_load.specs.CalFile.{HasFewWords, IsLight, LeavesOutAt, first_word};

@@ -1,6 +1,6 @@
 -- That tables show what the body of a component says, and the ports of its bits. This project's.
-use Rattle.std.specs.Prelude.{◌≡◌, ◌≢◌, ℕ, ◌+◌, ◌<◌, ◌≤◌, ◌==◌, List, [], ◌∷◌, ◌++◌, length, map, filter, flat_map, fold, max, take, slice_get, bytes_eq}
-use Rattle.std.specs.Prelude.{Bool, Option, Some, None, All, Contains, Vec}
+use Rattle.std.specs.Prelude.{◌≡◌, ℕ, ◌<◌, List, [], length, map, filter, flat_map, fold, max, take, slice_get, bytes_eq}
+use Rattle.std.specs.Prelude.{Bool, Some, All, Contains, Vec}
 use Rattle.std.specs.declared.alloc.Global.{Global}
 use Rattle.std.specs.Option.{option_map_or}
 use Rattle.hw_names.specs.Name.{Text, IsPlain, AreDistinct, KeepsTexts, text_of}
@@ -9,7 +9,7 @@ use Rattle.cal_ast.specs.Tree.{PortName, Assignment, own, cell_tree, assignment_
 use Rattle.cal_ast.specs.declared.tree.CalPort.{CalPort}
 use Rattle.fil_ast.specs.Holds.{uses_of}
 use Rattle.fil_ast.specs.Limits.{KeepsLimits}
-use Rattle.fil_ast.specs.Naming.{NamesEvent, instance_names, invocation_names}
+use Rattle.fil_ast.specs.Naming.{NamesEvent, invocation_names}
 use Rattle.fil_ast.specs.Numbers.{ComponentHasNumbers, IsNumberOf}
 use Rattle.fil_ast.specs.Rules.{FilRules}
 use Rattle.fil_ast.specs.Scope.{Scope, Invocation, instance_signature}
@@ -21,10 +21,11 @@ use Rattle.fil_ast.specs.Wires.{whole_scope}
 use Rattle.fil_share.specs.Instances.{ShowsScope}
 use Rattle.fil_share.specs.Uses.{Held, IsGoodUse, held_by, is_on, shown_use}
 use Rattle.fil_share.specs.declared.uses.Use.{Use}
-use Rattle.fil_fsm.specs.Chain.{IsGenerated, chain_bits, chain_sets, register}
+use Rattle.fil_fsm.specs.Chain.{chain_bits, chain_sets, register}
+use Rattle.fil_promise.specs.Refines.{IsGenerated}
 use Rattle.fil_fsm.specs.Registers.{PartsHaveNumbers}
 use Rattle.fil_fsm.specs.declared.shift.FsmParts.{FsmParts}
-use Rattle.fil_lower.specs.Lowering.{Lowering, Registers, HasEnoughBits, HasNewRegisters, bits_of, inputs_of_callee, last_bit, register_sets, wants_in}
+use Rattle.fil_lower.specs.inside.Lowering.{Lowering, Registers, HasEnoughBits, bits_of, inputs_of_callee, last_bit, register_sets, wants_in}
 use Rattle.fil_lower.specs.inside.Parts.{IsGoodPort, NamesAllPorts}
 use Rattle.fil_lower.specs.declared.bits.EventBits.{EventBits}
 use Rattle.fil_lower.specs.declared.body.Body.{Body}

@@ -4,7 +4,7 @@ use Rattle.std.proofs.lemmas.List.Elements.{All-contains}
 use Rattle.std.proofs.lemmas.Result.{IfOk-weaker}
 use Rattle.fil_ast.specs.Timeline.{interval_at}
 use Rattle.fil_sig.specs.Seen.{seen_port}
-use Rattle.fil_lower.specs.Lowering.{bits_of, during}
+use Rattle.fil_lower.specs.inside.Lowering.{bits_of, during}
 use Rattle.fil_lower.specs.inside.Parts.{IsGoodPort, interval_shown, invocation_shown}
 use Rattle.fil_lower.proofs.CallLemmas.{IsCalled}
 use Rattle.fil_lower.proofs.KnownLemmas.{argument_fits, called, callee_port, interval_event, some_of}

@@ -3,7 +3,7 @@ use Rattle.cal_ast.specs.Tree.{assignment_tree}
 use Rattle.fil_ast.specs.Scope.{invocations_at}
 use Rattle.fil_ast.specs.Tree.{Component, statement_tree}
 use Rattle.fil_share.proofs.Lookup.{at_mapped}
-use Rattle.fil_lower.specs.Lowering.{invocation_sets}
+use Rattle.fil_lower.specs.inside.Lowering.{invocation_sets}
 use Rattle.fil_lower.proofs.StepLemmas.{walk_next}
 use Rattle.fil_lower.proofs.arguments.push_arguments.Goals as goal
 

@@ -11,7 +11,7 @@ use Rattle.fil_ast.specs.Tree.{ValueTree, value_tree}
 use Rattle.fil_sig.specs.Seen.{seen_port}
 use Rattle.fil_share.proofs.ListLemmas.{Contains-at}
 use Rattle.fil_share.proofs.Lookup.{at_mapped, got}
-use Rattle.fil_lower.specs.Lowering.{Lowering, argument_set, argument_sets}
+use Rattle.fil_lower.specs.inside.Lowering.{Lowering, argument_set, argument_sets}
 use Rattle.fil_lower.specs.inside.Parts.{invocation_shown}
 use Rattle.fil_lower.specs.inside.Place.{NamesInvocation}
 use Rattle.fil_lower.proofs.KnownLemmas.{argument_next, args_named}

@@ -2,7 +2,7 @@ use Rattle.std.proofs.Common.{◌≡◌, ◌++◌, All, map, take}
 use Rattle.cal_ast.specs.Numbers.{SetHasNumbers}
 use Rattle.cal_ast.specs.Tree.{assignment_tree}
 use Rattle.fil_sig.specs.Seen.{seen_port}
-use Rattle.fil_lower.specs.Lowering.{Lowering, argument_sets}
+use Rattle.fil_lower.specs.inside.Lowering.{Lowering, argument_sets}
 use Rattle.fil_lower.specs.inside.Parts.{invocation_shown}
 use Rattle.fil_lower.specs.inside.Place.{ShowsPlace}
 use Rattle.fil_lower.proofs.arguments.push_call.Given as goal

@@ -10,7 +10,7 @@ use Rattle.fil_ast.specs.Numbers.{StatementHasNumbers}
 use Rattle.fil_ast.specs.Tree.{Component, statement_tree, value_tree}
 use Rattle.fil_ast.specs.declared.tree.Stmt.{Stmt}
 use Rattle.fil_share.proofs.Lookup.{at_mapped}
-use Rattle.fil_lower.specs.Lowering.{connection_set}
+use Rattle.fil_lower.specs.inside.Lowering.{connection_set}
 use Rattle.fil_lower.proofs.BodyLemmas.{item_at}
 use Rattle.fil_lower.proofs.KnownLemmas.{connected_named}
 use Rattle.fil_lower.proofs.PlaceLemmas.{no_connection, own_has, own_shown}

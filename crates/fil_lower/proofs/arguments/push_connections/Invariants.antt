@@ -1,7 +1,7 @@
 use Rattle.std.proofs.Common.{◌≡◌, ◌++◌, All, map, flat_map, take}
 use Rattle.cal_ast.specs.Numbers.{SetHasNumbers}
 use Rattle.cal_ast.specs.Tree.{assignment_tree}
-use Rattle.fil_lower.specs.Lowering.{Lowering, connection_set}
+use Rattle.fil_lower.specs.inside.Lowering.{Lowering, connection_set}
 use Rattle.fil_lower.specs.inside.Place.{ShowsPlace}
 use Rattle.fil_lower.proofs.arguments.push_connections.Given as goal
 

@@ -7,7 +7,7 @@ use Rattle.fil_ast.specs.Scope.{instance_signature, invocations_at}
 use Rattle.fil_ast.specs.Signature.{Signature}
 use Rattle.fil_ast.specs.Tree.{statement_tree}
 use Rattle.fil_sig.specs.Seen.{seen, seen_port}
-use Rattle.fil_lower.specs.Lowering.{argument_sets, invocation_sets}
+use Rattle.fil_lower.specs.inside.Lowering.{argument_sets, invocation_sets}
 use Rattle.fil_lower.specs.inside.Parts.{invocation_shown}
 use Rattle.fil_lower.proofs.KnownLemmas.{invocation_among}
 use Rattle.fil_lower.proofs.arguments.push_statement.Goals as goal

@@ -8,7 +8,7 @@ use Rattle.fil_ast.specs.declared.tree.GoPort.{GoPort}
 use Rattle.fil_fsm.proofs.FreshLemmas.{KeepsTexts-trans}
 use Rattle.fil_fsm.specs.Chain.{IsShiftRegister}
 use Rattle.fil_fsm.specs.Registers.{PartsHaveNumbers}
-use Rattle.fil_lower.specs.Lowering.{wanted_by}
+use Rattle.fil_lower.specs.inside.Lowering.{wanted_by}
 use Rattle.fil_lower.specs.inside.Place.{ShowsEvent, greatest, unregistered}
 use Rattle.fil_lower.proofs.EventLemmas.{with_register, without_register}
 use Rattle.fil_lower.proofs.PlaceLemmas.{both_ok, own_shown}

@@ -5,7 +5,7 @@ use Rattle.fil_ast.specs.Timeline.{interval_at}
 use Rattle.fil_ast.specs.Tree.{time_tree}
 use Rattle.fil_sig.specs.Seen.{seen_port}
 use Rattle.fil_share.proofs.Lookup.{at_mapped}
-use Rattle.fil_lower.specs.Lowering.{wants_in}
+use Rattle.fil_lower.specs.inside.Lowering.{wants_in}
 use Rattle.fil_lower.specs.inside.Parts.{IsGoodPort}
 use Rattle.fil_lower.specs.inside.Place.{greatest}
 use Rattle.fil_lower.proofs.StepLemmas.{All-at, greatest_next, ord_max-max, whole_taken}

@@ -4,7 +4,7 @@ use Rattle.fil_ast.specs.Timeline.{interval_at}
 use Rattle.fil_ast.specs.Tree.{time_tree}
 use Rattle.fil_sig.specs.Seen.{seen_port}
 use Rattle.hw_limits.specs.declared.limits.TheConstants.{MOST_ROWS}
-use Rattle.fil_lower.specs.Lowering.{Lowering, wants_in}
+use Rattle.fil_lower.specs.inside.Lowering.{Lowering, wants_in}
 use Rattle.fil_lower.specs.inside.Place.{greatest}
 use Rattle.fil_lower.proofs.body.last_of_call.Given as goal
 

@@ -10,7 +10,7 @@ use Rattle.fil_ast.specs.Tree.{statement_tree}
 use Rattle.fil_fsm.proofs.FreshLemmas.{KeepsTexts-trans}
 use Rattle.fil_share.proofs.Lookup.{at_mapped}
 use Rattle.fil_share.proofs.MakesLemmas.{flat_next}
-use Rattle.fil_lower.specs.Lowering.{lowered_cell}
+use Rattle.fil_lower.specs.inside.Lowering.{lowered_cell}
 use Rattle.fil_lower.specs.inside.Parts.{instance_shown}
 use Rattle.fil_lower.proofs.KeptLemmas.{cell_numbers, cells_kept}
 use Rattle.fil_lower.proofs.cells.instance_cells.Goals.{in-Some+in_ok-instance_cell+in_ok-push, in_default}

@@ -4,7 +4,7 @@ use Rattle.cal_ast.specs.Numbers.{CellHasNumbers}
 use Rattle.cal_ast.specs.Tree.{cell_tree}
 use Rattle.fil_ast.specs.Scope.{instances_at}
 use Rattle.fil_ast.specs.Tree.{component_tree}
-use Rattle.fil_lower.specs.Lowering.{lowered_cell}
+use Rattle.fil_lower.specs.inside.Lowering.{lowered_cell}
 use Rattle.fil_lower.proofs.cells.instance_cells.Given as goal
 
 abbrev pub invariant-loop-stmt : goal.invariant-loop-stmt

@@ -12,7 +12,7 @@ use Rattle.cal_ast.specs.declared.tree.CalPort.{CalPort}
 use Rattle.fil_ast.specs.Scope.{Scope, instances_at}
 use Rattle.fil_ast.specs.Tree.{Component}
 use Rattle.fil_fsm.proofs.FreshLemmas.{KeepsTexts-trans}
-use Rattle.fil_lower.specs.Lowering.{Lowering, connection_set, invocation_sets, lowered_cell, start_sets}
+use Rattle.fil_lower.specs.inside.Lowering.{Lowering, connection_set, invocation_sets, lowered_cell, start_sets}
 use Rattle.fil_lower.specs.inside.Place.{ShowsBits}
 use Rattle.fil_lower.proofs.ComponentLemmas.{lowered_by, new_registers, same_component}
 use Rattle.fil_lower.proofs.KeptLemmas.{cell_numbers, cells_kept}

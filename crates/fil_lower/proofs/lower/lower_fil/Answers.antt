@@ -1,4 +1,4 @@
-use Rattle.std.proofs.Common.{◌≡◌, ◌<◌, ◌++◌, ◌∷◌, [], ℕ, List, All, Contains, length, take, get_or, slice_get, Some, inl, inr, refl, sym, ap, subst, ◌∙◌, arith}
+use Rattle.std.proofs.Common.{◌≡◌, ◌<◌, ◌++◌, ◌∷◌, [], ℕ, List, All, Contains, length, map, take, get_or, slice_get, Some, inl, inr, refl, sym, ap, subst, ◌∙◌, arith}
 use Rattle.std.proofs.lemmas.List.{length-append, length-map, map-append}
 use Rattle.std.proofs.lemmas.List.Elements.{All-push}
 use Rattle.std.proofs.lemmas.Option.{same_Some}
@@ -8,15 +8,16 @@ use Rattle.cal_ast.specs.Tree as calyx
 use Rattle.cal_ast.specs.declared.tree.CalComp.{CalComp}
 use Rattle.fil_ast.specs.Items.{TheSignature}
 use Rattle.fil_ast.specs.Naming.{component_names}
-use Rattle.fil_ast.specs.Rules.{F1}
+use Rattle.fil_ast.specs.Rules.{F1, FilRules}
 use Rattle.fil_ast.specs.Tree.{Component, component_tree, design_of}
 use Rattle.fil_ast.specs.Wires.{whole_scope}
 use Rattle.fil_ast.specs.declared.tree.FilDesign.{FilDesign}
 use Rattle.fil_fsm.proofs.FreshLemmas.{KeepsTexts-trans}
 use Rattle.fil_share.proofs.Lookup.{at_mapped}
 use Rattle.fil_share.proofs.MakesLemmas.{take_next}
-use Rattle.fil_lower.specs.Lowering.{IsLoweredTo}
+use Rattle.fil_lower.specs.inside.Lowering.{IsLoweredTo}
 use Rattle.fil_lower.proofs.ComponentLemmas.{lowered_kept, mapped_at, numbers_kept, one_more}
+use Rattle.fil_lower.proofs.LowersLemmas.{lowering_lowers}
 use Rattle.fil_lower.proofs.StepLemmas.{All-at, some_read}
 use Rattle.fil_lower.proofs.UseLemmas.{some_at}
 use Rattle.fil_lower.proofs.lower.lower_fil.Goals as goal
@@ -84,16 +85,18 @@ loop-number-preserved c =
           ];
     }
 
-pub returns-clause-lowering : goal.returns-clause-lowering
-returns-clause-lowering c =
+pub returns-clause-lowers : goal.returns-clause-lowers
+returns-clause-lowers c plain =
     let d = c.args.ok.now in
     let same = ap (λ (e : FilDesign). length e.comps.items) c.design-design.ensures.same in
     let names = c.loop-number.names in
     let comps = c.loop-number.comps.items in
     let inv = c.loop-number.invariant in
-    record {
+    let rules = subst (λ (e : FilDesign). FilRules (design_of e)) c.design-design.ensures.same c.design-design.ensures.rules in
+    lowering_lowers (design_of d) rules (map (calyx.component_tree names) comps)
+    (record {
       count = omega (arith, length-map comps (calyx.component_tree names), length-map d.comps.items (component_tree d.names), inv.count, same, c.loop-number-test.false, c.loop-number.auto.number-end, c.len-number-end.ensures, c.design-design.result.now.comps.ok.0);
       components = λ n k low at_k at_low.
           let (x, at_x, is) = mapped_at (calyx.component_tree names) comps n low at_low in
           subst (IsLoweredTo (take n (design_of d)) k) is (inv.lowered n k x at_k at_x);
-    }
+    }) plain

@@ -5,7 +5,7 @@ use Rattle.cal_ast.specs.Tree as calyx
 use Rattle.cal_ast.specs.declared.tree.CalComp.{CalComp}
 use Rattle.fil_ast.specs.Naming.{component_names}
 use Rattle.fil_ast.specs.Tree.{Component, design_of}
-use Rattle.fil_lower.specs.Lowering.{IsLoweredTo}
+use Rattle.fil_lower.specs.inside.Lowering.{IsLoweredTo}
 use Rattle.fil_lower.proofs.lower.lower_fil.Given as goal
 
 -- the components so far

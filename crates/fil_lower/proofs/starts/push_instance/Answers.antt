@@ -5,7 +5,7 @@ use Rattle.cal_ast.specs.Tree.{assignment_tree, port_tree}
 use Rattle.fil_ast.specs.Signature.{SigEvent}
 use Rattle.fil_sig.specs.Seen.{seen_event}
 use Rattle.fil_share.proofs.Lookup.{at_mapped}
-use Rattle.fil_lower.specs.Lowering.{Lowering, start_set, start_sets_from, starting_bits}
+use Rattle.fil_lower.specs.inside.Lowering.{Lowering, start_set, start_sets_from, starting_bits}
 use Rattle.fil_lower.specs.inside.Parts.{IsNamedEvent}
 use Rattle.fil_lower.proofs.KnownLemmas.{starts_fit}
 use Rattle.fil_lower.proofs.UseNumberLemmas.{start_next}

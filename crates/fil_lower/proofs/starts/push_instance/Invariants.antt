@@ -3,7 +3,7 @@ use Rattle.hw_names.specs.Name.{text_of}
 use Rattle.cal_ast.specs.Numbers.{SetHasNumbers}
 use Rattle.cal_ast.specs.Tree.{assignment_tree}
 use Rattle.fil_sig.specs.Seen.{seen_event}
-use Rattle.fil_lower.specs.Lowering.{Lowering, start_sets_from}
+use Rattle.fil_lower.specs.inside.Lowering.{Lowering, start_sets_from}
 use Rattle.fil_lower.specs.inside.Place.{AreUsesOf, ShowsPlace}
 use Rattle.fil_lower.proofs.starts.push_instance.Given as goal
 

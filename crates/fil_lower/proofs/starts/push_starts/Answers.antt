@@ -4,7 +4,7 @@ use Rattle.fil_ast.specs.Scope.{instances_at}
 use Rattle.fil_ast.specs.Tree.{Component, statement_tree}
 use Rattle.fil_share.proofs.ListLemmas.{Contains-at}
 use Rattle.fil_share.proofs.Lookup.{at_mapped}
-use Rattle.fil_lower.specs.Lowering.{start_sets}
+use Rattle.fil_lower.specs.inside.Lowering.{start_sets}
 use Rattle.fil_lower.proofs.StepLemmas.{walk_next}
 use Rattle.fil_lower.proofs.starts.push_starts.Goals as goal
 

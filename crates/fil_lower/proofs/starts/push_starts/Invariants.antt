@@ -2,7 +2,7 @@ use Rattle.std.proofs.Common.{◌≡◌, ◌++◌, All, map, flat_map, take}
 use Rattle.cal_ast.specs.Numbers.{SetHasNumbers}
 use Rattle.cal_ast.specs.Tree.{assignment_tree}
 use Rattle.fil_ast.specs.Scope.{instances_at}
-use Rattle.fil_lower.specs.Lowering.{Lowering, start_sets}
+use Rattle.fil_lower.specs.inside.Lowering.{Lowering, start_sets}
 use Rattle.fil_lower.specs.inside.Place.{ShowsPlace}
 use Rattle.fil_lower.proofs.starts.push_starts.Given as goal
 

@@ -11,7 +11,7 @@ use Rattle.fil_ast.specs.Signature.{SigEvent, Signature}
 use Rattle.fil_ast.specs.Tree.{statement_tree}
 use Rattle.fil_sig.specs.Seen.{seen, seen_event}
 use Rattle.fil_share.proofs.Lookup.{not_found}
-use Rattle.fil_lower.specs.Lowering.{start_sets, start_sets_from}
+use Rattle.fil_lower.specs.inside.Lowering.{start_sets, start_sets_from}
 use Rattle.fil_lower.specs.inside.Parts.{instance_shown}
 use Rattle.fil_lower.specs.inside.Place.{AreUsesOf}
 use Rattle.fil_lower.proofs.KnownLemmas.{instance_among}

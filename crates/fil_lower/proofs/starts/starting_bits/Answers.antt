@@ -11,7 +11,7 @@ use Rattle.cal_ast.specs.declared.tree.CalPort.{CalPort}
 use Rattle.fil_share.proofs.ListLemmas.{Contains-at}
 use Rattle.fil_share.specs.Uses.{IsGoodUse}
 use Rattle.fil_share.specs.declared.uses.Use.{Use}
-use Rattle.fil_lower.specs.Lowering.{bit_at}
+use Rattle.fil_lower.specs.inside.Lowering.{bit_at}
 use Rattle.fil_lower.specs.inside.Place.{is_of}
 use Rattle.fil_lower.proofs.UseNumberLemmas.{bits_at, bits_next, is_of_instance, starting, use_at, use_starts}
 use Rattle.fil_lower.proofs.StepLemmas.{All-at, some_read}

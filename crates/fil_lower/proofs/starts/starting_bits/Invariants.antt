@@ -2,7 +2,7 @@ use Rattle.std.proofs.Common.{◌≡◌, All, map, filter, take}
 use Rattle.hw_names.specs.Name.{Text}
 use Rattle.cal_ast.specs.Numbers.{PortHasNumbers}
 use Rattle.cal_ast.specs.Tree.{port_tree}
-use Rattle.fil_lower.specs.Lowering.{Lowering}
+use Rattle.fil_lower.specs.inside.Lowering.{Lowering}
 use Rattle.fil_lower.specs.inside.Place.{AreUsesOf, ShowsPlace, is_of}
 use Rattle.fil_lower.proofs.UseNumberLemmas.{bits_at}
 use Rattle.fil_lower.proofs.starts.starting_bits.Given as goal

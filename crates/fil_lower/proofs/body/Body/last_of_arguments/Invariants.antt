@@ -1,7 +1,7 @@
 use Rattle.std.proofs.Common.{◌≡◌, ◌<◌, flat_map, take}
 use Rattle.fil_ast.specs.Scope.{invocations_at}
 use Rattle.hw_limits.specs.declared.limits.TheConstants.{MOST_ROWS}
-use Rattle.fil_lower.specs.Lowering.{Lowering}
+use Rattle.fil_lower.specs.inside.Lowering.{Lowering}
 use Rattle.fil_lower.specs.inside.Place.{ShowsBody, greatest, wanted_by_ports}
 use Rattle.fil_lower.proofs.body.Body.last_of_arguments.Given as goal
 

@@ -6,7 +6,7 @@ use Rattle.fil_ast.specs.Timeline.{interval_at}
 use Rattle.fil_ast.specs.Tree.{statement_tree, time_tree}
 use Rattle.fil_sig.specs.Seen.{seen, seen_port}
 use Rattle.fil_sig.specs.declared.time_sig.SigPort.{SigPort}
-use Rattle.fil_lower.specs.Lowering.{wants_in}
+use Rattle.fil_lower.specs.inside.Lowering.{wants_in}
 use Rattle.fil_lower.specs.inside.Parts.{IsGoodPort, invocation_shown}
 use Rattle.fil_lower.specs.inside.Place.{greatest}
 use Rattle.fil_lower.proofs.BodyLemmas.{wanted_alone, wanted_of}

@@ -5,7 +5,7 @@ use Rattle.std.proofs.lemmas.List.{length-map}
 use Rattle.hw_names.specs.Name.{text_of}
 use Rattle.cal_ast.specs.Numbers.{PortHasNumbers}
 use Rattle.cal_ast.specs.Tree.{PortName, port_tree}
-use Rattle.fil_lower.specs.Lowering.{any_of, bits_from, bits_of}
+use Rattle.fil_lower.specs.inside.Lowering.{any_of, bits_from, bits_of}
 use Rattle.fil_lower.proofs.PlaceLemmas.{All-range, bits_range, has_go, map_range}
 use Rattle.fil_lower.proofs.place.Place.during.Goals as goal
 

@@ -8,7 +8,7 @@ use Rattle.fil_ast.specs.Numbers.{ValueHasNumbers}
 use Rattle.fil_ast.specs.Scope.{Invocation, invocation_named}
 use Rattle.fil_ast.specs.Tree.{value_tree}
 use Rattle.fil_ast.specs.declared.tree.Value.{Value}
-use Rattle.fil_lower.specs.Lowering.{lowered_value}
+use Rattle.fil_lower.specs.inside.Lowering.{lowered_value}
 use Rattle.fil_lower.proofs.PlaceLemmas.{port_has, port_shown}
 use Rattle.fil_lower.proofs.place.Place.source.Goals as goal
 
