@@ -18,55 +18,55 @@ use Rattle.fil_ast.specs.Rules.{FilRules}
 use Rattle.fil_ast.specs.Scope.{Instance, bare_signature, component_named, instance_named, instances_at, signature_in}
 use Rattle.fil_ast.specs.Tree.{Component, Design}
 use Rattle.fil_ast.specs.Wires.{whole_scope}
-use Rattle.fil_fsm.specs.Refines as refines
-use Rattle.fil_fsm.specs.Refines.{IsInstanceAt}
+use Rattle.fil_promise.specs.Refines as refines
+use Rattle.fil_promise.specs.Refines.{IsInstanceAt}
 use Rattle.fil_share.proofs.ListLemmas.{slice_get-take}
 use Rattle.fil_share.proofs.MakesLemmas.{makes_instances}
 use Rattle.fil_share.specs.Instances.{CanBeMade}
 use Rattle.fil_lower.proofs.DesignLemmas.{same_place}
+use Rattle.fil_laws.proofs.EventLemmas.{is_name}
 use Rattle.fil_laws.proofs.PlaceLemmas.{place_of}
-use Rattle.fil_laws.proofs.SpanLemmas.{found_name}
 use Rattle.fil_laws.specs.Paths.{EachInstanceIsGiven, IsGivenAt, WhatIsGivenIsOne}
 
 -- ---- one thing
 
 -- what is given at the empty path
-record IsItself (comps : Design) (b : Behaviour) (given : List Transaction) (n : ℕ) (txs : List Transaction) : Type 0 where
-  c : Component
-  at : slice_get comps n ≡ Some c
-  promises : b ≡ component_behaviour (take n comps) c
-  list : given ≡ txs
+pub record IsItself (comps : Design) (b : Behaviour) (given : List Transaction) (n : ℕ) (txs : List Transaction) : Type 0 where
+  pub c : Component
+  pub at : slice_get comps n ≡ Some c
+  pub promises : b ≡ component_behaviour (take n comps) c
+  pub list : given ≡ txs
 
-of_itself : (comps : Design) (b : Behaviour) (given : List Transaction) (n : ℕ) (txs : List Transaction) → IsGiven comps b given n txs [] → IsItself comps b given n txs
+pub of_itself : (comps : Design) (b : Behaviour) (given : List Transaction) (n : ℕ) (txs : List Transaction) → IsGiven comps b given n txs [] → IsItself comps b given n txs
 of_itself comps b given n txs (Itself k c at is) = record { c = c; at = at; promises = is; list = refl }
 
 -- what is given to a primitive instance
-record IsOfPrimitive (comps : Design) (b : Behaviour) (given : List Transaction) (n : ℕ) (txs : List Transaction) (inst : Text) (path : Path) : Type 0 where
-  c : Component
-  at : slice_get comps n ≡ Some c
-  i : Instance
-  found : instance_named (whole_scope (take n comps) c).instances inst ≡ Some i
-  prim : Primitive
-  means : filament_primitive i.made i.params ≡ Some prim
-  promises : b ≡ behaviour_of prim
-  list : given ≡ inner_transactions (take n comps) c txs inst
-  ends : path ≡ []
+pub record IsOfPrimitive (comps : Design) (b : Behaviour) (given : List Transaction) (n : ℕ) (txs : List Transaction) (inst : Text) (path : Path) : Type 0 where
+  pub c : Component
+  pub at : slice_get comps n ≡ Some c
+  pub i : Instance
+  pub found : instance_named (whole_scope (take n comps) c).instances inst ≡ Some i
+  pub prim : Primitive
+  pub means : filament_primitive i.made i.params ≡ Some prim
+  pub promises : b ≡ behaviour_of prim
+  pub list : given ≡ inner_transactions (take n comps) c txs inst
+  pub ends : path ≡ []
 
 -- what is given in or below an instance of a component
-record IsBelow (comps : Design) (b : Behaviour) (given : List Transaction) (n : ℕ) (txs : List Transaction) (inst : Text) (path : Path) : Type 0 where
-  c : Component
-  at : slice_get comps n ≡ Some c
-  i : Instance
-  found : instance_named (whole_scope (take n comps) c).instances inst ≡ Some i
-  none : is_filament_primitive i.made ≡ false
-  m : ℕ
-  below : m < n
-  d : Component
-  at_m : slice_get comps m ≡ Some d
-  named : d.name ≡ i.made
-  rest : IsGiven comps b given m (inner_transactions (take n comps) c txs inst) path
+pub record IsBelow (comps : Design) (b : Behaviour) (given : List Transaction) (n : ℕ) (txs : List Transaction) (inst : Text) (path : Path) : Type 0 where
+  pub c : Component
+  pub at : slice_get comps n ≡ Some c
+  pub i : Instance
+  pub found : instance_named (whole_scope (take n comps) c).instances inst ≡ Some i
+  pub none : is_filament_primitive i.made ≡ false
+  pub m : ℕ
+  pub below : m < n
+  pub d : Component
+  pub at_m : slice_get comps m ≡ Some d
+  pub named : d.name ≡ i.made
+  pub rest : IsGiven comps b given m (inner_transactions (take n comps) c txs inst) path
 
-of_instance : (comps : Design) (b : Behaviour) (given : List Transaction) (n : ℕ) (txs : List Transaction) (inst : Text) (path : Path) → IsGiven comps b given n txs (inst ∷ path) →
+pub of_instance : (comps : Design) (b : Behaviour) (given : List Transaction) (n : ℕ) (txs : List Transaction) (inst : Text) (path : Path) → IsGiven comps b given n txs (inst ∷ path) →
     IsOfPrimitive comps b given n txs inst path ⊎ IsBelow comps b given n txs inst path
 of_instance comps b given n txs inst path (OfPrimitive k us c name i prim at found means promises list) =
     inl (record { c = c; at = at; i = i; found = found; prim = prim; means = means; promises = promises; list = list; ends = refl })
@@ -74,7 +74,7 @@ of_instance comps b given n txs inst path (Below k m us c d name i deeper at fou
     inr (record { c = c; at = at; i = i; found = found; none = none; m = m; below = below; d = d; at_m = at_m; named = named; rest = rest })
 
 -- a name that means a primitive is no component's
-primitive_name : (i : Instance) (prim : Primitive) → filament_primitive i.made i.params ≡ Some prim → is_filament_primitive i.made ≡ false → ⊥
+pub primitive_name : (i : Instance) (prim : Primitive) → filament_primitive i.made i.params ≡ Some prim → is_filament_primitive i.made ≡ false → ⊥
 primitive_name i prim means none = by (table_name i.made) refl
   where
     by : (o : Option Text) → table_name i.made ≡ o → ⊥
@@ -126,6 +126,14 @@ pub what_is_given_is_one : WhatIsGivenIsOne
 what_is_given_is_one comps n txs path b b' given given' rules is is' = one_given comps rules b b' given given' path n txs is is'
 
 -- ---- something
+
+found_name : (name : Text) (comps : Design) (d : Component) → component_named comps name ≡ Some d → Contains comps d × (d.name ≡ name)
+found_name name [] d is = absurd (none-some d is)
+found_name name (e ∷ comps) d is = by (bytes_eq e.name name) refl is (found_name name comps d)
+  where
+    by : (b : Bool) → bytes_eq e.name name ≡ b → cond b (Some e) (component_named comps name) ≡ Some d → (component_named comps name ≡ Some d → Contains comps d × (d.name ≡ name)) → Contains (e ∷ comps) d × (d.name ≡ name)
+    by true here is later = let same = same_Some e d is in ((0, omega arith, same), ap (λ (x : Component). x.name) (sym same) ∙ is_name e.name name here)
+    by false there is later = let m = later is in ((suc m.0.0, omega (arith, m.0.1), m.0.2), m.1)
 
 found_there : (name : Text) (instances : List Instance) (i : Instance) → instance_named instances name ≡ Some i → Contains instances i
 found_there name [] i is = absurd (none-some i is)

@@ -5,3 +5,7 @@ pub mod PathLemmas
 pub mod GivenLemmas
 pub mod ListLemmas
 pub mod NeededLemmas
+pub mod AlikeGivenLemmas
+pub mod AloneLemmas
+pub mod FlowLemmas
+pub mod OwnValueLemmas

@@ -25,9 +25,9 @@ use Rattle.fil_laws.specs.Paths.{IsLegalList}
 -- ---- searches
 
 -- an element that passes
-record Passes {X : Type 0} (test : X → Bool) (xs : List X) (x : X) : Type 0 where
-  among : Contains xs x
-  passes : test x ≡ true
+pub record Passes {X : Type 0} (test : X → Bool) (xs : List X) (x : X) : Type 0 where
+  pub among : Contains xs x
+  pub passes : test x ≡ true
 
 first_passes : {X : Type 0} (test : X → Bool) (xs : List X) (x : X) → find test xs ≡ Some x → Passes test xs x
 first_passes test [] x is = absurd (none-some x is)
@@ -47,7 +47,7 @@ one_found {X} test (y ∷ xs) x is = by (test y) refl (first_or_later y xs x is.
     by false there (inl same) rest = absurd (false≢true (sym there ∙ ap test same ∙ is.passes))
     by false there (inr later) rest = rest later
 
-any_passes : {X : Type 0} (test : X → Bool) (xs : List X) (x : X) → Passes test xs x → list_any test xs ≡ true
+pub any_passes : {X : Type 0} (test : X → Bool) (xs : List X) (x : X) → Passes test xs x → list_any test xs ≡ true
 any_passes test [] x is = absurd (omega (arith, is.among.1))
 any_passes {X} test (y ∷ xs) x is = by (test y) refl (first_or_later y xs x is.among) (λ later. any_passes test xs x (record { among = later; passes = is.passes }))
   where
@@ -56,7 +56,7 @@ any_passes {X} test (y ∷ xs) x is = by (test y) refl (first_or_later y xs x is
     by false there (inl same) rest = absurd (false≢true (sym there ∙ ap test same ∙ is.passes))
     by false there (inr later) rest = rest later
 
-some_passes : {X : Type 0} (test : X → Bool) (xs : List X) → list_any test xs ≡ true → (x : X) × Passes test xs x
+pub some_passes : {X : Type 0} (test : X → Bool) (xs : List X) → list_any test xs ≡ true → (x : X) × Passes test xs x
 some_passes test [] is = absurd (false≢true is)
 some_passes {X} test (x ∷ xs) is = by (test x) refl is (some_passes test xs)
   where

@@ -16,8 +16,8 @@ use Rattle.fil_ast.specs.Signature.{component_signature, event_number, sig_event
 use Rattle.fil_ast.specs.Timeline as timeline
 use Rattle.fil_ast.specs.Tree.{Component, DataPort, Design}
 use Rattle.fil_share.proofs.ListLemmas.{Contains-at}
-use Rattle.fil_lower.specs.PlanOf.{callee_of, plan_of}
-use Rattle.fil_lower.specs.PlanRules.{given_transactions}
+use Rattle.fil_lower.specs.inside.PlanOf.{callee_of, plan_of}
+use Rattle.fil_lower.specs.inside.PlanRules.{given_transactions}
 use Rattle.fil_lower.proofs.AlikeLemmas.{alike_legal}
 use Rattle.fil_lower.proofs.CallLemmas.{sound_at}
 use Rattle.fil_lower.proofs.DesignLemmas.{component_promises, primitive_promises}

@@ -1,36 +1,30 @@
 -- What transactions hold of an instance, and the transactions that it is given: the same spans in the same order.
-use Rattle.std.proofs.Common.{◌≡◌, ℕ, suc, ◌+◌, ◌<◌, ◌==◌, Bool, true, false, cond, List, [], ◌∷◌, ◌++◌, length, map, filter, flat_map, take, get_or, slice_get, All, Contains, Option, Some, option_map, refl, sym, ap, ap₂, ◌∙◌, arith}
-use Rattle.std.specs.Option.{option_and_then}
+use Rattle.std.proofs.Common.{◌≡◌, ℕ, suc, ◌==◌, Bool, true, false, cond, List, [], ◌∷◌, ◌++◌, map, filter, flat_map, take, get_or, slice_get, All, Some, option_map, refl, sym, ap, ap₂, ◌∙◌, arith}
 use Rattle.std.specs.Str.{bytes_eq}
-use Rattle.std.proofs.lemmas.Bool.{or_parts}
-use Rattle.std.proofs.lemmas.List.{length-map, map-append}
-use Rattle.std.proofs.lemmas.List.Elements.{All-contains, All-head, All-map, All-tail, All-take, All-weaker, Contains-get_or, filter-append}
-use Rattle.std.proofs.lemmas.Option.{none-some, same_Some, slice_get-get_or, slice_get_within}
-use Rattle.std.proofs.lemmas.Simd.{map-map}
+use Rattle.std.proofs.lemmas.List.{map-append}
+use Rattle.std.proofs.lemmas.List.Elements.{All-head, All-map, All-tail, All-weaker, filter-append}
+use Rattle.std.proofs.lemmas.Option.{slice_get-get_or}
 use Rattle.hw_names.specs.Name.{Text, AreDistinct}
 use Rattle.hw_prims.specs.Timed.{Transaction}
-use Rattle.fil_ast.proofs.HoldLemmas.{All-passed, listed_is, uses_by_call}
+use Rattle.fil_ast.proofs.HoldLemmas.{All-passed, uses_by_call}
 use Rattle.fil_ast.proofs.UseLemmas.{parts_of}
 use Rattle.fil_ast.specs.Behaviours.{event_named, inner_by, inner_of, inner_transactions, transaction_on}
 use Rattle.fil_ast.specs.Holds.{Hold, Start, hold_from, holds_by, holds_from, holds_of, start_of, uses_of}
 use Rattle.fil_ast.specs.Items.{TheSignature}
 use Rattle.fil_ast.specs.Naming.{event_names}
-use Rattle.fil_ast.specs.Primitives.{is_filament_primitive, primitive_signature}
 use Rattle.fil_ast.specs.Rules.{F1, FilRules}
-use Rattle.fil_ast.specs.Scope.{Scope, Instance, Invocation, bare_signature, component_named, instance_named, instance_signature}
+use Rattle.fil_ast.specs.Scope.{Scope, Invocation}
 use Rattle.fil_ast.specs.Sharing.{IsUseOf}
-use Rattle.fil_ast.specs.Signature.{Signature, component_signature, event_number, sig_event}
+use Rattle.fil_ast.specs.Signature.{event_number}
 use Rattle.fil_ast.specs.Timeline.{Use}
 use Rattle.fil_ast.specs.Tree.{Component, Design, Event}
 use Rattle.fil_ast.specs.Wires.{whole_scope}
 use Rattle.fil_ast.specs.declared.tx.Tx.{Tx}
 use Rattle.fil_share.proofs.OwnLemmas.{no_event}
 use Rattle.fil_share.specs.Carried.{IsOfEvent}
-use Rattle.fil_share.specs.Inner.{inner_starts, start_by}
-use Rattle.fil_share.specs.Instances.{signature_of}
 use Rattle.fil_share.specs.Uses.{listed_start, starts_of}
-use Rattle.fil_laws.proofs.EventLemmas.{is_name, name_is, same_event}
-use Rattle.fil_laws.specs.Spans.{HoldsAreGiven, InnerStartsAreGiven, ProgramHoldsAreGiven, Span, StartsAreGiven, StartsEvent, is_of, span_given, span_held, start_given}
+use Rattle.fil_laws.proofs.EventLemmas.{name_is, same_event}
+use Rattle.fil_laws.specs.Spans.{HoldsAreGiven, ProgramHoldsAreGiven, Span, StartsAreGiven, StartsEvent, is_of, span_given, span_held, start_given}
 
 -- two tests that agree
 filter_agree : {X : Type 0} (p q : X → Bool) (xs : List X) → ((x : X) → p x ≡ q x) → filter p xs ≡ filter q xs
@@ -140,82 +134,3 @@ pub program_holds_are_given : ProgramHoldsAreGiven
 program_holds_are_given comps n c rules here txs within inst =
     ap (λ (ss : List Start). map span_held (filter (is_of inst) (holds_of (whole_scope (take n comps) c) ss))) (starts_are_given c txs within)
     ∙ holds_are_given comps n c rules here (map (transaction_on c) txs) (All-map (StartsEvent c) (transaction_on c) txs (λ k d below. within k d below)) inst
-
--- ---- the starts of an instance of a component
-
-abbrev start_at : Component → Span → Start
-start_at d s = record { event = event_named d s.event; row = s.from }
-
--- a hold of the instance is of an event of its component
-abbrev IsOfEventOf : Component → Text → Hold → Type 0
-IsOfEventOf d inst h = h.inst ≡ inst → h.event < length d.events
-
-starts_by_spans : (d : Component) (inst : Text) (hs : List Hold) → All (IsOfEventOf d inst) hs → inner_starts d inst hs ≡ map (start_at d) (map span_held (filter (is_of inst) hs))
-starts_by_spans d inst [] within = refl
-starts_by_spans d inst (h ∷ hs) within = by (bytes_eq h.inst inst) refl (starts_by_spans d inst hs (All-tail (IsOfEventOf d inst) h hs within))
-  where
-    by : (b : Bool) → bytes_eq h.inst inst ≡ b → inner_starts d inst hs ≡ map (start_at d) (map span_held (filter (is_of inst) hs))
-        → cond b (listed_start (start_by d h)) [] ++ inner_starts d inst hs ≡ map (start_at d) (map span_held (cond b (h ∷ filter (is_of inst) hs) (filter (is_of inst) hs)))
-    by true is rest =
-        let inside = All-head (IsOfEventOf d inst) h hs within (is_name h.inst inst is) in
-        let e = get_or d.events h.event no_event in
-        let at = slice_get-get_or d.events h.event no_event inside in
-        let started : Text → Start = λ name. record { event = name; row = h.from } in
-        ap (λ (o : Option Event). listed_start (option_map (λ (e : Event). started e.name) o) ++ inner_starts d inst hs) at
-        ∙ ap₂ (λ (name : Text) (ss : List Start). started name ∷ ss) (sym (name_is d h.event e at)) rest
-    by false is rest = rest
-
-module _ (comps : Design) (rules : FilRules comps) (n : ℕ) (c : Component) (here : slice_get comps n ≡ Some c) (inst : Text) (i : Instance) (d : Component)
-    (found : instance_named (whole_scope (take n comps) c).instances inst ≡ Some i) (is_component : component_named (take n comps) i.made ≡ Some d) (plain : is_filament_primitive i.made ≡ false) where
-  -- the signature of the instance is the component's
-  signed : (sig : Signature) → instance_signature (whole_scope (take n comps) c) inst ≡ Some sig → component_signature d ≡ sig
-  signed sig is =
-      bare i.params
-      (sym (ap (λ (b : Bool). cond b (primitive_signature i.made i.params) (option_and_then (bare_signature i.params) (component_named (take n comps) i.made))) plain ∙ ap (option_and_then (bare_signature i.params)) is_component)
-      ∙ sym (ap (option_and_then (signature_of (take n comps))) found) ∙ is)
-    where
-      bare : (ps : List ℕ) → bare_signature ps d ≡ Some sig → component_signature d ≡ sig
-      bare [] e = same_Some (component_signature d) sig e
-      bare (p ∷ ps) e = absurd (none-some sig e)
-
-  of_event : (starts : List Start) (h : Hold) → Contains (holds_of (whole_scope (take n comps) c) starts) h → IsOfEventOf d inst h
-  of_event starts h has of =
-      let is = listed_is (whole_scope (take n comps) c) starts h has in
-      let u = is.use_at in
-      let h_inst : h.inst ≡ u.inst = ap (λ (x : Hold). x.inst) is.held in
-      let h_event : h.event ≡ u.event = ap (λ (x : Hold). x.event) is.held in
-      let its : is.invocation.inst ≡ inst = sym (parts_of is.uses.2).named ∙ sym h_inst ∙ of in
-      let same : component_signature d ≡ is.uses.0 = signed is.uses.0 (ap (instance_signature (whole_scope (take n comps) c)) (sym its) ∙ is.uses.1) in
-      let at : slice_get (component_signature d).events u.event ≡ Some is.uses.2.event = ap (λ (g : Signature). slice_get g.events u.event) same ∙ is.uses.2.of in
-      omega (arith, slice_get_within (component_signature d).events u.event is.uses.2.event at, length-map d.events (sig_event d.interfaces), h_event)
-
-  pub starts_given : (txs : List Transaction) → All (StartsEvent c) txs
-      → inner_starts d inst (holds_of (whole_scope (take n comps) c) (map (start_given c) txs)) ≡ map (start_given d) (inner_transactions (take n comps) c txs inst)
-  starts_given txs within =
-      let holds = holds_of (whole_scope (take n comps) c) (map (start_given c) txs) in
-      starts_by_spans d inst holds (λ k e below. of_event (map (start_given c) txs) (get_or holds k e) (Contains-get_or holds k e below))
-      ∙ ap (map (start_at d)) (holds_are_given comps n c rules here txs within inst)
-      ∙ map-map (start_at d) span_given (inner_transactions (take n comps) c txs inst)
-
-pub found_name : (name : Text) (comps : Design) (d : Component) → component_named comps name ≡ Some d → Contains comps d × (d.name ≡ name)
-found_name name [] d is = absurd (none-some d is)
-found_name name (e ∷ comps) d is = by (bytes_eq e.name name) refl is (found_name name comps d)
-  where
-    by : (b : Bool) → bytes_eq e.name name ≡ b → cond b (Some e) (component_named comps name) ≡ Some d → (component_named comps name ≡ Some d → Contains comps d × (d.name ≡ name)) → Contains (e ∷ comps) d × (d.name ≡ name)
-    by true here is later = let same = same_Some e d is in ((0, omega arith, same), ap (λ (x : Component). x.name) (sym same) ∙ is_name e.name name here)
-    by false there is later = let m = later is in ((suc m.0.0, omega (arith, m.0.1), m.0.2), m.1)
-
--- a component has no name of a primitive
-abbrev IsPlain : Component → Type 0
-IsPlain d = is_filament_primitive d.name ≡ false
-
-plain_all : (comps : Design) → FilRules comps → All IsPlain comps
-plain_all comps rules k d within =
-    let x = get_or comps k d in
-    (or_parts (is_filament_primitive x.name) _ (rules.keeps k x (slice_get-get_or comps k d within) 0 TheSignature refl 0 F1 (omega arith)).no_primitive).0
-
-pub inner_starts_are_given : InnerStartsAreGiven
-inner_starts_are_given comps n c rules here txs within inst i d found is_component =
-    let name = found_name i.made (take n comps) d is_component in
-    let plain = ap is_filament_primitive (sym name.1) ∙ All-contains IsPlain (take n comps) d (All-take IsPlain n comps (plain_all comps rules)) name.0 in
-    starts_given comps rules n c here inst i d found is_component plain txs within

@@ -5,7 +5,7 @@ use Rattle.hw_prims.specs.Row.{Trace}
 use Rattle.hw_prims.specs.Timed.{Transaction}
 use Rattle.fil_ast.specs.Behaviours.{component_behaviour}
 use Rattle.fil_ast.specs.Tree.{Design}
-use Rattle.fil_fsm.specs.Refines.{GiveInputs}
+use Rattle.fil_promise.specs.Refines.{GiveInputs}
 use Rattle.fil_laws.specs.Paths.{IsLegalList}
 
 -- inputs that carry the list, however many rows are asked; each value is 0 or 1, or what a transaction has for that port

@@ -7,7 +7,7 @@ use Rattle.fil_ast.specs.Behaviours.{IsGiven, component_behaviour}
 use Rattle.fil_ast.specs.Rules.{FilRules}
 use Rattle.fil_ast.specs.Scope.{Instance}
 use Rattle.fil_ast.specs.Tree.{Component, Design}
-use Rattle.fil_fsm.specs.Refines.{IsInstanceAt}
+use Rattle.fil_promise.specs.Refines.{IsInstanceAt}
 
 -- a legal list of transactions of component n of a design that keeps the rules
 pub record IsLegalList (comps : Design) (n : ℕ) (txs : List Transaction) : Type 0 where

@@ -6,12 +6,10 @@ use Rattle.hw_prims.specs.Timed.{Transaction}
 use Rattle.fil_ast.specs.Behaviours.{event_named, inner_transactions, transaction_on}
 use Rattle.fil_ast.specs.Holds.{Hold, Start, holds_of}
 use Rattle.fil_ast.specs.Rules.{FilRules}
-use Rattle.fil_ast.specs.Scope.{Instance, component_named, instance_named}
 use Rattle.fil_ast.specs.Tree.{Component, Design}
 use Rattle.fil_ast.specs.Wires.{whole_scope}
 use Rattle.fil_ast.specs.declared.tx.Tx.{Tx}
 use Rattle.fil_share.specs.Carried.{IsOfEvent}
-use Rattle.fil_share.specs.Inner.{inner_starts}
 use Rattle.fil_share.specs.Uses.{starts_of}
 
 -- an event of an instance, held in the rows [from, to)
@@ -57,12 +55,3 @@ ProgramHoldsAreGiven =
     (txs : List Tx) → All (IsOfEvent c) txs → (inst : Text) →
     map span_held (filter (is_of inst) (holds_of (whole_scope (take n comps) c) (starts_of c txs)))
     ≡ map span_given (inner_transactions (take n comps) c (map (transaction_on c) txs) inst)
-
--- the starts that an instance of a component gets by what is held are those of the transactions that it gets
-abbrev pub InnerStartsAreGiven : Type 0
-InnerStartsAreGiven =
-    (comps : Design) (n : ℕ) (c : Component) → FilRules comps → slice_get comps n ≡ Some c →
-    (txs : List Transaction) → All (StartsEvent c) txs → (inst : Text) (i : Instance) (d : Component) →
-    instance_named (whole_scope (take n comps) c).instances inst ≡ Some i → component_named (take n comps) i.made ≡ Some d →
-    inner_starts d inst (holds_of (whole_scope (take n comps) c) (map (start_given c) txs))
-    ≡ map (start_given d) (inner_transactions (take n comps) c txs inst)

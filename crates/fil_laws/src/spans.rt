@@ -1,5 +1,5 @@
 //! What transactions hold of an instance, and the transactions that it is given, are one.
-ghost use Rattle.fil_laws.specs.Spans.{HoldsAreGiven, InnerStartsAreGiven, ProgramHoldsAreGiven, StartsAreGiven};
+ghost use Rattle.fil_laws.specs.Spans.{HoldsAreGiven, ProgramHoldsAreGiven, StartsAreGiven};
 
 /// What transactions hold of an instance is, span by span, what the transactions hold that it is given.
 pub fn holds_are_given()
@@ -14,9 +14,4 @@ pub fn starts_are_given()
 /// So what they hold of an instance is, span by span, what the transactions hold that it is given.
 pub fn program_holds_are_given()
     ensures { ProgramHoldsAreGiven }
-{}
-
-/// The starts that an instance of a component gets by what is held are those of the transactions that it is given.
-pub fn inner_starts_are_given()
-    ensures { InnerStartsAreGiven }
 {}
