@@ -17,8 +17,8 @@ use Rattle.hw_prims.specs.declared.prim.Primitive.{Primitive}
 use Rattle.hw_prims.specs.declared.prim.Primitive.TheVariants.{StdConst}
 use Rattle.net_text.specs.Names.{begins_name, continues_name}
 use Rattle.net_text.proofs.NumberLaws.{both_true}
-use Rattle.cal_parse.specs.Written.{IsCalName}
-use Rattle.fil_fsm.specs.Chain.{IsGenerated}
+use Rattle.cal_ast.specs.Written.{IsCalName}
+use Rattle.fil_promise.specs.Refines.{IsGenerated}
 use Rattle.fil_net.proofs.RegisterNames.{register_segment}
 use Rattle.fil_net.proofs.SegmentLemmas.{IsSegment}
 

@@ -14,7 +14,7 @@ use Rattle.cal_ast.specs.Sides.{IsSource}
 use Rattle.cal_ast.specs.Tree.{Assignment, CellDef, Component, Design, PortName}
 use Rattle.cal_ast.specs.Wired.{IsWired}
 use Rattle.cal_ast.specs.Wires.{set_ports}
-use Rattle.cal_parse.specs.Written.{IsCalName, NameIsWritten, PortIsWritten}
+use Rattle.cal_ast.specs.Written.{IsCalName, NameIsWritten, PortIsWritten}
 use Rattle.fil_cal.proofs.NameLemmas.{input_name, output_name, primitive_name}
 
 -- the component, its ports and its cells have names of the grammar

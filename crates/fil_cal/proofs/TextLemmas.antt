@@ -1,73 +1,24 @@
--- A lowered design keeps what the Filament design promises, and its canonical text is one of it.
-use Rattle.std.proofs.Common.{◌≡◌, ◌⊎◌, ℕ, List, map, flat_map, take, slice_get, Contains, Some, Result, Ok, Err, Vec, Global, refl, sym, ap, subst, inl, inr}
+-- The canonical text of wires that a Filament design is lowered to is one of them.
+use Rattle.std.proofs.Common.{◌≡◌, Result, Ok, Err, Vec, Global, sym, subst, ℕ}
 use Rattle.std.specs.Prelude.{IfOk}
-use Rattle.std.proofs.lemmas.List.Elements.{All-contains, Contains-append_left}
 use Rattle.hw_bits.specs.declared.memory.Memory.{Memory}
-use Rattle.hw_names.specs.Name.{Text, IsPlain}
-use Rattle.cal_ast.proofs.ListLemmas.{Contains-map}
+use Rattle.hw_names.specs.Name.{Text}
 use Rattle.cal_ast.specs.Tree as calyx
-use Rattle.cal_ast.specs.Tree.{CellDef}
 use Rattle.cal_parse.specs.Spelling.{SpellsDesign}
 use Rattle.cal_print.specs.Layout.{design_text}
 use Rattle.cal_print.proofs.Shown.{design_shown}
-use Rattle.fil_ast.specs.Plain.{HasPlainTree}
-use Rattle.fil_ast.specs.Rules.{FilRules}
-use Rattle.fil_ast.specs.Scope.{Instance}
-use Rattle.fil_ast.specs.Tree.{Component, Design}
-use Rattle.fil_ast.specs.Wires.{whole_scope}
-use Rattle.fil_fsm.specs.Chain.{IsGenerated, register}
-use Rattle.fil_lower.specs.Lowering.{HasNewRegisters, IsLoweringOf, Registers, all_registers, lowered_component, lowering_with}
-use Rattle.fil_lower.proofs.CarryLemmas.{lowerings_carry_by}
-use Rattle.fil_lower.proofs.LoopLemmas.{wired_designs}
-use Rattle.fil_lower.proofs.LoweredLemmas.{IsCellOf, OfInstance, OfRegister, cell_is}
-use Rattle.fil_lower.proofs.PlainLemmas.{plain_designs}
+use Rattle.fil_ast.specs.Tree.{Design}
+use Rattle.fil_lower.specs.Lowers.{Lowers}
 use Rattle.fil_parse.specs.Written.{DesignIsWritten}
-use Rattle.fil_net.proofs.PlainLemmas.{written_plain}
-use Rattle.fil_cal.specs.Lowers.{HasInstanceCells, IsLoweredText, IsMadeByLowering, KeepsComponent, Lowers, instance_cell}
+use Rattle.fil_cal.specs.LoweredText.{IsLoweredText}
 use Rattle.fil_cal.proofs.WrittenLemmas.{design_written}
 
-module _ (comps : Design) (rules : FilRules comps) (design : calyx.Design) (lowered : IsLoweringOf comps design) where
-  -- ---- cells
-
-  module _ (n : ℕ) (c : Component) (here : slice_get comps n ≡ Some c) (registers : Registers) (new : HasNewRegisters (lowering_with (take n comps) c registers)) where
-    abbrev instances : List Instance
-    instances = (whole_scope (take n comps) c).instances
-
-    cell_known : (cell : CellDef) → IsCellOf comps rules design lowered n c here registers new cell → Contains (map instance_cell instances) cell ⊎ IsMadeByLowering cell
-    cell_known cell (OfInstance i has) = inl (Contains-map instance_cell instances i has)
-    cell_known cell (OfRegister name has) = inr ((All-contains (λ (x : Text). IsGenerated x × IsPlain x) (all_registers (lowering_with (take n comps) c registers)) name new.generated has).0, refl)
-
-    cells_known : HasInstanceCells instances (lowered_component (lowering_with (take n comps) c registers)).cells
-    cells_known = record {
-      all = λ i has. Contains-append_left (map instance_cell instances) (flat_map (map register) registers) (instance_cell i) (Contains-map instance_cell instances i has);
-      only = λ cell has. cell_known cell (cell_is comps rules design lowered n c here registers new cell has);
-    }
-
-  -- ---- the design
-
-  module _ (plain : HasPlainTree comps) where
-    keeps : (n : ℕ) (c : Component) (low : calyx.Component) → slice_get comps n ≡ Some c → slice_get design n ≡ Some low → KeepsComponent comps design n c low
-    keeps n c low here at_low =
-        let to = lowered.components n c low here at_low in
-        record {
-          name = ap (λ (x : calyx.Component). x.name) to.is;
-          ins = ap (λ (x : calyx.Component). x.ins) to.is;
-          outs = ap (λ (x : calyx.Component). x.outs) to.is;
-          cells = subst (λ (x : calyx.Component). HasInstanceCells (whole_scope (take n comps) c).instances x.cells) (sym to.is) (cells_known n c here to.registers to.new);
-          carries = lowerings_carry_by plain_designs comps design rules plain lowered n c low here at_low;
-        }
-
-    pub lowering_keeps : Lowers comps design
-    lowering_keeps = record { count = lowered.count; components = keeps; wired = wired_designs comps design rules plain lowered }
-
-  -- the printed text, where it was printed
-  pub lowered_text : (result : Result (Vec ℕ Global) Memory) → DesignIsWritten comps → IfOk result (λ (text : Vec ℕ Global). text.items ≡ design_text design) → IfOk result (λ (text : Vec ℕ Global). IsLoweredText comps text.items)
-  lowered_text (Ok text) written is =
-      let lowers = lowering_keeps (written_plain comps written) in
-      record {
-        design = design;
-        lowers = lowers;
-        is = is;
-        spells = λ names. subst (λ (t : Text). SpellsDesign t design) (sym is) (design_shown design (design_written comps rules design lowered lowers.wired written names));
-      }
-  lowered_text (Err why) written is = tt
+-- the printed text, where it was printed
+pub lowered_text : (comps : Design) (design : calyx.Design) (result : Result (Vec ℕ Global) Memory) → Lowers comps design → DesignIsWritten comps → IfOk result (λ (text : Vec ℕ Global). text.items ≡ design_text design) → IfOk result (λ (text : Vec ℕ Global). IsLoweredText comps text.items)
+lowered_text comps design (Ok text) lowers written is = record {
+  design = design;
+  lowers = lowers;
+  is = is;
+  spells = λ names. subst (λ (t : Text). SpellsDesign t design) (sym is) (design_shown design (design_written comps design lowers written names));
+}
+lowered_text comps design (Err why) lowers written is = tt

@@ -1,1 +1,1 @@
-pub mod Lowers
+pub mod LoweredText

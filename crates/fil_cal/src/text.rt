@@ -2,7 +2,7 @@
 ghost use Rattle.std.specs.Prelude.{IfOk};
 ghost use Rattle.fil_ast.specs.Tree.{design_of};
 ghost use Rattle.fil_parse.specs.Written.{DesignIsWritten};
-ghost use Rattle.fil_cal.specs.Lowers.{IsLoweredText};
+ghost use Rattle.fil_cal.specs.LoweredText.{IsLoweredText};
 
 use cal_print::print_calyx;
 use fil_ast::FilOk;

@@ -5,7 +5,7 @@ use Rattle.std.proofs.lemmas.List.Elements.{All-weaker}
 use Rattle.std.proofs.lemmas.List.Sums.{list_all-from_AllPass}
 use Rattle.hw_names.specs.Name.{Text}
 use Rattle.net_text.specs.Names.{continues_name}
-use Rattle.fil_fsm.specs.Chain.{IsDigit, IsGenerated}
+use Rattle.fil_promise.specs.Refines.{IsDigit, IsGenerated}
 use Rattle.fil_net.proofs.SegmentLemmas.{IsSegment}
 
 digit_goes_on : (byte : ℕ) → IsDigit byte → continues_name byte ≡ true

@@ -3,7 +3,7 @@ use Rattle.std.proofs.Common.{◌≡◌, ◌⊎◌, ℕ, false, get_or, ap, inl,
 use Rattle.std.proofs.lemmas.List.Elements.{Contains-get_or}
 use Rattle.net_core.specs.Netlist.{CellLine}
 use Rattle.fil_ast.specs.Tree.{Design}
-use Rattle.fil_fsm.specs.Refines.{IsInstanceCell, IsMadeByLowering}
+use Rattle.fil_promise.specs.Refines.{IsInstanceCell, IsMadeByLowering}
 use Rattle.fil_net.specs.Laws.{RefinedNetsShowNoCell}
 
 hidden : (comps : Design) (number : ℕ) (line : CellLine) → IsInstanceCell comps number line ⊎ IsMadeByLowering line → line.shown ≡ false

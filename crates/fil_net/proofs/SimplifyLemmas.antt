@@ -6,7 +6,7 @@ use Rattle.net_guard.proofs.RuleLemmas.{is_valid}
 use Rattle.net_guard.proofs.RunLemmas.{keeps_runs}
 use Rattle.net_guard.specs.Simplified.{IsSimplified}
 use Rattle.fil_ast.specs.Tree.{Design}
-use Rattle.fil_fsm.specs.Refines.{Refines, instance_cell}
+use Rattle.fil_promise.specs.Refines.{Refines, instance_cell}
 use Rattle.fil_net.specs.Laws.{SimplifiedNetsRefine}
 
 simplified_keeps : (comps : Design) (old new : Netlist) → IsSimplified old new → Refines comps old → Refines comps new
@@ -31,6 +31,7 @@ simplified_keeps comps old new s r =
           record {
             whole = carried.whole;
             clean = λ t port less clash. carried.clean t port less ((same.conflicts t (trace t) port).0 clash);
+            legal = carried.legal;
             carries = carried.carries;
           };
     }

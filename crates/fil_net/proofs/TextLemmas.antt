@@ -17,15 +17,11 @@ use Rattle.cal_ast.specs.Instances.{component_at, port_name}
 use Rattle.cal_ast.specs.Keeping.{flat_cell}
 use Rattle.cal_ast.specs.Tree.{Assignment, CellDef, Component, Design, PortName}
 use Rattle.cal_ast.specs.Wired.{IsWired}
-use Rattle.fil_lower.proofs.LoopLemmas.{wired_designs}
-use Rattle.fil_lower.proofs.LoweredParts.{LoweredPair}
-use Rattle.fil_lower.proofs.PartLemmas.{comp_at}
-use Rattle.fil_lower.proofs.PlainLemmas.{plain_designs}
 use Rattle.net_flat.specs.Listing.{Instance, IsListing, cells_at, flat_pin, flat_set, sets_at, wires_at}
 use Rattle.fil_net.specs.Laws.{FlattenedLoweringsHaveText}
 use Rattle.fil_net.proofs.GuardLemmas.{IsBitSet, source_text, when_text}
+use Rattle.fil_net.proofs.InstanceLemmas.{WiresOf, comp_at}
 use Rattle.fil_net.proofs.ListLemmas.{All-flat, All-left, All-right}
-use Rattle.fil_net.proofs.PlainLemmas.{written_plain}
 use Rattle.fil_net.proofs.PortLemmas.{cell_segment, set_segments}
 use Rattle.fil_net.proofs.SegmentLemmas.{IsSegment, IsSegmentPort, both, full_path, number_text, port_path, primitive_segment}
 use Rattle.fil_net.proofs.WrittenLemmas.{IsWrittenCell, IsWrittenLow, IsWrittenPin, low_written}
@@ -127,11 +123,10 @@ module _ (design : Design) (wired : IsWired design) (written : (c : Component) �
     has_text = (subst IsSegment (sym listing.name) (written top among).name, list_all-from_AllPass line_has_text (lines_of n) lines_text)
 
 pub flattened_have_text : FlattenedLoweringsHaveText
-flattened_have_text comps design net rules written lowered flat =
-    let plain = written_plain comps written in
-    let pair : LoweredPair = record { comps = comps; rules = rules; plain = plain; design = design; lowered = lowered; plain_design = plain_designs comps design rules plain lowered } in
+flattened_have_text comps design net rules written lowers flat =
+    let of : WiresOf = record { comps = comps; rules = rules; design = design; lowers = lowers } in
     let low : (c : Component) → Contains design c → IsWrittenLow c = λ c among.
     (let place = place_of design c among in
-    let of = comp_at pair place.0 c place.1 in
-    low_written comps rules design lowered written place.0 of.0 c of.1 place.1) in
-    has_text design (wired_designs comps design rules plain lowered) low flat.top (Contains-at design flat.place flat.top flat.at) (netlist_of net) flat.listed
+    let from = comp_at of place.0 c place.1 in
+    low_written comps design lowers written place.0 from.0 c from.1 place.1) in
+    has_text design lowers.wired low flat.top (Contains-at design flat.place flat.top flat.at) (netlist_of net) flat.listed

@@ -1,21 +1,20 @@
--- Lowered components of a design that some text spells: their names are names of netlists, and their numbers can be written.
-use Rattle.std.proofs.Common.{◌≡◌, ℕ, List, [], get_or, map, take, slice_get, All, Some, sym, subst, lit<}
+-- Wires that a design which some text spells is lowered to: their names are names of netlists, and their numbers can be written.
+use Rattle.std.proofs.Common.{◌≡◌, ℕ, List, [], get_or, map, take, slice_get, All, Contains, Some, inl, inr, sym, subst, lit<}
 use Rattle.std.proofs.lemmas.List.Elements.{All-append, All-contains, All-cons, All-from_recursion, All-map, All-nil, All-weaker, Contains-get_or}
-use Rattle.hw_names.specs.Name.{Text, IsPlain}
 use Rattle.hw_grammar.specs.Words.{IsWritten}
 use Rattle.hw_prims.specs.Table.{Pin, pin}
+use Rattle.cal_ast.proofs.ItemLemmas.{assignment_item, widths_agree}
 use Rattle.cal_ast.proofs.ListLemmas.{Contains-at}
+use Rattle.cal_ast.specs.Naming.{Unreserved}
 use Rattle.cal_ast.specs.Tree as calyx
-use Rattle.cal_ast.specs.Tree.{CellDef}
-use Rattle.fil_ast.specs.Rules.{FilRules}
+use Rattle.cal_ast.specs.Tree.{Assignment, CellDef}
 use Rattle.fil_ast.specs.Scope.{Instance, instances_at}
 use Rattle.fil_ast.specs.Tree.{Component, DataPort, Design, Interface, Statement, New, Call, Both, Connect}
 use Rattle.fil_ast.specs.Wires.{whole_scope}
 use Rattle.fil_parse.specs.Written.{ComponentIsWritten, DesignIsWritten, InterfaceIsWritten, PortIsWritten, StatementIsWritten}
-use Rattle.fil_fsm.specs.Chain.{IsGenerated}
-use Rattle.fil_lower.specs.Lowering.{HasNewRegisters, IsLoweringOf, Registers, all_registers, lowered_component, lowering_with}
-use Rattle.fil_lower.proofs.LoweredLemmas.{IsCellOf, OfInstance, OfRegister, cell_is}
-use Rattle.fil_net.proofs.GuardLemmas.{IsBitSet, sets_written}
+use Rattle.fil_lower.specs.Lowers.{IsBitGuarded, KeepsComponent, Lowers, instance_cell}
+use Rattle.fil_lower.proofs.NameLemmas.{from_map}
+use Rattle.fil_net.proofs.GuardLemmas.{IsBitSet, literal_written}
 use Rattle.fil_net.proofs.ListLemmas.{All-flat}
 use Rattle.fil_net.proofs.RegisterNames.{register_segment}
 use Rattle.fil_net.proofs.SegmentLemmas.{IsSegment, fil_segment}
@@ -61,38 +60,45 @@ instances_written (Both name made params gives) is =
 instances_written (Call name inst gives) is = All-nil IsWrittenInstance
 instances_written (Connect output value) is = All-nil IsWrittenInstance
 
-module _ (comps : Design) (rules : FilRules comps) (design : calyx.Design) (lowered : IsLoweringOf comps design) where
-  module _ (n : ℕ) (c : Component) (here : slice_get comps n ≡ Some c) (registers : Registers) (new : HasNewRegisters (lowering_with (take n comps) c registers)) (written : ComponentIsWritten c) where
-    abbrev instances : List Instance
-    instances = (whole_scope (take n comps) c).instances
+module _ (comps : Design) (design : calyx.Design) (lowers : Lowers comps design) (written : DesignIsWritten comps) (n : ℕ) (c : Component) (low : calyx.Component) (here : slice_get comps n ≡ Some c) (at_low : slice_get design n ≡ Some low) where
+  keeps : KeepsComponent comps design n c low
+  keeps = lowers.components n c low here at_low
 
-    body_written : All StatementIsWritten c.body
-    body_written = All-from_recursion StatementIsWritten c.body written.body
+  is : ComponentIsWritten c
+  is = All-contains ComponentIsWritten comps c (All-from_recursion ComponentIsWritten comps written.1) (Contains-at comps n c here)
 
-    all_written : All IsWrittenInstance instances
-    all_written = All-flat IsWrittenInstance instances_at c.body (All-weaker StatementIsWritten (λ (s : Statement). All IsWrittenInstance (instances_at s)) instances_written c.body body_written)
+  -- ---- cells
 
-    cell_written : (cell : CellDef) → IsCellOf comps rules design lowered n c here registers new cell → IsWrittenCell cell
-    cell_written cell (OfInstance i has) = All-contains IsWrittenInstance instances i all_written has
-    cell_written cell (OfRegister name has) =
-        let all = all_registers (lowering_with (take n comps) c registers) in
-        (register_segment name (All-contains (λ (name : Text). IsGenerated name × IsPlain name) all name new.generated has).0, All-cons IsWritten 1 [] (lit< tt) (All-nil IsWritten))
+  abbrev instances : List Instance
+  instances = (whole_scope (take n comps) c).instances
 
-    component_written : IsWrittenLow (lowered_component (lowering_with (take n comps) c registers))
-    component_written =
-        let low = lowered_component (lowering_with (take n comps) c registers) in
-        record {
-          name = fil_segment c.name written.name;
-          ins =
-              All-append IsWrittenPin (map (λ (g : Interface). pin g.name g.width) c.interfaces) (map (λ (p : DataPort). pin p.name p.width) c.ins)
-              (interfaces_written c.interfaces (All-from_recursion InterfaceIsWritten c.interfaces written.interfaces)) (ports_written c.ins (All-from_recursion PortIsWritten c.ins written.ins));
-          outs = ports_written c.outs (All-from_recursion PortIsWritten c.outs written.outs);
-          cells = λ k d within. cell_written (get_or low.cells k d) (cell_is comps rules design lowered n c here registers new (get_or low.cells k d) (Contains-get_or low.cells k d within));
-          sets = sets_written (take n comps) c registers written;
-        }
+  all_written : All IsWrittenInstance instances
+  all_written =
+      All-flat IsWrittenInstance instances_at c.body
+      (All-weaker StatementIsWritten (λ (s : Statement). All IsWrittenInstance (instances_at s)) instances_written c.body (All-from_recursion StatementIsWritten c.body is.body))
 
-  pub low_written : DesignIsWritten comps → (n : ℕ) (c : Component) (low : calyx.Component) → slice_get comps n ≡ Some c → slice_get design n ≡ Some low → IsWrittenLow low
-  low_written written n c low here at_low =
-      let to = lowered.components n c low here at_low in
-      let of = All-contains ComponentIsWritten comps c (All-from_recursion ComponentIsWritten comps written.1) (Contains-at comps n c here) in
-      subst IsWrittenLow (sym to.is) (component_written n c here to.registers to.new of)
+  cell_written : (cell : CellDef) → Contains low.cells cell → IsWrittenCell cell
+  cell_written cell has = elim (keeps.cells.only cell has) [
+    | inl of_instance ↦ (let i = from_map instance_cell instances cell of_instance in subst IsWrittenCell i.2 (All-contains IsWrittenInstance instances i.0 all_written i.1))
+    | inr (generated, made) ↦
+        (register_segment cell.name generated, subst (λ (x : CellDef). All IsWritten x.params) (sym made) (All-cons IsWritten 1 [] (lit< tt) (All-nil IsWritten)))
+  ]
+
+  -- ---- assignments
+
+  set_written : (a : Assignment) → Contains low.sets a → IsBitSet a
+  set_written a has = (
+    All-contains IsBitGuarded low.sets a keeps.guards has,
+    literal_written a.src (widths_agree Unreserved design lowers.wired.rules.keeps n low at_low a (assignment_item low a has)).literal,
+  )
+
+  pub low_written : IsWrittenLow low
+  low_written = record {
+    name = subst IsSegment (sym keeps.name) (fil_segment c.name is.name);
+    ins = subst (All IsWrittenPin) (sym keeps.ins)
+        (All-append IsWrittenPin (map (λ (g : Interface). pin g.name g.width) c.interfaces) (map (λ (p : DataPort). pin p.name p.width) c.ins)
+        (interfaces_written c.interfaces (All-from_recursion InterfaceIsWritten c.interfaces is.interfaces)) (ports_written c.ins (All-from_recursion PortIsWritten c.ins is.ins)));
+    outs = subst (All IsWrittenPin) (sym keeps.outs) (ports_written c.outs (All-from_recursion PortIsWritten c.outs is.outs));
+    cells = λ k d within. cell_written (get_or low.cells k d) (Contains-get_or low.cells k d within);
+    sets = λ k d within. set_written (get_or low.sets k d) (Contains-get_or low.sets k d within);
+  }

@@ -8,8 +8,8 @@ use Rattle.cal_ast.specs.Tree as calyx
 use Rattle.fil_ast.specs.Plain.{HasPlainTree}
 use Rattle.fil_ast.specs.Rules.{FilRules}
 use Rattle.fil_ast.specs.Tree.{Design}
-use Rattle.fil_fsm.specs.Refines.{Refines}
-use Rattle.fil_lower.specs.Lowering.{IsLoweringOf}
+use Rattle.fil_promise.specs.Refines.{Refines}
+use Rattle.fil_lower.specs.Lowers.{Lowers}
 use Rattle.fil_parse.specs.Written.{DesignIsWritten}
 use Rattle.net_flat.specs.FlatTop.{IsFlatTop}
 
@@ -17,15 +17,15 @@ use Rattle.net_flat.specs.FlatTop.{IsFlatTop}
 abbrev pub WrittenDesignsArePlain : Type 0
 WrittenDesignsArePlain = (comps : Design) → DesignIsWritten comps → HasPlainTree comps
 
+-- wires that keep what a design promises, flattened, are a netlist that does
 abbrev pub FlattenedLoweringsRefine : Type 0
 FlattenedLoweringsRefine =
-    (comps : Design) (design : calyx.Design) (net : Net) → FilRules comps → HasPlainTree comps → IsLoweringOf comps design → IsFlatTop design net →
-    Refines comps (netlist_of net)
+    (comps : Design) (design : calyx.Design) (net : Net) → FilRules comps → Lowers comps design → IsFlatTop design net → Refines comps (netlist_of net)
 
 -- names of the netlist are names of the design, and of registers, joined by dots
 abbrev pub FlattenedLoweringsHaveText : Type 0
 FlattenedLoweringsHaveText =
-    (comps : Design) (design : calyx.Design) (net : Net) → FilRules comps → DesignIsWritten comps → IsLoweringOf comps design → IsFlatTop design net →
+    (comps : Design) (design : calyx.Design) (net : Net) → FilRules comps → DesignIsWritten comps → Lowers comps design → IsFlatTop design net →
     HasText (netlist_of net)
 
 -- a netlist with its guards folded keeps what the design promises

@@ -1,7 +1,7 @@
 //! A Filament design as a netlist.
 ghost use Rattle.std.specs.Prelude.{IfOk};
 ghost use Rattle.fil_ast.specs.Tree.{design_of};
-ghost use Rattle.fil_fsm.specs.Refines.{Refines};
+ghost use Rattle.fil_promise.specs.Refines.{Refines};
 ghost use Rattle.fil_parse.specs.Written.{DesignIsWritten};
 ghost use Rattle.net_core.specs.Netlist.{netlist_of};
 ghost use Rattle.net_core.specs.Numbers.{HasNumbers};

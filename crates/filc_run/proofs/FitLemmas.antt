@@ -12,7 +12,7 @@ use Rattle.fil_ast.specs.declared.tx.TxList.{TxList}
 use Rattle.fil_driven.proofs.FitLemmas.{transactions_fit}
 use Rattle.fil_driven.proofs.PortLemmas.{keepers_have_ports}
 use Rattle.fil_driven.specs.Laws.{AreTransactionsOf}
-use Rattle.fil_fsm.specs.Refines.{Refines}
+use Rattle.fil_promise.specs.Refines.{Refines}
 use Rattle.stim_read.specs.TxRun.{tx_run_seen}
 use Rattle.filc_load.proofs.TopLemmas.{one_number}
 use Rattle.filc_load.proofs.TransactionLemmas.{CanBeRead, can_be_read, has_new_names, has_shape, has_widths, is_top_of, same_component}

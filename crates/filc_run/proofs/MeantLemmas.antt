@@ -19,7 +19,7 @@ use Rattle.fil_driven.proofs.ShownLemmas.{carried_rows_are_meant}
 use Rattle.fil_driven.specs.Laws.{AreTransactionsOf}
 use Rattle.fil_driven.specs.Shown.{outputs_line, meant_line}
 use Rattle.fil_driven.specs.TxDrive.{driven_by}
-use Rattle.fil_fsm.specs.Refines.{CarriesList, Refines}
+use Rattle.fil_promise.specs.Refines.{CarriesList, Refines}
 use Rattle.stim_read.specs.TxRun.{Transaction, transaction_seen, tx_run_seen}
 use Rattle.filc_stop.proofs.SinkLemmas.{none_prefix, whole_prefix}
 use Rattle.filc_stop.specs.Outcome.{Outcome, done_with}

@@ -23,7 +23,7 @@ use Rattle.fil_ast.specs.declared.tx.TxList.{TxList}
 use Rattle.fil_driven.proofs.DriveLemmas.{driven_runs_carry}
 use Rattle.fil_driven.specs.Laws.{AreTransactionsOf}
 use Rattle.fil_driven.specs.TxDrive.{driven_by}
-use Rattle.fil_fsm.specs.Refines.{CarriesList, Refines}
+use Rattle.fil_promise.specs.Refines.{CarriesList, Refines}
 use Rattle.stim_read.specs.TxRun.{TxRun, transaction_seen, tx_run_seen}
 use Rattle.filc_load.specs.Built.{IsFilReady}
 use Rattle.filc_load.specs.declared.fil_file.FilBuilt.{FilBuilt}

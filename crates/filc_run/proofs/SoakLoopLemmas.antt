@@ -13,7 +13,7 @@ use Rattle.fil_ast.specs.Rules.{FilRules}
 use Rattle.fil_ast.specs.Scope.{Instance, Invocation, Scope, instance_signature, invocation_named}
 use Rattle.fil_ast.specs.Signature.{SigPort, Signature}
 use Rattle.fil_ast.specs.Tree.{Call, Component, Connect, Design, InputValue, Literal, New, OutputValue, Statement, ValueTree}
-use Rattle.fil_ast.specs.Wires.{AtOnce, ByArgument, ByConnection, ByInstance, ByInvocation, DependsWithin, HasNoLoop, IsPortOf, OfComponent, OfPrimitive, Over, OwnInput, Reaches, ReadsAlong, ReadsPort, through_before, whole_scope}
+use Rattle.fil_ast.specs.Wires.{Straight, ByArgument, ByConnection, ByInstance, ByInvocation, DependsWithin, HasNoLoop, IsPortOf, OfComponent, OfPrimitive, Over, OwnInput, Reaches, ReadsAlong, ReadsPort, through_before, whole_scope}
 use Rattle.filc_run.specs.Soaked.{out_of, soak, soak_design, step}
 use Rattle.filc_run.proofs.SoakDesignLemmas.{add_means, add_sig, delay_means, delay_sig, first_at, mult_at, mult_means, mult_sig, second_at, soak_design_keeps, stage_args, stage_at, step_sig, sum_at}
 use Rattle.filc_run.proofs.SoakRuleLemmas.{zip_at}
@@ -228,7 +228,7 @@ step_has_no_loop = no_loop [] step step_level (λ port other reads. (step_falls 
 
 -- its output depends on none of its inputs within a row
 stays_high : (other port : Text) → Reaches no_through scope other port → 4 ≤ step_level port → 4 ≤ step_level other
-stays_high other port (AtOnce top reads) high = (step_falls top other reads).1 high
+stays_high other port (Straight top reads) high = (step_falls top other reads).1 high
 stays_high other port (Over top between reads more) high = stays_high other between more ((step_falls top between reads).1 high)
 
 -- ---- the second component

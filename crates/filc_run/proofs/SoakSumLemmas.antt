@@ -22,7 +22,7 @@ use Rattle.fil_driven.proofs.ShownLemmas.{value_is}
 use Rattle.fil_driven.specs.Laws.{AreTransactionsOf, IsTransactionOf}
 use Rattle.fil_driven.specs.Shown.{computed}
 use Rattle.fil_driven.specs.TxDrive.{covering, covers}
-use Rattle.fil_fsm.specs.Refines.{CarriesList, Refines}
+use Rattle.fil_promise.specs.Refines.{CarriesList, Refines}
 use Rattle.stim_read.specs.TxEvents.{Event, events_of}
 use Rattle.stim_read.specs.TxRun.{Transaction, TxRun, end_row, transaction_seen, tx_run_seen}
 use Rattle.filc_report.specs.Sums.{due_in, over_rows}

@@ -8,7 +8,7 @@ use Rattle.net_text.specs.Layout.{net_text}
 use Rattle.net_text.specs.Names.{HasText}
 use Rattle.ver_print.specs.Verilog.{verilog_text}
 use Rattle.fil_ast.specs.Tree.{Design}
-use Rattle.fil_fsm.specs.Refines.{Refines}
+use Rattle.fil_promise.specs.Refines.{Refines}
 use Rattle.filc_run.specs.Traced.{IsMadeOf}
 use Rattle.filc_run.specs.Verilog.{IsVerilogOf}
 

@@ -15,7 +15,7 @@ use Rattle.fil_ast.specs.Tree.{Design}
 use Rattle.fil_ast.specs.declared.tx.TxList.{TxList}
 use Rattle.fil_driven.specs.Laws.{AreTransactionsOf}
 use Rattle.fil_driven.specs.TxDrive.{driven_by}
-use Rattle.fil_fsm.specs.Refines.{Refines}
+use Rattle.fil_promise.specs.Refines.{Refines}
 use Rattle.stim_read.specs.TxRun.{tx_run_seen}
 use Rattle.filc_stop.specs.Leaving.{HasReport, IsCutShort, Leaves, MakesNone}
 use Rattle.filc_stop.specs.Outcome.{Outcome, done_with}

@@ -1,5 +1,5 @@
 pub mod inside
-pub use Rattle.fil_fsm.specs.Refines
+pub use Rattle.fil_promise.specs.Refines
 pub use Rattle.filc_report.specs.Runs
 pub mod Meant
 pub mod Traced

@@ -9,7 +9,7 @@ use Rattle.net_text.specs.Reading.{Spells}
 use Rattle.fil_ast.specs.Signature.{component_signature}
 use Rattle.fil_ast.specs.Tree.{Component, Design}
 use Rattle.fil_driven.specs.TxDrive.{driven_by}
-use Rattle.fil_fsm.specs.Refines.{Refines}
+use Rattle.fil_promise.specs.Refines.{Refines}
 use Rattle.stim_read.specs.TxRun.{TxRun}
 use Rattle.filc_report.specs.Rows.{lines_text, row_text}
 use Rattle.filc_report.specs.Runs.{no_loads}

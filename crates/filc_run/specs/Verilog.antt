@@ -6,7 +6,7 @@ use Rattle.net_guard.specs.Folded.{HasFoldedGuards}
 use Rattle.net_text.specs.Names.{HasText}
 use Rattle.ver_print.specs.Verilog.{verilog_text}
 use Rattle.fil_ast.specs.Tree.{Design}
-use Rattle.fil_fsm.specs.Refines.{Refines}
+use Rattle.fil_promise.specs.Refines.{Refines}
 
 -- the text is the Verilog of a netlist with folded guards that keeps what the design promises and has a text: its names are names of the netlist grammar
 pub record IsVerilogOf (design : Design) (made : Text) : Type 0 where

@@ -2,7 +2,7 @@
 ghost use Rattle.std.specs.Prelude.{◌≡◌, IfOk, map, slice_get, Some};
 ghost use Rattle.fil_ast.specs.Signature.{component_signature};
 ghost use Rattle.fil_ast.specs.Tree.{Component, design_of};
-ghost use Rattle.fil_fsm.specs.Refines.{Refines};
+ghost use Rattle.fil_promise.specs.Refines.{Refines};
 ghost use Rattle.fil_sig.specs.Seen.{seen};
 ghost use Rattle.net_core.specs.Netlist.{netlist_of};
 ghost use Rattle.net_guard.specs.Folded.{HasFoldedGuards};

@@ -5,7 +5,7 @@ use Rattle.net_guard.specs.Folded.{HasFoldedGuards}
 use Rattle.net_text.specs.Names.{HasText}
 use Rattle.fil_ast.specs.Signature.{component_signature}
 use Rattle.fil_driven.specs.TxDrive.{driven_by}
-use Rattle.fil_fsm.specs.Refines.{Refines}
+use Rattle.fil_promise.specs.Refines.{Refines}
 use Rattle.fil_sig.specs.Seen.{seen}
 use Rattle.stim_read.specs.TxRun.{tx_run_seen}
 use Rattle.hw_limits.specs.declared.limits.TheConstants.{MOST_TRANSACTIONS}

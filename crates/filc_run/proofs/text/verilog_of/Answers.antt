@@ -2,7 +2,7 @@ use Rattle.std.proofs.Common.{sym, subst}
 use Rattle.net_core.specs.Netlist.{netlist_of}
 use Rattle.fil_ast.specs.Tree.{design_of}
 use Rattle.fil_ast.specs.declared.tree.FilDesign.{FilDesign}
-use Rattle.fil_fsm.specs.Refines.{Refines}
+use Rattle.fil_promise.specs.Refines.{Refines}
 use Rattle.fil_parse.specs.Written.{DesignIsWritten}
 use Rattle.filc_run.proofs.TextLemmas.{printed_verilog}
 use Rattle.filc_run.proofs.text.verilog_of.Goals as goal

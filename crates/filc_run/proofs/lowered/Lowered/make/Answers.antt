@@ -7,7 +7,7 @@ use Rattle.net_text.specs.Names.{HasText}
 use Rattle.fil_ast.specs.Signature.{Signature}
 use Rattle.fil_ast.specs.Tree.{component_tree, design_of, event_tree}
 use Rattle.fil_ast.specs.declared.tree.FilDesign.{FilDesign}
-use Rattle.fil_fsm.specs.Refines.{Refines}
+use Rattle.fil_promise.specs.Refines.{Refines}
 use Rattle.fil_parse.specs.Written.{DesignIsWritten}
 use Rattle.fil_sig.specs.Seen.{seen}
 use Rattle.stim_read.specs.TxEvents.{events_of}

@@ -1,7 +1,7 @@
 use Rattle.std.proofs.Common.{subst}
 use Rattle.net_core.specs.Netlist.{netlist_of}
 use Rattle.fil_ast.specs.Tree.{Design}
-use Rattle.fil_fsm.specs.Refines.{Refines}
+use Rattle.fil_promise.specs.Refines.{Refines}
 use Rattle.filc_run.proofs.SoakLemmas.{rows_are, soak_at}
 use Rattle.filc_run.specs.Soaked.{soak}
 use Rattle.filc_run.proofs.soak.Soak.make.Goals as goal
