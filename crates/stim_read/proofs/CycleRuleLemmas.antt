@@ -8,9 +8,9 @@ use Rattle.net_core.specs.declared.stimulus.MemShape.{MemShape}
 use Rattle.hw_limits.specs.declared.limits.TheConstants.{MOST_TRANSACTIONS, MOST_CYCLES}
 use Rattle.stim_read.specs.Rules.{told_of, refused}
 use Rattle.stim_read.specs.CycleText.{Entry, Words, Cycles}
-use Rattle.stim_read.specs.CycleRules.{Targets, input_targets, memory_targets, sizes_of, has_known_inputs, has_fitting_values, begins_after, input_rules, is_known_memory, has_room, has_fitting_words, memory_rules, KeepsLimits, KeepsRules, BreaksFirst, Entries, Rows, InInputs, InMemories}
+use Rattle.stim_read.specs.CycleRules.{Targets, input_targets, memory_targets, sizes_of, has_known_inputs, has_fitting_values, begins_after, input_rules, is_known_memory, has_room, has_fitting_words, memory_rules, KeepsLimits, KeepsEntryRules, KeepsRules, BreaksEntryRule, InInputs, InMemories, BreaksFirst, Entries, Rows, InEntries}
 use Rattle.stim_read.specs.inside.Walk.{first_fault, unless}
-use Rattle.stim_read.specs.inside.CycleWalk.{order_fault, input_fault, inputs_fault, memory_fault, memories_fault, limit_fault, cycles_fault}
+use Rattle.stim_read.specs.inside.CycleWalk.{order_fault, input_fault, inputs_fault, memory_fault, memories_fault, limit_fault, entries_fault, cycles_fault}
 use Rattle.stim_read.specs.declared.stim_end.StimEnd.{StimEnd}
 use Rattle.stim_read.specs.declared.stim_end.StimEnd.TheVariants.{Limit}
 use Rattle.stim_read.proofs.FaultLemmas.{alone, neither, neither_there, refused_then, judged_later, broken, kept_so, kept_by}
@@ -103,47 +103,66 @@ module _ (ins : List InputShape) (mems : List MemShape) (c : Cycles) where
   memories_are : in_memories ≡ walk (memory_rules (memory_targets mems) (sizes_of mems)) [] (length c.inputs) c.memories
   memories_are = memories_walk (memory_targets mems) (sizes_of mems) [] (length c.inputs) c.memories
 
-  -- a stimulus without a fault keeps the limits and the rules
-  pub cycles_kept : cycles_fault ins mems c ≡ None → KeepsRules ins mems c
-  cycles_kept none =
-      let both = neither_there (limit_fault c) (first_fault in_inputs in_memories) none in
-      let rules = neither_there in_inputs in_memories both.1 in
+  -- a stimulus without a fault in its entries keeps the rules
+  pub entries_kept : entries_fault ins mems c ≡ None → KeepsEntryRules ins mems c
+  entries_kept none =
+      let rules = neither_there in_inputs in_memories none in
       record {
-        limits = limits_kept c both.0;
         inputs = walk_kept (input_rules (input_targets ins)) 0 c.inputs (sym inputs_are ∙ rules.0);
         memories = walk_kept (memory_rules (memory_targets mems) (sizes_of mems)) (length c.inputs) c.memories (sym memories_are ∙ rules.1);
       }
 
-  pub kept_cycles : KeepsRules ins mems c → cycles_fault ins mems c ≡ None
-  kept_cycles kept =
-      neither (limit_fault c) (first_fault in_inputs in_memories) (kept_limits c kept.limits)
-      (neither in_inputs in_memories (inputs_are ∙ kept_walk (input_rules (input_targets ins)) 0 c.inputs kept.inputs)
-      (memories_are ∙ kept_walk (memory_rules (memory_targets mems) (sizes_of mems)) (length c.inputs) c.memories kept.memories))
+  pub kept_entries : KeepsEntryRules ins mems c → entries_fault ins mems c ≡ None
+  kept_entries kept =
+      neither in_inputs in_memories (inputs_are ∙ kept_walk (input_rules (input_targets ins)) 0 c.inputs kept.inputs)
+      (memories_are ∙ kept_walk (memory_rules (memory_targets mems) (sizes_of mems)) (length c.inputs) c.memories kept.memories)
 
-  -- where the limits are kept, the fault is in the inputs or the memories
-  rules_broken : (end : StimEnd) → KeepsLimits c → first_fault in_inputs in_memories ≡ Some end → BreaksFirst ins mems c end
-  rules_broken end limits is = by in_inputs refl where
-    by : (o : Option StimEnd) → in_inputs ≡ o → BreaksFirst ins mems c end
+  -- the fault of the entries is the first rule that one breaks
+  pub entries_broken : (end : StimEnd) → entries_fault ins mems c ≡ Some end → BreaksEntryRule ins mems c end
+  entries_broken end is = by in_inputs refl where
+    by : (o : Option StimEnd) → in_inputs ≡ o → BreaksEntryRule ins mems c end
     by (Some f) here =
         let found : Some f ≡ Some end = ap (λ o. first_fault o in_memories) (sym here) ∙ is in
-        InInputs end limits (walk_broken (input_rules (input_targets ins)) 0 c.inputs end (sym inputs_are ∙ here ∙ found))
+        InInputs end (walk_broken (input_rules (input_targets ins)) 0 c.inputs end (sym inputs_are ∙ here ∙ found))
     by None here =
         let found : in_memories ≡ Some end = ap (λ o. first_fault o in_memories) (sym here) ∙ is in
-        InMemories end limits (walk_kept (input_rules (input_targets ins)) 0 c.inputs (sym inputs_are ∙ here))
+        InMemories end (walk_kept (input_rules (input_targets ins)) 0 c.inputs (sym inputs_are ∙ here))
         (walk_broken (memory_rules (memory_targets mems) (sizes_of mems)) (length c.inputs) c.memories end (sym memories_are ∙ found))
+
+  pub broken_entries : (end : StimEnd) → BreaksEntryRule ins mems c end → entries_fault ins mems c ≡ Some end
+  broken_entries _ (InInputs end first) = refused_then in_inputs in_memories end (inputs_are ∙ broken_walk (input_rules (input_targets ins)) 0 c.inputs end first)
+  broken_entries _ (InMemories end kept first) =
+      judged_later in_inputs in_memories end (inputs_are ∙ kept_walk (input_rules (input_targets ins)) 0 c.inputs kept)
+      (memories_are ∙ broken_walk (memory_rules (memory_targets mems) (sizes_of mems)) (length c.inputs) c.memories end first)
+
+  -- one end is told of the entries, and none of those that keep the rules
+  pub one_entry_break : (a b : StimEnd) → BreaksEntryRule ins mems c a → BreaksEntryRule ins mems c b → a ≡ b
+  one_entry_break a b p q = same_Some a b (sym (broken_entries a p) ∙ broken_entries b q)
+
+  pub kept_entries_unbroken : (end : StimEnd) → KeepsEntryRules ins mems c → BreaksEntryRule ins mems c end → ⊥
+  kept_entries_unbroken end kept first = let bad : ◌≡◌ {A = Option StimEnd} None (Some end) = sym (kept_entries kept) ∙ broken_entries end first in absurd cc
+
+  -- a stimulus without a fault keeps the limits and the rules
+  pub cycles_kept : cycles_fault ins mems c ≡ None → KeepsRules ins mems c
+  cycles_kept none =
+      let both = neither_there (limit_fault c) (entries_fault ins mems c) none in
+      record { limits = limits_kept c both.0; entries = entries_kept both.1 }
+
+  pub kept_cycles : KeepsRules ins mems c → cycles_fault ins mems c ≡ None
+  kept_cycles kept = neither (limit_fault c) (entries_fault ins mems c) (kept_limits c kept.limits) (kept_entries kept.entries)
 
   many_told : nat_le (length c.inputs) MOST_TRANSACTIONS ≡ false → cycles_fault ins mems c ≡ Some (many c)
   many_told off =
-      refused_then (limit_fault c) (first_fault in_inputs in_memories) (many c)
+      refused_then (limit_fault c) (entries_fault ins mems c) (many c)
       (refused_then (few_fault c) (short_fault c) (many c) (broken (nat_le (length c.inputs) MOST_TRANSACTIONS) (many c) off))
 
   long_told : length c.inputs ≤ MOST_TRANSACTIONS → nat_le c.cycles MOST_CYCLES ≡ false → cycles_fault ins mems c ≡ Some (long c)
   long_told few off =
-      refused_then (limit_fault c) (first_fault in_inputs in_memories) (long c)
+      refused_then (limit_fault c) (entries_fault ins mems c) (long c)
       (judged_later (few_fault c) (short_fault c) (long c) (few_kept c few) (broken (nat_le c.cycles MOST_CYCLES) (long c) off))
 
-  rules_told : (end : StimEnd) → KeepsLimits c → cycles_fault ins mems c ≡ Some end → first_fault in_inputs in_memories ≡ Some end
-  rules_told end limits is = ap (λ o. first_fault o (first_fault in_inputs in_memories)) (sym (kept_limits c limits)) ∙ is
+  rules_told : (end : StimEnd) → KeepsLimits c → cycles_fault ins mems c ≡ Some end → entries_fault ins mems c ≡ Some end
+  rules_told end limits is = ap (λ o. first_fault o (entries_fault ins mems c)) (sym (kept_limits c limits)) ∙ is
 
   -- the fault of a stimulus is the first limit or rule that it does not keep
   pub cycles_broken : (end : StimEnd) → cycles_fault ins mems c ≡ Some end → BreaksFirst ins mems c end
@@ -155,20 +174,14 @@ module _ (ins : List InputShape) (mems : List MemShape) (c : Cycles) where
           | inr off ↦ subst (BreaksFirst ins mems c) (same_Some (long c) end (sym (long_told few off) ∙ is)) (Rows few (leb-false c.cycles MOST_CYCLES off))
           | inl short ↦
               let limits : KeepsLimits c = record { entries = few; rows = leb-true c.cycles MOST_CYCLES short } in
-              rules_broken end limits (rules_told end limits is)
+              InEntries end limits (entries_broken end (rules_told end limits is))
         ]
   ]
 
   pub broken_cycles : (end : StimEnd) → BreaksFirst ins mems c end → cycles_fault ins mems c ≡ Some end
   broken_cycles end (Entries over) = many_told (lt-leb (length c.inputs) MOST_TRANSACTIONS over)
   broken_cycles end (Rows few over) = long_told few (lt-leb c.cycles MOST_CYCLES over)
-  broken_cycles _ (InInputs end limits first) =
-      judged_later (limit_fault c) (first_fault in_inputs in_memories) end (kept_limits c limits)
-      (refused_then in_inputs in_memories end (inputs_are ∙ broken_walk (input_rules (input_targets ins)) 0 c.inputs end first))
-  broken_cycles _ (InMemories end limits kept first) =
-      judged_later (limit_fault c) (first_fault in_inputs in_memories) end (kept_limits c limits)
-      (judged_later in_inputs in_memories end (inputs_are ∙ kept_walk (input_rules (input_targets ins)) 0 c.inputs kept)
-      (memories_are ∙ broken_walk (memory_rules (memory_targets mems) (sizes_of mems)) (length c.inputs) c.memories end first))
+  broken_cycles _ (InEntries end limits first) = judged_later (limit_fault c) (entries_fault ins mems c) end (kept_limits c limits) (broken_entries end first)
 
   -- one end is told of a stimulus, and none of one that keeps the limits and the rules
   pub one_break : (a b : StimEnd) → BreaksFirst ins mems c a → BreaksFirst ins mems c b → a ≡ b

@@ -20,3 +20,4 @@ pub mod TxValueLemmas
 pub mod TxMeaningLemmas
 pub mod TxFitLemmas
 pub mod TxLegalLemmas
+pub mod RunsLemmas

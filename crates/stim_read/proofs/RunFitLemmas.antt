@@ -13,17 +13,17 @@ use Rattle.net_core.specs.declared.stimulus.CycleList.{CycleList}
 use Rattle.net_core.specs.declared.stimulus.MemLoad.{MemLoad}
 use Rattle.net_core.specs.declared.stimulus.MemShape.{MemShape}
 use Rattle.stim_read.specs.Parts.{is_one_of}
-use Rattle.stim_read.specs.CycleText.{Entry, Words}
-use Rattle.stim_read.specs.CycleRules.{Targets, input_targets, memory_targets, sizes_of, place_in, width_of, has_known_name, given_fits, fits_width}
-use Rattle.stim_read.specs.CycleRun.{Setting, Load, setting_of, settings_of, load_of, setting_seen, load_seen, run_seen, GiveRun}
+use Rattle.stim_read.specs.CycleText.{Entry, Words, Cycles}
+use Rattle.stim_read.specs.CycleRules.{Targets, input_targets, memory_targets, sizes_of, place_in, width_of, has_known_name, given_fits, fits_width, KeepsEntryRules}
+use Rattle.stim_read.specs.CycleRun.{Setting, Load, setting_of, settings_of, load_of, setting_seen, load_seen, run_of, run_seen, GiveRun}
 use Rattle.stim_read.specs.inside.Walk.{first_fault, unless}
 use Rattle.stim_read.specs.Rules.{refused}
-use Rattle.stim_read.specs.inside.CycleWalk.{order_fault, input_fault, inputs_fault, memory_fault, memories_fault, limit_fault}
+use Rattle.stim_read.specs.inside.CycleWalk.{order_fault, input_fault, inputs_fault, memory_fault, memories_fault}
 use Rattle.stim_read.specs.Fits.{LoadsMemory, FitsRun}
 use Rattle.stim_read.specs.declared.given.Given.{Given}
 use Rattle.stim_read.specs.declared.stim_end.StimEnd.{StimEnd}
 use Rattle.stim_read.specs.declared.stim_end.StimEnd.TheVariants.{Refused}
-use Rattle.stim_read.proofs.CycleRuleLemmas.{kept_cycles}
+use Rattle.stim_read.proofs.CycleRuleLemmas.{kept_entries}
 use Rattle.stim_read.proofs.FaultLemmas.{neither_there, kept_by}
 use Rattle.stim_read.proofs.PlaceLemmas.{place_known}
 
@@ -160,16 +160,15 @@ all_load mems n (m ∷ ms) none =
 
 -- ---- what was read
 
-pub given_fits_run : (bytes : List ℕ) (ins : List InputShape) (mems : List MemShape) (list : CycleList) → GiveRun bytes ins mems (run_seen list) → FitsRun ins mems list
-given_fits_run bytes ins mems list gives =
+-- a stimulus whose entries keep the rules gives what fits
+pub kept_fits_run : (ins : List InputShape) (mems : List MemShape) (c : Cycles) (list : CycleList) → KeepsEntryRules ins mems c → run_seen list ≡ run_of ins mems c → FitsRun ins mems list
+kept_fits_run ins mems c list kept gives =
     let t = input_targets ins in
-    let c = gives.stimulus in
     let inputs = inputs_fault t None 0 c.inputs in
     let memories = memories_fault (memory_targets mems) (sizes_of mems) (length c.inputs) c.memories in
-    let limits = neither_there (limit_fault c) (first_fault inputs memories) (kept_cycles ins mems c gives.kept) in
-    let none = neither_there inputs memories limits.1 in
-    let sets : map setting_seen list.sets.items ≡ flat_map (settings_of t) c.inputs = ap (λ r. r.settings) gives.gives in
-    let loads : map load_seen list.loads.items ≡ map (load_of (memory_targets mems)) c.memories = ap (λ r. r.loads) gives.gives in
+    let none = neither_there inputs memories (kept_entries ins mems c kept) in
+    let sets : map setting_seen list.sets.items ≡ flat_map (settings_of t) c.inputs = ap (λ r. r.settings) gives in
+    let loads : map load_seen list.loads.items ≡ map (load_of (memory_targets mems)) c.memories = ap (λ r. r.loads) gives in
     let paired : length t.names ≡ length t.widths = length-map ins (λ (i : InputShape). i.name) ∙ sym (length-map ins (λ (i : InputShape). i.width)) in
     record {
       sets = All-unmap (SetsTarget t) setting_seen list.sets.items (subst (λ (ss : List Setting). All (SetsTarget t) ss) (sym sets) (all_set t None 0 c.inputs paired none.0));
@@ -177,6 +176,9 @@ given_fits_run bytes ins mems list gives =
       loads = All-weaker (λ (l : MemLoad). SeenLoads mems (load_seen l)) (LoadsMemory mems) (loads_seen mems) list.loads.items
           (All-unmap (SeenLoads mems) load_seen list.loads.items (subst (λ (ls : List Load). All (SeenLoads mems) ls) (sym loads) (all_load mems (length c.inputs) c.memories none.1)));
     }
+
+pub given_fits_run : (bytes : List ℕ) (ins : List InputShape) (mems : List MemShape) (list : CycleList) → GiveRun bytes ins mems (run_seen list) → FitsRun ins mems list
+given_fits_run bytes ins mems list gives = kept_fits_run ins mems gives.stimulus list gives.kept.entries gives.gives
 
 pub result_fits_run : (bytes : List ℕ) (ins : List InputShape) (mems : List MemShape) (r : Result CycleList StimEnd) → IfOk r (λ list. GiveRun bytes ins mems (run_seen list)) → IfOk r (FitsRun ins mems)
 result_fits_run bytes ins mems (Ok list) gives = given_fits_run bytes ins mems list gives

@@ -96,17 +96,25 @@ InputsKeepRules ins c = EntriesKeepRules (input_rules (input_targets ins)) c.inp
 abbrev pub MemoriesKeepRules : List MemShape → Cycles → Type 0
 MemoriesKeepRules mems c = EntriesKeepRules (memory_rules (memory_targets mems) (sizes_of mems)) c.memories
 
--- a stimulus keeps the limits and the rules
-pub record KeepsRules (ins : List InputShape) (mems : List MemShape) (c : Cycles) : Type 0 where
-  pub limits : KeepsLimits c
+-- each entry keeps the rules: the entries of inputs, and the memories
+pub record KeepsEntryRules (ins : List InputShape) (mems : List MemShape) (c : Cycles) : Type 0 where
   pub inputs : InputsKeepRules ins c
   pub memories : MemoriesKeepRules mems c
 
--- this end tells the first limit or rule that a stimulus does not keep; memories are numbered on after the entries of inputs
+-- a stimulus keeps the limits and the rules
+pub record KeepsRules (ins : List InputShape) (mems : List MemShape) (c : Cycles) : Type 0 where
+  pub limits : KeepsLimits c
+  pub entries : KeepsEntryRules ins mems c
+
+-- this end tells the first rule that an entry breaks; memories are numbered on after the entries of inputs
+pub data BreaksEntryRule (ins : List InputShape) (mems : List MemShape) (c : Cycles) : StimEnd → Type 0 where
+  InInputs : (end : StimEnd) → FirstBroken (input_rules (input_targets ins)) c.inputs 0 end → BreaksEntryRule ins mems c end
+  InMemories :
+      (end : StimEnd) → InputsKeepRules ins c → FirstBroken (memory_rules (memory_targets mems) (sizes_of mems)) c.memories (length c.inputs) end →
+      BreaksEntryRule ins mems c end
+
+-- this end tells the first limit or rule that a stimulus does not keep
 pub data BreaksFirst (ins : List InputShape) (mems : List MemShape) (c : Cycles) : StimEnd → Type 0 where
   Entries : MOST_TRANSACTIONS < length c.inputs → BreaksFirst ins mems c (Limit (length c.inputs) MOST_TRANSACTIONS false)
   Rows : length c.inputs ≤ MOST_TRANSACTIONS → MOST_CYCLES < c.cycles → BreaksFirst ins mems c (Limit c.cycles MOST_CYCLES true)
-  InInputs : (end : StimEnd) → KeepsLimits c → FirstBroken (input_rules (input_targets ins)) c.inputs 0 end → BreaksFirst ins mems c end
-  InMemories :
-      (end : StimEnd) → KeepsLimits c → InputsKeepRules ins c →
-      FirstBroken (memory_rules (memory_targets mems) (sizes_of mems)) c.memories (length c.inputs) end → BreaksFirst ins mems c end
+  InEntries : (end : StimEnd) → KeepsLimits c → BreaksEntryRule ins mems c end → BreaksFirst ins mems c end

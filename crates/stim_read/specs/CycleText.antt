@@ -63,14 +63,19 @@ memories_in version (Some value) = members_in value >>= each (words_by version)
 abbrev pub cycles_keys : List Text
 cycles_keys = codes "version" ∷ codes "cycles" ∷ codes "inputs" ∷ codes "memories" ∷ []
 
--- a stimulus of cycles
-abbrev pub cycles_in : Data → Option Cycles
-cycles_in value = do
-  version ← provided (is_object_of cycles_keys value) (version_in value)
+-- what the keys `cycles`, `inputs` and `memories` of an object say
+abbrev pub cycles_by : Version → Data → Option Cycles
+cycles_by version value = do
   cycles ← number_at (codes "cycles") value
   inputs ← inputs_in version value
   memories ← memories_in version (get (codes "memories") value)
   Some (record { cycles = cycles; inputs = inputs; memories = memories })
+
+-- a stimulus of cycles
+abbrev pub cycles_in : Data → Option Cycles
+cycles_in value = do
+  version ← provided (is_object_of cycles_keys value) (version_in value)
+  cycles_by version value
 
 -- ---- the same as the program holds it
 

@@ -11,3 +11,6 @@ pub mod TxEvents
 pub mod Fits
 pub mod TxRules
 pub mod TxRun
+pub mod RunsText
+pub mod RunsRules
+pub mod Runs

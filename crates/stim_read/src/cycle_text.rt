@@ -3,7 +3,7 @@ ghost use Rattle.std.specs.Prelude.{◌≡◌, map, IfOk, option_map};
 ghost use Rattle.serde_json.specs.View.{view};
 ghost use Rattle.stim_read.specs.Parts.{each, member_seen};
 ghost use Rattle.stim_read.specs.Amounts.{amount_in};
-ghost use Rattle.stim_read.specs.CycleText.{entry_in, inputs_in, words_by, memories_in, cycles_in, entry_seen, words_seen, cycles_seen};
+ghost use Rattle.stim_read.specs.CycleText.{entry_in, inputs_in, words_by, memories_in, cycles_by, cycles_in, entry_seen, words_seen, cycles_seen};
 
 use crate::amounts::{Version, amount, number_at, read_version};
 use crate::given::{Given, givens_at, is_object_of};
@@ -157,16 +157,14 @@ fn read_inputs(
     }
 }
 
-/// A stimulus of cycles.
-pub(crate) fn read_cycle_text(alloc: Global, value: &Value) -> Result<Option<CycleText>, Memory>
-    ensures { IfOk result (λ o. option_map cycles_seen o ≡ cycles_in (view value.now)) }
+/// What the keys `cycles`, `inputs` and `memories` say.
+pub(crate) fn read_cycles_by(
+    alloc: Global,
+    version: Version,
+    value: &Value,
+) -> Result<Option<CycleText>, Memory>
+    ensures { IfOk result (λ o. option_map cycles_seen o ≡ cycles_by version (view value.now)) }
 {
-    if !is_object_of(value, &["version", "cycles", "inputs", "memories"]) {
-        return Ok(None);
-    }
-    let Some(version) = read_version(value) else {
-        return Ok(None);
-    };
     let Some(cycles) = number_at("cycles", value) else {
         return Ok(None);
     };
@@ -181,4 +179,17 @@ pub(crate) fn read_cycle_text(alloc: Global, value: &Value) -> Result<Option<Cyc
         inputs,
         memories,
     }))
+}
+
+/// A stimulus of cycles.
+pub(crate) fn read_cycle_text(alloc: Global, value: &Value) -> Result<Option<CycleText>, Memory>
+    ensures { IfOk result (λ o. option_map cycles_seen o ≡ cycles_in (view value.now)) }
+{
+    if !is_object_of(value, &["version", "cycles", "inputs", "memories"]) {
+        return Ok(None);
+    }
+    let Some(version) = read_version(value) else {
+        return Ok(None);
+    };
+    read_cycles_by(alloc, version, value)
 }

@@ -8,7 +8,7 @@ ghost use Rattle.serde_json.specs.View.{view};
 ghost use Rattle.stim_read.specs.CycleText.{cycles_seen};
 ghost use Rattle.stim_read.specs.CycleRules.{input_targets, memory_targets};
 ghost use Rattle.stim_read.specs.CycleRun.{run_of, run_seen, IsJson, SayCycles, GiveRun, IsCause, IsNoJson, IsUnsaid};
-ghost use Rattle.stim_read.specs.inside.CycleWalk.{limit_fault, cycles_fault};
+ghost use Rattle.stim_read.specs.inside.CycleWalk.{limit_fault, entries_fault, cycles_fault};
 ghost use Rattle.stim_read.specs.inside.Walk.{Tells};
 ghost use Rattle.stim_read.specs.Fits.{FitsRun};
 
@@ -67,6 +67,29 @@ fn check_limits(text: &CycleText) -> Result<(), StimEnd>
     Ok(())
 }
 
+/// What a stimulus gives to a run, whatever the limits; else the first rule that an entry breaks.
+pub(crate) fn judge_entries(
+    alloc: Global,
+    ins: &[InputShape],
+    mems: &[MemShape],
+    text: &CycleText,
+) -> Result<CycleList, StimEnd>
+    requires inputs { AreDistinct (input_targets ins.now).names }
+    requires memories { AreDistinct (memory_targets mems.now).names }
+    requires input_widths { All (λ (i : InputShape). (1 ≤ i.width) × (i.width ≤ MAX_WIDTH)) ins.now }
+    requires memory_widths { All (λ (m : MemShape). (1 ≤ m.width) × (m.width ≤ MAX_WIDTH)) mems.now }
+    ensures told { Tells result (entries_fault ins.now mems.now (cycles_seen text.now)) }
+    ensures run { IfOk result (λ list. run_seen list ≡ run_of ins.now mems.now (cycles_seen text.now)) }
+{
+    let sets = settings(alloc, ins, &text.inputs)?;
+    let loads = loads(alloc, mems, text.inputs.len() as u64, &text.memories)?;
+    Ok(CycleList {
+        cycles: text.cycles,
+        sets,
+        loads,
+    })
+}
+
 /// What a stimulus gives to a run; else the first limit or rule that it does not keep.
 fn judge(
     alloc: Global,
@@ -82,13 +105,7 @@ fn judge(
     ensures run { IfOk result (λ list. run_seen list ≡ run_of ins.now mems.now (cycles_seen text.now)) }
 {
     check_limits(text)?;
-    let sets = settings(alloc, ins, &text.inputs)?;
-    let loads = loads(alloc, mems, text.inputs.len() as u64, &text.memories)?;
-    Ok(CycleList {
-        cycles: text.cycles,
-        sets,
-        loads,
-    })
+    judge_entries(alloc, ins, mems, text)
 }
 
 /// What a stimulus of cycles gives to a run with these inputs and observable memories, of which the names

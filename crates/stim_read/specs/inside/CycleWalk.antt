@@ -46,9 +46,12 @@ limit_fault c =
     first_fault (unless (nat_le (length c.inputs) MOST_TRANSACTIONS) (Limit (length c.inputs) MOST_TRANSACTIONS false))
     (unless (nat_le c.cycles MOST_CYCLES) (Limit c.cycles MOST_CYCLES true))
 
--- the first limit or rule that a stimulus does not keep; memories are counted on after the inputs
-abbrev pub cycles_fault : List InputShape → List MemShape → Cycles → Option StimEnd
-cycles_fault ins mems c =
-    first_fault (limit_fault c) (
+-- the first rule that an entry breaks; memories are counted on after the inputs
+abbrev pub entries_fault : List InputShape → List MemShape → Cycles → Option StimEnd
+entries_fault ins mems c =
     first_fault (inputs_fault (input_targets ins) None 0 c.inputs)
-    (memories_fault (memory_targets mems) (sizes_of mems) (length c.inputs) c.memories))
+    (memories_fault (memory_targets mems) (sizes_of mems) (length c.inputs) c.memories)
+
+-- the first limit or rule that a stimulus does not keep
+abbrev pub cycles_fault : List InputShape → List MemShape → Cycles → Option StimEnd
+cycles_fault ins mems c = first_fault (limit_fault c) (entries_fault ins mems c)
