@@ -1,0 +1,4 @@
+pub mod Lanes
+pub mod LaneRuns
+pub mod Held
+pub mod Narrow
