@@ -1,0 +1,10 @@
+pub mod Separated
+pub mod ExpressionLaws
+pub mod BlockLaws
+pub mod InputLists
+pub mod Imports
+pub mod Expressions
+pub mod Exactness
+pub mod Passages
+pub mod Designs
+pub mod Parsed

@@ -1,0 +1,11 @@
+use Rattle.std.proofs.Common.{◌≡◌, ◌-◌, List, length, [], ◌∷◌, map}
+use Rattle.hw_names.specs.Name.{Text, text_of}
+use Rattle.hw_grammar.specs.Reading.{with_front, times, many}
+use Rattle.hw_grammar.specs.declared.sort.Sort.TheVariants.{Comma}
+use Rattle.par_parse.specs.inside.Reading.{more_word_at}
+use Rattle.par_parse.proofs.event.more_names.Given as goal
+
+abbrev pub invariant-loop : goal.invariant-loop
+invariant-loop l = (names : List Text) →
+    with_front (map (text_of names) l.all.items) (times (Comma ∷ []) (more_word_at names) (length l.ts - l.counter) l.rest)
+    ≡ with_front (map (text_of names) l.fn.front.items) (many (Comma ∷ []) (more_word_at names) l.ts)

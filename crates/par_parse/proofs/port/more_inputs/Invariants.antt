@@ -1,0 +1,12 @@
+use Rattle.std.proofs.Common.{◌≡◌, ◌-◌, List, length, [], ◌∷◌, map}
+use Rattle.hw_names.specs.Name.{Text}
+use Rattle.hw_grammar.specs.Reading.{with_front, list_tail_times, list_tail}
+use Rattle.hw_grammar.specs.declared.sort.Sort.TheVariants.{Comma, At}
+use Rattle.par_parse.specs.inside.Inputs.{input_tree}
+use Rattle.par_parse.specs.inside.Reading.{input_at}
+use Rattle.par_parse.proofs.port.more_inputs.Given as goal
+
+abbrev pub invariant-loop : goal.invariant-loop
+invariant-loop l = (names : List Text) →
+    with_front (map (input_tree names) l.all.items) (list_tail_times Comma (At ∷ []) (input_at names) (length l.ts - l.counter) l.rest)
+    ≡ with_front (map (input_tree names) l.fn.front.items) (list_tail Comma (At ∷ []) (input_at names) l.ts)
