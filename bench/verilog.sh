@@ -84,7 +84,7 @@ take() {
     "$program" verilog "$1" >"$work/text.v" || exit
     has iverilog && step "$name" "taken by Icarus Verilog" iverilog -t null -Wall "$work/text.v"
     has yosys && step "$name" "taken by Yosys" yosys -q -p "read_verilog $work/text.v; hierarchy -check; proc; check -assert"
-    has verilator && step "$name" "taken by Verilator" verilator --lint-only -Wno-fatal "$work/text.v"
+    has verilator && step "$name" "taken by Verilator" verilator --lint-only "$work/text.v"
     has iverilog && has vvp && stimulus "$1" "$work/stimulus" && step "$name" "the same rows as trace" runs_alike "$1"
 }
 

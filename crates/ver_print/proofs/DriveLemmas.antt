@@ -9,14 +9,18 @@ use Rattle.net_core.specs.Netlist.{Netlist, SetLine, set_of}
 use Rattle.net_core.specs.Rules.{PortLine, ports_of}
 use Rattle.net_core.specs.declared.net.NetAssign.{NetAssign}
 use Rattle.ver_print.specs.inside.Drivers.{picked}
-use Rattle.ver_print.specs.Values.{drive_line, drives_text, guarded_text, sets_to, source_text, value_text}
+use Rattle.ver_print.specs.Values.{drive_line, drives_text, guarded_text, sets_to, value_text}
 use Rattle.ver_print.specs.Words.{escaped}
 
 -- ---- an assignment
 
-pub guarded_put : (a b c d e f guard source others : Text) → b ≡ a ++ codes "(" → c ≡ b ++ guard → d ≡ c ++ codes ") ? " → e ≡ d ++ source → f ≡ e ++ codes " : "
-    → f ++ others ≡ a ++ (codes "(" ++ guard ++ codes ") ? " ++ source ++ codes " : " ++ others)
-guarded_put a b c d e f guard source others h1 h2 h3 h4 h5 = rw (h5, h4, h3, h2, h1) (simp append_assoc)
+guarded_parts : (a o g t s p m z : Text) → a ++ o ++ g ++ t ++ s ++ p ++ m ++ z ≡ a ++ (o ++ g ++ t ++ s ++ p ++ m ++ z)
+guarded_parts a o g t s p m z = simp append_assoc
+
+pub guarded_put : (a b c d e f h guard source between others : Text) → b ≡ a ++ codes "(" → c ≡ b ++ guard → d ≡ c ++ codes ") ? " → e ≡ d ++ source → f ≡ e ++ between → h ≡ f ++ codes ": "
+    → h ++ others ≡ a ++ (codes "(" ++ guard ++ codes ") ? " ++ source ++ between ++ codes ": " ++ others)
+guarded_put a b c d e f h guard source between others h1 h2 h3 h4 h5 h6 =
+    rw (h6, h5, h4, h3, h2, h1) (guarded_parts a (codes "(") guard (codes ") ? ") source between (codes ": ") others)
 
 -- ---- the assignments of a port
 
@@ -26,7 +30,7 @@ module _ (names : List Text) (sets : List NetAssign) (numbers : List ℕ) where
   value_from width i = value_text width (map (set_of names) (picked sets (drop i numbers)))
 
   pub value_next : (width i number : ℕ) (a : NetAssign) → i < length numbers → get_or numbers i 0 ≡ number → slice_get sets number ≡ Some a
-      → value_from width i ≡ guarded_text (set_of names a).guard (source_text (set_of names a).src) (value_from width (i + 1))
+      → value_from width i ≡ guarded_text (set_of names a).guard (set_of names a).src (value_from width (i + 1))
   value_next width i number a within is at =
       ap (λ (ns : List ℕ). value_text width (map (set_of names) (picked sets ns))) (drop_more numbers i 0 within)
       ∙ ap (λ (o : Option NetAssign). value_text width (map (set_of names) (option_to_list o ++ picked sets (drop (i + 1) numbers)))) (ap (slice_get sets) is ∙ at)

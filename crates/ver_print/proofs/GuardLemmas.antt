@@ -1,48 +1,59 @@
 -- Guards put one after another, and behind `!`.
-use Rattle.std.proofs.Common.{◌≡◌, ℕ, suc, ◌+◌, ◌<◌, Bool, true, false, cond, ◌==◌, List, [], ◌∷◌, ◌++◌, length, get_or, take, map, replicate, codes, Result, OnOk, refl, sym, ap, ◌∙◌, append_assoc, append-nil, add-one, arith}
-use Rattle.std.proofs.lemmas.Bool.{ne_eqb}
-use Rattle.std.proofs.lemmas.List.{map_more, length-take, length-map}
+use Rattle.std.proofs.Common.{◌≡◌, ℕ, ◌+◌, ◌<◌, ◌≤◌, List, [], ◌∷◌, ◌++◌, length, get_or, drop, map, replicate, codes, Result, OnOk, sym, ap, ap₂, ◌∙◌, append_assoc, append-nil, add-one, arith}
+use Rattle.std.proofs.lemmas.List.{drop_more, drop_all}
 use Rattle.hw_names.specs.Name.{Text}
 use Rattle.net_core.specs.Guard.{GuardTree, guards_of}
-use Rattle.ver_print.specs.Values.{guard_text, guards_text, rest_text}
+use Rattle.ver_print.specs.Values.{guard_gap, guard_text, guards_text, rest_text}
 use Rattle.ver_print.proofs.PutLemmas.{OnOk-is}
 
-rest_text-push : (between : Text) (gs : List (GuardTree Text)) (g : GuardTree Text) → rest_text between (guards_of (gs ++ g ∷ [])) ≡ rest_text between (guards_of gs) ++ (between ++ guard_text g)
-rest_text-push between [] g = append-nil (between ++ guard_text g)
-rest_text-push between (h ∷ gs) g =
-    let first : Text = between ++ guard_text h in
-    ap (λ (t : Text). first ++ t) (rest_text-push between gs g) ∙ sym (append_assoc first (rest_text between (guards_of gs)) (between ++ guard_text g))
+-- ---- a list
 
--- one more guard at the end of a list
-guards_text-push : (between : Text) (gs : List (GuardTree Text)) (g : GuardTree Text) → guards_text between (guards_of (gs ++ g ∷ [])) ≡ guards_text between (guards_of gs) ++ (cond (length gs == 0) [] between ++ guard_text g)
-guards_text-push between [] g = append-nil (guard_text g)
-guards_text-push between (h ∷ gs) g =
-    let first : Text = guard_text h in
-    let text : Text = guard_text g in
-    let more : (suc (length gs) == 0) ≡ false = ne_eqb (suc (length gs)) 0 (λ e. omega (arith, e)) in
-    ap (λ (t : Text). first ++ t) (rest_text-push between gs g) ∙ sym (append_assoc first (rest_text between (guards_of gs)) (between ++ text))
-    ∙ ap (λ (b : Bool). (first ++ rest_text between (guards_of gs)) ++ (cond b [] between ++ text)) (sym more)
+module _ {X : Type 0} (f : X → GuardTree Text) (mark : Text) (xs : List X) where
+  -- the guards from this one on
+  abbrev pub guards_from : ℕ → Text
+  guards_from i = guards_text mark (guards_of (map f (drop i xs)))
 
-after_mark : (b : Bool) (out between text : Text) → cond b out (out ++ between) ++ text ≡ out ++ (cond b [] between ++ text)
-after_mark true out between text = refl
-after_mark false out between text = append_assoc out between text
+  -- a guard and those after it
+  one_more : (out mid text rest : Text) → mid ≡ out ++ text → mid ++ rest ≡ out ++ (text ++ rest)
+  one_more out mid text rest put = ap (λ (t : Text). t ++ rest) put ∙ append_assoc out text rest
 
--- a turn of the loop over the guards of a list
-pub guards_step : {X : Type 0} (f : X → GuardTree Text) (between : Text) (xs : List X) (i : ℕ) (x : X) (before out marked new : Text) → i < length xs → x ≡ get_or xs i x
-    → out ≡ before ++ guards_text between (guards_of (map f (take i xs))) → marked ≡ cond (i == 0) out (out ++ between) → new ≡ marked ++ guard_text (f x)
-    → new ≡ before ++ guards_text between (guards_of (map f (take (i + 1) xs)))
-guards_step {X = X} f between xs i x before out marked new lt item so_far mark put =
-    let text : Text = guard_text (f x) in
-    let trees : List (GuardTree Text) = map f (take i xs) in
-    let front : Text = guards_text between (guards_of trees) in
-    let size : length trees ≡ i = length-map (take i xs) f ∙ omega (arith, length-take i xs) in
-    let more : map f (take (i + 1) xs) ≡ trees ++ f x ∷ [] = map_more f xs i x lt ∙ ap (λ (y : X). trees ++ f y ∷ []) (sym item) in
-    put ∙ ap (λ (t : Text). t ++ text) mark ∙ after_mark (i == 0) out between text
-    ∙ ap (λ (t : Text). t ++ (cond (i == 0) [] between ++ text)) so_far
-    ∙ append_assoc before front (cond (i == 0) [] between ++ text)
-    ∙ ap (λ (n : ℕ). before ++ (front ++ (cond (n == 0) [] between ++ text))) (sym size)
-    ∙ ap (λ (t : Text). before ++ t) (sym (guards_text-push between trees (f x)))
-    ∙ ap (λ (gs : List (GuardTree Text)). before ++ guards_text between (guards_of gs)) (sym more)
+  marked : (out mid gapped new text gap next rest : Text) → mid ≡ out ++ text → gapped ≡ mid ++ gap → new ≡ gapped ++ mark
+      → new ++ (next ++ rest) ≡ out ++ (text ++ (gap ++ mark ++ next ++ rest))
+  marked out mid gapped new text gap next rest h1 h2 h3 = rw (h3, h2, h1) (simp append_assoc)
+
+  -- the last guard has no mark after it
+  pub last_guard : (i : ℕ) (x : X) (out mid : Text) → i < length xs → length xs ≤ i + 1 → x ≡ get_or xs i x → mid ≡ out ++ guard_text (f x) → mid ++ guards_from (i + 1) ≡ out ++ guards_from i
+  last_guard i x out mid lt last item put =
+      let none : drop (i + 1) xs ≡ [] = drop_all (i + 1) xs last in
+      let here : drop i xs ≡ x ∷ [] = drop_more xs i x lt ∙ ap₂ (λ (y : X) (ys : List X). y ∷ ys) (sym item) none in
+      ap (λ (ys : List X). mid ++ guards_text mark (guards_of (map f ys))) none
+      ∙ one_more out mid (guard_text (f x)) [] put
+      ∙ ap (λ (ys : List X). out ++ guards_text mark (guards_of (map f ys))) (sym here)
+
+  -- any other has one
+  pub next_guard : (i : ℕ) (x : X) (out mid gapped new : Text) → i + 1 < length xs → x ≡ get_or xs i x → mid ≡ out ++ guard_text (f x)
+      → gapped ≡ mid ++ guard_gap (f x) → new ≡ gapped ++ mark → new ++ guards_from (i + 1) ≡ out ++ guards_from i
+  next_guard i x out mid gapped new lt item h1 h2 h3 =
+      let y : X = get_or xs (i + 1) x in
+      let ys : List X = drop (i + 1 + 1) xs in
+      let later : drop (i + 1) xs ≡ y ∷ ys = drop_more xs (i + 1) x lt in
+      let here : drop i xs ≡ x ∷ (y ∷ ys) = drop_more xs i x (omega (arith, lt)) ∙ ap₂ (λ (z : X) (zs : List X). z ∷ zs) (sym item) later in
+      ap (λ (zs : List X). new ++ guards_text mark (guards_of (map f zs))) later
+      ∙ marked out mid gapped new (guard_text (f x)) (guard_gap (f x)) (guard_text (f y)) (rest_text mark (f y) (guards_of (map f ys))) h1 h2 h3
+      ∙ ap (λ (zs : List X). out ++ guards_text mark (guards_of (map f zs))) (sym here)
+
+  pub no_guards : (i : ℕ) → length xs ≤ i → guards_from i ≡ []
+  no_guards i past = ap (λ (ys : List X). guards_text mark (guards_of (map f ys))) (drop_all i xs past)
+
+-- the bracket after the last guard
+pub list_closed : {A E : Type 0} (r : Result A E) (start first out new left whole : Text) → OnOk r (new ≡ out ++ codes ")") → first ≡ start ++ codes "(" → left ≡ [] → out ++ left ≡ first ++ whole
+    → OnOk r (new ≡ start ++ (codes "(" ++ whole ++ codes ")"))
+list_closed r start first out new left whole closed put none all =
+    let put_all : out ≡ start ++ codes "(" ++ whole = sym (append-nil out) ∙ ap (λ (t : Text). out ++ t) (sym none) ∙ all ∙ ap (λ (t : Text). t ++ whole) put in
+    OnOk-is r new (out ++ codes ")") (start ++ (codes "(" ++ whole ++ codes ")")) closed (ap (λ (t : Text). t ++ codes ")") put_all ∙ list_parts start (codes "(") whole (codes ")"))
+  where
+    list_parts : (a b c d : Text) → a ++ b ++ c ++ d ≡ a ++ (b ++ c ++ d)
+    list_parts a b c d = simp append_assoc
 
 -- one more `!`: its bracket is open, and closes before those of the earlier ones
 pub negation_inside : (out new inner : Text) (count : ℕ) → new ≡ out ++ codes "(!" → new ++ (inner ++ replicate (count + 1) 41) ≡ out ++ ((codes "(!" ++ inner ++ codes ")") ++ replicate count 41)

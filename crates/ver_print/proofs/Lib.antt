@@ -6,3 +6,4 @@ pub mod DriverLemmas
 pub mod DriveLemmas
 pub mod LineLemmas
 pub mod TextLemmas
+mod TestLemmas

@@ -149,41 +149,66 @@ mult_pipe_put phase product shown go left right =
 
 -- ---- memories
 
-pub below_text : (address size : Text) → address ++ (codes "< " ++ (size ++ [])) ≡ address ++ codes "< " ++ size
-below_text address size = simp (append_assoc, append-nil)
+pub words_text : (high words last : Text) → codes "reg [" ++ (high ++ (codes ":0] " ++ (words ++ (codes "[0:" ++ (last ++ codes "];")))))
+    ≡ codes "reg " ++ (codes "[" ++ high ++ codes ":0]") ++ codes " " ++ words ++ codes "[0:" ++ last ++ codes "];"
+words_text high words last = simp append_assoc
 
-pub d2_within_text : (a m b n : Text) → a ++ (codes "< " ++ (m ++ (codes " && " ++ (b ++ (codes "< " ++ (n ++ [])))))) ≡ (a ++ codes "< " ++ m) ++ codes " && " ++ (b ++ codes "< " ++ n)
-d2_within_text a m b n = simp (append_assoc, append-nil)
-
-pub d2_place_text : (a n b : Text) → a ++ (codes "* " ++ (n ++ (codes " + " ++ (b ++ [])))) ≡ a ++ codes "* " ++ n ++ codes " + " ++ b
-d2_place_text a n b = simp (append_assoc, append-nil)
-
-pub words_put : (a b c high words count : Text) → b ≡ a ++ (codes "  reg [" ++ (high ++ (codes ":0] " ++ (words ++ codes "[0:")))) → c ≡ b ++ count
-    → c ++ codes "-1];\n" ≡ a ++ inner_line (codes "reg " ++ (codes "[" ++ high ++ codes ":0]") ++ codes " " ++ words ++ codes "[0:" ++ count ++ codes "-1];")
-words_put a b c high words count h1 h2 = rw (h2, h1) (simp append_assoc)
-
-pub start_put : (a b c i count words width : Text) → b ≡ a ++ (codes "  initial for (" ++ (i ++ (codes "= 0; " ++ (i ++ codes "< ")))) → c ≡ b ++ count
-    → c ++ (codes "; " ++ (i ++ (codes "= " ++ (i ++ (codes "+ 1) " ++ (words ++ (codes "[" ++ (i ++ (codes "]= " ++ (width ++ codes "'d0;\n"))))))))))
-    ≡ a ++ inner_line (joined (
+pub start_text : (i count words width : Text) →
+    codes "initial for (" ++ (i ++ (codes "= 0; " ++ (i ++ (codes "< " ++ (count ++ (codes "; " ++ (i ++ (codes "= " ++ (i ++ (codes "+ 1) "
+    ++ (words ++ (codes "[" ++ (i ++ (codes "] = " ++ (width ++ codes "'d0;")))))))))))))))
+    ≡ joined (
     codes "initial for (" ∷ i ∷ codes "= 0; " ∷ i ∷ codes "< " ∷ count ∷ codes "; " ∷ i ∷ codes "= " ∷ i ∷ codes "+ 1) " ∷
-    words ∷ codes "[" ∷ i ∷ codes "]= " ∷ (width ++ codes "'d0") ∷ codes ";" ∷ []))
-start_put a b c i count words width h1 h2 = rw (h2, h1) (simp append_assoc)
+    words ∷ codes "[" ∷ i ∷ codes "] = " ∷ (width ++ codes "'d0") ∷ codes ";" ∷ [])
+start_text i count words width = simp append_assoc
 
-read_parts : (a i x t e o v m z k p n w d s l : Text) →
-    a ++ (i ++ (x ++ (t ++ (e ++ o)))) ++ v ++ (m ++ (z ++ k)) ++ p ++ (n ++ (w ++ (d ++ (s ++ l)))) ≡ a ++ (i ++ (x ++ t ++ e ++ (o ++ v ++ m ++ z ++ k ++ p ++ n ++ (w ++ d)) ++ s) ++ l)
-read_parts a i x t e o v m z k p n w d s l = simp append_assoc
+pub word_put : (a b c words place : Text) → b ≡ a ++ (words ++ codes "[") → c ≡ b ++ place → c ++ codes "]" ≡ a ++ (words ++ codes "[" ++ place ++ codes "]")
+word_put a b c words place h1 h2 = rw (h2, h1) (simp append_assoc)
 
-pub read_put : (a b c d e target within words place width : Text) → b ≡ a ++ (codes "  assign " ++ (target ++ codes "= (")) → c ≡ b ++ within
-    → d ≡ c ++ (codes ") ? " ++ (words ++ codes "[")) → e ≡ d ++ place
-    → e ++ (codes "]: " ++ (width ++ codes "'d0;\n")) ≡ a ++ inner_line (assignment target (codes "(" ++ within ++ codes ") ? " ++ words ++ codes "[" ++ place ++ codes "]: " ++ (width ++ codes "'d0")))
-read_put a b c d e target within words place width h1 h2 h3 h4 =
+value_parts : (a o t m w s v z : Text) → a ++ o ++ t ++ m ++ w ++ (s ++ (v ++ z)) ≡ a ++ (o ++ t ++ m ++ w ++ s ++ (v ++ z))
+value_parts a o t m w s v z = simp append_assoc
+
+pub value_put : (a b c d e within word width : Text) → b ≡ a ++ codes "(" → c ≡ b ++ within → d ≡ c ++ codes ") ? " → e ≡ d ++ word
+    → e ++ (codes " : " ++ (width ++ codes "'d0")) ≡ a ++ (codes "(" ++ within ++ codes ") ? " ++ word ++ codes " : " ++ (width ++ codes "'d0"))
+value_put a b c d e within word width h1 h2 h3 h4 = rw (h4, h3, h2, h1) (value_parts a (codes "(") within (codes ") ? ") word (codes " : ") width (codes "'d0"))
+
+assigned_parts : (a i g t m v s l : Text) → a ++ (i ++ (g ++ (t ++ m))) ++ v ++ (s ++ l) ≡ a ++ (i ++ (g ++ t ++ m ++ v ++ s) ++ l)
+assigned_parts a i g t m v s l = simp append_assoc
+
+-- an assignment, whose value is put in between
+pub assigned_put : (a b c target value : Text) → b ≡ a ++ (codes "  assign " ++ (target ++ codes "= ")) → c ≡ b ++ value → c ++ codes ";\n" ≡ a ++ inner_line (assignment target value)
+assigned_put a b c target value h1 h2 = rw (h2, h1) (assigned_parts a (codes "  ") (codes "assign ") target (codes "= ") value (codes ";") (codes "\n"))
+
+pub write_test_put : (a b c write_en within : Text) → b ≡ a ++ (write_en ++ codes "&& (") → c ≡ b ++ within → c ++ codes ")" ≡ a ++ (write_en ++ codes "&& (" ++ within ++ codes ")")
+write_test_put a b c write_en within h1 h2 = rw (h2, h1) (simp append_assoc)
+
+edge_parts : (a l y b d m w i t p x n v z e : Text) →
+    a ++ (l ++ y ++ b ++ (d ++ (m ++ (w ++ i)))) ++ t ++ p ++ x ++ (n ++ (v ++ (z ++ e))) ≡ a ++ (l ++ (y ++ (b ++ (d ++ (m ++ (w ++ (i ++ (t ++ (p ++ (x ++ (n ++ (v ++ z))))))))))) ++ e)
+edge_parts a l y b d m w i t p x n v z e = simp append_assoc
+
+pub edge_put : (a b c d e done write_en test word written : Text)
+    → b ≡ a ++ (codes "  always @(posedge \\$clk ) begin " ++ (done ++ (codes "<= " ++ (write_en ++ codes "; if (")))) → c ≡ b ++ test
+    → d ≡ c ++ codes ") " → e ≡ d ++ word
+    → e ++ (codes " <= " ++ (written ++ codes "; end\n")) ≡ a ++ inner_line (clocked (joined (
+    codes "begin " ∷ done ∷ codes "<= " ∷ write_en ∷ codes "; if (" ∷ test ∷ codes ") " ∷
+    word ∷ codes " <= " ∷ written ∷ codes "; end" ∷ [])))
+edge_put a b c d e done write_en test word written h1 h2 h3 h4 =
     rw (h4, h3, h2, h1)
-    (read_parts a (codes "  ") (codes "assign ") target (codes "= ") (codes "(") within (codes ") ? ") words (codes "[") place (codes "]: ") width (codes "'d0") (codes ";") (codes "\n"))
+    (edge_parts a (codes "  ") (codes "always @(posedge \\$clk ) ") (codes "begin ") done (codes "<= ") write_en (codes "; if (") test (codes ") ") word (codes " <= ") written (codes "; end") (codes "\n"))
 
-pub edge_put : (a b c d e done write_en within words place written : Text)
-    → b ≡ a ++ (codes "  always @(posedge \\$clk ) begin " ++ (done ++ (codes "<= " ++ (write_en ++ (codes "; if (" ++ (write_en ++ codes " && (")))))) → c ≡ b ++ within
-    → d ≡ c ++ (codes ")) " ++ (words ++ codes "[")) → e ≡ d ++ place
-    → e ++ (codes "]<= " ++ (written ++ codes "; end\n")) ≡ a ++ inner_line (clocked (joined (
-    codes "begin " ∷ done ∷ codes "<= " ∷ write_en ∷ codes "; if (" ∷ write_en ∷ codes " && (" ∷ within ∷ codes ")) " ∷
-    words ∷ codes "[" ∷ place ∷ codes "]<= " ∷ written ∷ codes "; end" ∷ [])))
-edge_put a b c d e done write_en within words place written h1 h2 h3 h4 = rw (h4, h3, h2, h1) (simp append_assoc)
+-- ---- addresses
+
+pub below_put : (address idx size : Text) → address ++ (codes "< " ++ (idx ++ (codes "'d" ++ (size ++ [])))) ≡ address ++ codes "< " ++ (idx ++ codes "'d" ++ size)
+below_put address idx size = simp (append_assoc, append-nil)
+
+pub both_put : (a b c below above : Text) → b ≡ a ++ below → c ≡ b ++ codes " && " → c ++ above ≡ a ++ (below ++ codes " && " ++ above)
+both_put a b c below above h1 h2 = rw (h2, h1) (simp append_assoc)
+
+pub lower_put : (address high : Text) → address ++ (codes "[" ++ (high ++ codes ":0]")) ≡ address ++ (codes "[" ++ high ++ codes ":0]")
+lower_put address high = simp append_assoc
+
+pub index_put : (a b c d row between bits size column : Text) → b ≡ a ++ row → c ≡ b ++ between → d ≡ c ++ (codes "* " ++ (bits ++ (codes "'d" ++ (size ++ codes " + "))))
+    → d ++ column ≡ a ++ (row ++ between ++ codes "* " ++ (bits ++ codes "'d" ++ size) ++ codes " + " ++ column)
+index_put a b c d row between bits size column h1 h2 h3 = rw (h3, h2, h1) (simp append_assoc)
+
+pub padded_put : (zeros port : Text) → codes "{" ++ (zeros ++ (codes "'d0, " ++ (port ++ codes "}"))) ≡ codes "{" ++ (zeros ++ codes "'d0") ++ codes ", " ++ port ++ codes "}"
+padded_put zeros port = simp append_assoc

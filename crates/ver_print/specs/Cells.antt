@@ -1,5 +1,6 @@
 -- The lines of a cell, primitive by primitive: what its outputs show, what it keeps, and what happens at the clock's edge. This project's.
-use Rattle.std.specs.Prelude.{ℕ, ◌-◌, ◌*◌, List, [], ◌∷◌, ◌++◌, codes, decimal, Option, None, Some}
+use Rattle.std.specs.Int.Count.{count_leading_zeros}
+use Rattle.std.specs.Prelude.{ℕ, ◌-◌, ◌*◌, ◌^◌, ◌==◌, max, nat_lt, List, [], ◌∷◌, ◌++◌, codes, decimal, Option, None, Some, if◌then◌else◌}
 use Rattle.std.specs.List.{flat_map}
 use Rattle.hw_names.specs.Name.{Text}
 use Rattle.hw_prims.specs.Table.{prim_of}
@@ -8,7 +9,7 @@ use Rattle.hw_prims.specs.declared.prim.Primitive.TheVariants.{StdConst, StdWire
 use Rattle.hw_prims.specs.declared.prim.Primitive.TheVariants.{StdGt, StdLe, StdGe, StdLsh, StdRsh, StdSlice, StdPad, FilMux, FilSlice, FilConcat, StdReg}
 use Rattle.hw_prims.specs.declared.prim.Primitive.TheVariants.{StdMemD1, StdMemD2, StdMultPipe, FilDelay, FilFastMult, FilSeqMult}
 use Rattle.net_core.specs.Netlist.{CellLine}
-use Rattle.ver_print.specs.Words.{assignment, clock, inner_line, joined, literal, part, range, zeros}
+use Rattle.ver_print.specs.Words.{assignment, clock, counter, gap, inner_line, joined, literal, padded, part, range, zeros}
 
 -- an output of the cell always has a value
 abbrev pub shows : Text → Text → Text → Text
@@ -121,58 +122,102 @@ mult_pipe_lines cell w =
 
 -- the words of a memory
 abbrev pub memory_words : Text → ℕ → ℕ → Text
-memory_words cell w count = codes "reg " ++ range w ++ codes " " ++ part cell (codes "$0") ++ codes "[0:" ++ decimal count ++ codes "-1];"
+memory_words cell w count = codes "reg " ++ range w ++ codes " " ++ part cell (codes "$0") ++ codes "[0:" ++ decimal (count - 1) ++ codes "];"
 
 -- they start with zeros
 abbrev pub memory_start : Text → ℕ → ℕ → Text
 memory_start cell w count =
-    let i = part cell (codes "$2") in
+    let i = counter cell in
     joined (
     codes "initial for (" ∷ i ∷ codes "= 0; " ∷ i ∷ codes "< " ∷ decimal count ∷ codes "; " ∷ i ∷ codes "= " ∷ i ∷ codes "+ 1) " ∷
-    part cell (codes "$0") ∷ codes "[" ∷ i ∷ codes "]= " ∷ zeros w ∷ codes ";" ∷ [])
+    part cell (codes "$0") ∷ codes "[" ∷ i ∷ codes "] = " ∷ zeros w ∷ codes ";" ∷ [])
 
--- the output shows the word at the place, and 0 where the address is not within range
-abbrev pub memory_read : Text → ℕ → Text → Text → Text
-memory_read cell w within place =
-    shows cell (codes "read_data") (codes "(" ++ within ++ codes ") ? " ++ part cell (codes "$0") ++ codes "[" ++ place ++ codes "]: " ++ zeros w)
+-- how many bits an index of a memory of so many words has: those of its last word, and one at least
+abbrev pub index_width : ℕ → ℕ
+index_width count = max 1 (128 - count_leading_zeros 128 (count - 1))
+
+-- the address, of idx bits, in as many bits as an index has: its lower bits, or zeros above it
+abbrev pub fitted : Text → (idx bits : ℕ) → Text
+fitted address idx bits = if nat_lt bits idx then address ++ range bits else padded (bits - idx) address
+
+-- addr< idx'dsize
+abbrev pub below_text : Text → (idx size : ℕ) → Text
+below_text address idx size = address ++ codes "< " ++ literal idx size
+
+-- the test that an address is below the size; none where each address is
+abbrev pub below : Text → (idx size : ℕ) → Option Text
+below address idx size = if nat_lt size (2 ^ idx) then Some (below_text address idx size) else None
+
+-- both tests
+abbrev pub both_tests : Option Text → Option Text → Option Text
+both_tests None b = b
+both_tests (Some a) None = Some a
+both_tests (Some a) (Some b) = Some (a ++ codes " && " ++ b)
+
+-- the word at a place
+abbrev pub word_text : Text → Text → Text
+word_text cell place = part cell (codes "$0") ++ codes "[" ++ place ++ codes "]"
+
+-- (within) ? word : w'd0; without a test the word
+abbrev pub read_value : Option Text → Text → ℕ → Text
+read_value None word w = word
+read_value (Some within) word w = codes "(" ++ within ++ codes ") ? " ++ word ++ codes " : " ++ zeros w
+
+-- write_en&& (within); without a test write_en
+abbrev pub write_test : Option Text → Text → Text
+write_test None write_en = write_en
+write_test (Some within) write_en = write_en ++ codes "&& (" ++ within ++ codes ")"
 
 -- with write_en the word at the place takes the data, where the address is within range; done tells of write_en
-abbrev pub memory_edge : Text → Text → Text → Text
+abbrev pub memory_edge : Text → Option Text → Text → Text
 memory_edge cell within place =
     let write_en = part cell (codes "write_en") in
     clocked (joined (
-    codes "begin " ∷ part cell (codes "$1") ∷ codes "<= " ∷ write_en ∷ codes "; if (" ∷ write_en ∷ codes " && (" ∷ within ∷ codes ")) " ∷
-    part cell (codes "$0") ∷ codes "[" ∷ place ∷ codes "]<= " ∷ part cell (codes "write_data") ∷ codes "; end" ∷ []))
+    codes "begin " ∷ part cell (codes "$1") ∷ codes "<= " ∷ write_en ∷ codes "; if (" ∷ write_test within write_en ∷ codes ") " ∷
+    word_text cell place ∷ codes " <= " ∷ part cell (codes "write_data") ∷ codes "; end" ∷ []))
 
--- $0 are the words, $1 is done, $2 counts words at the start
-abbrev pub memory_lines : Text → ℕ → ℕ → Text → Text → List Text
+-- the output shows the word at the place, and 0 where the address is not within range
+abbrev pub memory_read : Text → ℕ → Option Text → Text → Text
+memory_read cell w within place = shows cell (codes "read_data") (read_value within (word_text cell place) w)
+
+-- $0 are the words, $1 is done
+abbrev pub memory_lines : Text → ℕ → ℕ → Option Text → Text → List Text
 memory_lines cell w count within place =
     memory_words cell w count ∷
     keeps cell (codes "$1") 1 ∷
-    (codes "integer " ++ part cell (codes "$2") ++ codes ";") ∷
+    (codes "integer " ++ counter cell ++ codes ";") ∷
     memory_start cell w count ∷
     memory_read cell w within place ∷
     shows cell (codes "done") (part cell (codes "$1")) ∷
     memory_edge cell within place ∷
     []
 
--- addr0< size
-abbrev pub below : Text → ℕ → Text
-below address size = address ++ codes "< " ++ decimal size
+abbrev pub d1_within : Text → (size idx : ℕ) → Option Text
+d1_within cell size idx = below (part cell (codes "addr0")) idx size
+
+abbrev pub d1_place : Text → (size idx : ℕ) → Text
+d1_place cell size idx = fitted (part cell (codes "addr0")) idx (index_width size)
 
 -- both addresses are in range
-abbrev pub d2_within : Text → ℕ → ℕ → Text
-d2_within cell size0 size1 = below (part cell (codes "addr0")) size0 ++ codes " && " ++ below (part cell (codes "addr1")) size1
+abbrev pub d2_within : Text → (size0 size1 idx0 idx1 : ℕ) → Option Text
+d2_within cell size0 size1 idx0 idx1 = both_tests (below (part cell (codes "addr0")) idx0 size0) (below (part cell (codes "addr1")) idx1 size1)
 
--- addr0* size1 + addr1
-abbrev pub d2_place : Text → ℕ → Text
-d2_place cell size1 = part cell (codes "addr0") ++ codes "* " ++ decimal size1 ++ codes " + " ++ part cell (codes "addr1")
+-- addr0* size1 + addr1 in so many bits; of one row of words addr1 alone
+abbrev pub d2_index : Text → (size0 size1 idx0 idx1 bits : ℕ) → Text
+d2_index cell size0 size1 idx0 idx1 bits =
+    let row = fitted (part cell (codes "addr0")) idx0 bits in
+    let column = fitted (part cell (codes "addr1")) idx1 bits in
+    if size0 == 1 then column else row ++ gap (idx0 == bits) ++ codes "* " ++ literal bits size1 ++ codes " + " ++ column
 
-abbrev pub memory_d1_lines : Text → ℕ → ℕ → List Text
-memory_d1_lines cell w size = memory_lines cell w size (below (part cell (codes "addr0")) size) (part cell (codes "addr0"))
+abbrev pub d2_place : Text → (size0 size1 idx0 idx1 : ℕ) → Text
+d2_place cell size0 size1 idx0 idx1 = d2_index cell size0 size1 idx0 idx1 (index_width (size0 * size1))
 
-abbrev pub memory_d2_lines : Text → ℕ → ℕ → ℕ → List Text
-memory_d2_lines cell w size0 size1 = memory_lines cell w (size0 * size1) (d2_within cell size0 size1) (d2_place cell size1)
+abbrev pub memory_d1_lines : Text → (w size idx : ℕ) → List Text
+memory_d1_lines cell w size idx = memory_lines cell w size (d1_within cell size idx) (d1_place cell size idx)
+
+abbrev pub memory_d2_lines : Text → (w size0 size1 idx0 idx1 : ℕ) → List Text
+memory_d2_lines cell w size0 size1 idx0 idx1 =
+    memory_lines cell w (size0 * size1) (d2_within cell size0 size1 idx0 idx1) (d2_place cell size0 size1 idx0 idx1)
 
 -- the lines of a cell of this primitive
 unfoldable pub cell_lines : Text → Primitive → List Text
@@ -193,13 +238,13 @@ cell_lines cell (StdGe w) = simple_lines cell (operation cell (codes ">="))
 cell_lines cell (StdLsh w) = simple_lines cell (operation cell (codes "<<"))
 cell_lines cell (StdRsh w) = simple_lines cell (operation cell (codes ">>"))
 cell_lines cell (StdSlice i o) = simple_lines cell (bits_text cell (o - 1) 0)
-cell_lines cell (StdPad i o) = simple_lines cell (part cell (codes "in"))
+cell_lines cell (StdPad i o) = simple_lines cell (padded (o - i) (part cell (codes "in")))
 cell_lines cell (FilMux w) = simple_lines cell (choice cell)
 cell_lines cell (FilSlice w hi lo) = simple_lines cell (bits_text cell hi lo)
 cell_lines cell (FilConcat a b) = simple_lines cell (concatenation cell)
 cell_lines cell (StdReg w) = register_lines cell w
-cell_lines cell (StdMemD1 w size idx) = memory_d1_lines cell w size
-cell_lines cell (StdMemD2 w size0 size1 idx0 idx1) = memory_d2_lines cell w size0 size1
+cell_lines cell (StdMemD1 w size idx) = memory_d1_lines cell w size idx
+cell_lines cell (StdMemD2 w size0 size1 idx0 idx1) = memory_d2_lines cell w size0 size1 idx0 idx1
 cell_lines cell (StdMultPipe w) = mult_pipe_lines cell w
 cell_lines cell (FilDelay w) = delay_lines cell w
 cell_lines cell (FilFastMult w) = fast_mult_lines cell w

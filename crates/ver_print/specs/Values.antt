@@ -23,32 +23,42 @@ operator_text Gt = codes ">"
 operator_text Le = codes "<="
 operator_text Ge = codes ">="
 
+-- a name has a space of its own, a literal has none
+abbrev pub source_gap : Src Text → Text
+source_gap (Port p) = []
+source_gap (Lit width value) = codes " "
+
+abbrev pub guard_gap : GuardTree Text → Text
+guard_gap (Reads s) = source_gap s
+guard_gap g = codes " "
+
 -- S, (S op S), (!G), (G && G) or (G || G)
 abbrev mutual
   pub guard_text : GuardTree Text → Text
   guard_text (Reads s) = source_text s
-  guard_text (Compares op a b) = codes "(" ++ source_text a ++ codes " " ++ operator_text op ++ codes " " ++ source_text b ++ codes ")"
+  guard_text (Compares op a b) = codes "(" ++ source_text a ++ source_gap a ++ operator_text op ++ codes " " ++ source_text b ++ codes ")"
   guard_text (Negates g) = codes "(!" ++ guard_text g ++ codes ")"
-  guard_text (AllOf gs) = codes "(" ++ guards_text (codes " && ") gs ++ codes ")"
-  guard_text (AnyOf gs) = codes "(" ++ guards_text (codes " || ") gs ++ codes ")"
+  guard_text (AllOf gs) = codes "(" ++ guards_text (codes "&& ") gs ++ codes ")"
+  guard_text (AnyOf gs) = codes "(" ++ guards_text (codes "|| ") gs ++ codes ")"
 
   pub guards_text : Text → GuardTrees Text → Text
-  guards_text between NoGuards = []
-  guards_text between (MoreGuards g gs) = guard_text g ++ rest_text between gs
+  guards_text mark NoGuards = []
+  guards_text mark (MoreGuards g gs) = guard_text g ++ rest_text mark g gs
 
-  pub rest_text : Text → GuardTrees Text → Text
-  rest_text between NoGuards = []
-  rest_text between (MoreGuards g gs) = between ++ guard_text g ++ rest_text between gs
+  -- the guards after this one
+  pub rest_text : Text → GuardTree Text → GuardTrees Text → Text
+  rest_text mark before NoGuards = []
+  rest_text mark before (MoreGuards g gs) = guard_gap before ++ mark ++ guard_text g ++ rest_text mark g gs
 
 -- (G) ? S : and what others give; S alone where there is no guard
-abbrev pub guarded_text : Option (GuardTree Text) → Text → Text → Text
-guarded_text None value others = value
-guarded_text (Some g) value others = codes "(" ++ guard_text g ++ codes ") ? " ++ value ++ codes " : " ++ others
+abbrev pub guarded_text : Option (GuardTree Text) → Src Text → Text → Text
+guarded_text None source others = source_text source
+guarded_text (Some g) source others = codes "(" ++ guard_text g ++ codes ") ? " ++ source_text source ++ source_gap source ++ codes ": " ++ others
 
 -- the value of a port of this width that these assignments drive, in their order: that of the first whose guard is true, else 0
 abbrev pub value_text : ℕ → List SetLine → Text
 value_text width [] = zeros width
-value_text width (a ∷ sets) = guarded_text a.guard (source_text a.src) (value_text width sets)
+value_text width (a ∷ sets) = guarded_text a.guard a.src (value_text width sets)
 
 -- the assignments of a port, in their order
 abbrev pub sets_to : Text → List SetLine → List SetLine

@@ -5,15 +5,17 @@ ghost use Rattle.net_core.specs.Netlist.{cell_of};
 ghost use Rattle.net_core.specs.Numbers.{CellHasNumbers};
 ghost use Rattle.ver_print.specs.Cells.{bits_text, cell_lines, cell_text, choice, concatenation, operation, shows, simple_lines};
 ghost use Rattle.ver_print.specs.inside.Pieces.{pieces_text};
-ghost use Rattle.ver_print.specs.Words.{inner_line, literal, part};
+ghost use Rattle.ver_print.specs.Words.{inner_line, literal, padded, part};
 
-use crate::memories::{Shape, put_memory};
+use crate::addresses::Shape;
+use crate::memories::put_memory;
 use crate::pieces::Piece::{Number, Part, Words};
-use crate::pieces::put_line;
+use crate::pieces::{put_line, put_padded, put_pieces};
 use crate::registers::{put_delay, put_fast_mult, put_mult_pipe, put_register, put_seq_mult};
 use hw_bits::Memory;
 use hw_names::Names;
 use hw_prims::Prim;
+use hw_print::put;
 use net_core::NetCell;
 
 /// A constant.
@@ -50,6 +52,15 @@ fn put_same(out: &mut Vec<u8>, cell: &[u8]) -> Result<(), Memory>
             Words(";"),
         ],
     )
+}
+
+/// The input with so many zeros above it.
+fn put_wider(out: &mut Vec<u8>, cell: &[u8], zeros: u8) -> Result<(), Memory>
+    ensures { OnOk result (out.new.items ≡ out.old.items ++ flat_map inner_line (simple_lines cell.now (padded zeros (part cell.now (codes "in"))))) }
+{
+    put_pieces(out, cell, &[Words("  assign "), Part("out"), Words("= ")])?;
+    put_padded(out, cell, "in", zeros)?;
+    put(out, b";\n")
 }
 
 /// Each bit of the input inverted.
@@ -157,7 +168,8 @@ fn put_primitive(out: &mut Vec<u8>, cell: &[u8], prim: Prim) -> Result<(), Memor
 {
     match prim {
         Prim::StdConst { w, v } => put_constant(out, cell, w, v),
-        Prim::StdWire { .. } | Prim::StdPad { .. } => put_same(out, cell),
+        Prim::StdWire { .. } => put_same(out, cell),
+        Prim::StdPad { i, o } => put_wider(out, cell, o.saturating_sub(i)),
         Prim::StdAdd { .. } => put_operation(out, cell, "+"),
         Prim::StdSub { .. } => put_operation(out, cell, "-"),
         Prim::StdAnd { .. } => put_operation(out, cell, "&"),
@@ -181,13 +193,24 @@ fn put_primitive(out: &mut Vec<u8>, cell: &[u8], prim: Prim) -> Result<(), Memor
         Prim::FilFastMult { w } => put_fast_mult(out, cell, w),
         Prim::FilSeqMult { w } => put_seq_mult(out, cell, w),
         Prim::StdMultPipe { w } => put_mult_pipe(out, cell, w),
-        Prim::StdMemD1 { w, size, .. } => put_memory(out, cell, w, Shape::D1 { size }),
+        Prim::StdMemD1 { w, size, idx } => { put_memory(out, cell, w, Shape::D1 { size, idx }) }
         Prim::StdMemD2 {
             w,
             size0,
             size1,
-            ..
-        } => put_memory(out, cell, w, Shape::D2 { size0, size1 }),
+            idx0,
+            idx1,
+        } => put_memory(
+            out,
+            cell,
+            w,
+            Shape::D2 {
+                size0,
+                size1,
+                idx0,
+                idx1,
+            },
+        ),
     }
 }
 

@@ -12,7 +12,7 @@ ghost use Rattle.ver_print.specs.Values.{drive_line, drives_text, guard_text, se
 ghost use Rattle.ver_print.specs.Words.{zeros};
 
 use crate::guards::put_guard;
-use crate::put::{put_escaped, put_source};
+use crate::put::{put_escaped, put_source, source_gap_of};
 use crate::sides::writable_ports;
 use hw_bits::Memory;
 use hw_graph::{Entry, Groups, gather};
@@ -72,7 +72,8 @@ fn put_guarded(out: &mut Vec<u8>, names: &Names, set: &NetAssign) -> Result<bool
             put_guard(out, names, guard)?;
             put(out, b") ? ")?;
             put_source(out, names, set.src)?;
-            put(out, b" : ")?;
+            put(out, source_gap_of(set.src))?;
+            put(out, b": ")?;
             Ok(true)
         }
     }

@@ -1,11 +1,11 @@
 //! Guards as Verilog expressions.
-ghost use Rattle.std.specs.Prelude.{◌≡◌, ◌++◌, All, codes, map, replicate, OnOk};
-ghost use Rattle.hw_names.specs.Name.{text_of};
+ghost use Rattle.std.specs.Prelude.{◌≡◌, ◌++◌, All, List, codes, map, replicate, OnOk};
+ghost use Rattle.hw_names.specs.Name.{Text, text_of};
 ghost use Rattle.net_core.specs.Guard.{Compares, guard_tree, guards_of, source_tree};
 ghost use Rattle.net_core.specs.Numbers.{GuardHasNumbers, SourceHasNumbers};
-ghost use Rattle.ver_print.specs.Values.{guard_text, guards_text, operator_text};
+ghost use Rattle.ver_print.specs.Values.{guard_gap, guard_text, guards_text, operator_text};
 
-use crate::put::put_source;
+use crate::put::{put_source, source_gap_of};
 use hw_bits::Memory;
 use hw_names::{NameId, Names};
 use hw_print::put;
@@ -36,7 +36,7 @@ fn put_test(
 {
     put(out, b"(")?;
     put_source(out, names, left)?;
-    put(out, b" ")?;
+    put(out, source_gap_of(left))?;
     put(out, operator(op))?;
     put(out, b" ")?;
     put_source(out, names, right)?;
@@ -84,36 +84,47 @@ pub(crate) fn put_guard(
                 return put_closed(out, count);
             }
             Guard::All(guards) => {
-                put_guards(out, names, b" && ", guards)?;
+                put_guards(out, names, b"&& ", guards)?;
                 return put_closed(out, count);
             }
             Guard::Any(guards) => {
-                put_guards(out, names, b" || ", guards)?;
+                put_guards(out, names, b"|| ", guards)?;
                 return put_closed(out, count);
             }
         }
     }
 }
 
-/// Guards in brackets, with this between each two.
+/// What stands between a guard and the mark after it.
+fn guard_gap_of(guard: &Guard<NameId>) -> &'static [u8]
+    ensures { (names : List Text) → result.now ≡ guard_gap (guard_tree (text_of names) guard.now) }
+{
+    match guard {
+        Guard::Read(source) => source_gap_of(**source),
+        _ => b" ",
+    }
+}
+
+/// Guards in brackets, with this mark between each two.
 #[cycle(guards)]
 fn put_guards(
     out: &mut Vec<u8>,
     names: &Names,
-    between: &[u8],
+    mark: &[u8],
     guards: &[Guard<NameId>],
 ) -> Result<(), Memory>
     requires { All (GuardHasNumbers names.now) guards.now }
-    ensures { OnOk result (out.new.items ≡ out.old.items ++ (codes "(" ++ guards_text between.now (guards_of (map (guard_tree (text_of names.now)) guards.now)) ++ codes ")")) }
+    ensures { OnOk result (out.new.items ≡ out.old.items ++ (codes "(" ++ guards_text mark.now (guards_of (map (guard_tree (text_of names.now)) guards.now)) ++ codes ")")) }
 {
     put(out, b"(")?;
-    let mut first = true;
-    for guard in guards {
-        if !first {
-            put(out, between)?;
-        }
-        first = false;
+    let count = guards.len();
+    for (place, guard) in guards.iter().enumerate() {
         put_guard(out, names, guard)?;
+        let next = place + 1;
+        if next < count {
+            put(out, guard_gap_of(guard))?;
+            put(out, mark)?;
+        }
     }
     put(out, b")")
 }

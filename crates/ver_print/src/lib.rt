@@ -9,20 +9,21 @@
 //!                               assign \r.done = \r.$1 ;
 //!                               always @(posedge \$clk ) begin \r.$1 <= \r.write_en ; if (\r.write_en ) \r.$0 <= \r.in ; end
 //!
-//!     set M.left = go ? a       assign \M.left = (\go ) ? \a  : (\f ) ? \c  : 8'd0;
+//!     set M.left = go ? a       assign \M.left = (\go ) ? \a : (\f ) ? \c : 8'd0;
 //!     set M.left = f ? c
 //!
 //! Every name is an escaped one, with the space that ends it; so dots stay, and no name is a keyword. A port that nothing drives
 //! is 0. Where a run ends in a Conflict, Verilog takes the first assignment whose guard is true, and goes on.
 //!
-//! How it goes: `ports` has the module's ports and the wires inside it; `cells` the lines of each cell, with `registers` and
-//! `memories` for those that keep a state; `drives` one line for each port that may be driven (`sides`), with the ports'
+//! How it goes: `ports` has the module's ports and the wires inside it; `cells` the lines of each cell, with `registers`,
+//! `memories` and `addresses` for those that keep a state; `drives` one line for each port that may be driven (`sides`), with the ports'
 //! assignments gathered by `hw_graph`.
 //!
 //! What the layer above uses: the bytes are `verilog_text` of the netlist (`specs/Verilog.antt`; `specs/Cells.antt` has the lines
-//! of each primitive). What a Verilog tool makes of them is not proved.
+//! of each primitive). What they mean is told by `ver_lang`.
 #![tactic(auto)]
 
+mod addresses;
 mod cells;
 mod drives;
 mod guards;

@@ -1,10 +1,10 @@
 //! Texts, numbers and names at the end of a text.
-ghost use Rattle.std.specs.Prelude.{◌≡◌, ◌++◌, decimal, OnOk};
-ghost use Rattle.hw_names.specs.Name.{text_of};
+ghost use Rattle.std.specs.Prelude.{◌≡◌, ◌++◌, List, OnOk};
+ghost use Rattle.hw_names.specs.Name.{Text, text_of};
 ghost use Rattle.net_core.specs.Guard.{source_tree};
 ghost use Rattle.net_core.specs.Numbers.{IsNumberOf, SourceHasNumbers};
-ghost use Rattle.ver_print.specs.Values.{source_text};
-ghost use Rattle.ver_print.specs.Words.{escaped, literal, range};
+ghost use Rattle.ver_print.specs.Values.{source_gap, source_text};
+ghost use Rattle.ver_print.specs.Words.{escaped, gap, literal, range};
 
 use hw_bits::Memory;
 use hw_names::{NameId, Names};
@@ -18,6 +18,13 @@ pub(crate) fn put_escaped(out: &mut Vec<u8>, name: &[u8]) -> Result<(), Memory>
     put(out, b"\\")?;
     put(out, name)?;
     put(out, b" ")
+}
+
+/// What stands between an operand and the mark after it: a name has a space of its own.
+pub(crate) fn gap_after(is_name: bool) -> &'static [u8]
+    ensures { result.now ≡ gap is_name }
+{
+    if is_name { b"" } else { b" " }
 }
 
 /// The bits of a width.
@@ -35,6 +42,16 @@ pub(crate) fn put_literal(out: &mut Vec<u8>, width: u128, value: u128) -> Result
     put_number(out, width)?;
     put(out, b"'d")?;
     put_number(out, value)
+}
+
+/// What stands between a source and the mark after it.
+pub(crate) fn source_gap_of(source: Src<NameId>) -> &'static [u8]
+    ensures { (names : List Text) → result.now ≡ source_gap (source_tree (text_of names) source) }
+{
+    match source {
+        Src::Port(_) => b"",
+        Src::Lit { .. } => b" ",
+    }
 }
 
 pub(crate) fn put_source(

@@ -1,5 +1,4 @@
-use Rattle.std.proofs.Common.{◌≡◌, ◌+◌, ◌++◌, ◌==◌, ℕ, true, false, cond, List, All, Vec, Global, map, replicate, rules, arith, ap, ap₂, sym, subst, inl, inr, ◌∙◌}
-use Rattle.std.proofs.lemmas.Bool.Decides.{nat_tests}
+use Rattle.std.proofs.Common.{◌≡◌, ◌+◌, ◌++◌, ℕ, List, All, Vec, Global, map, replicate, rules, arith, ap, ap₂, sym, subst, inl, inr, ◌∙◌}
 use Rattle.hw_names.specs.Name.{Text, text_of}
 use Rattle.hw_names.specs.declared.names.NameId.{NameId}
 use Rattle.net_core.proofs.GuardLemmas.{guard_tree-All, guard_tree-Any, list_numbers}
@@ -7,9 +6,9 @@ use Rattle.net_core.specs.Guard.{GuardTree, AllOf, AnyOf, Compares, guard_tree, 
 use Rattle.net_core.specs.Numbers.{GuardHasNumbers}
 use Rattle.net_core.specs.declared.net.Guard.{Guard, the_lemmas}
 use Rattle.net_core.specs.declared.net.Src.{Src}
-use Rattle.ver_print.specs.Values.{guard_text, source_text}
-use Rattle.ver_print.proofs.GuardLemmas.{closed_put, guards_step, negation_inside}
-use Rattle.ver_print.proofs.guards.+guards.Goals.{put_guards-then-not-first+in_ok-put-2, put_guards-else-not-first}
+use Rattle.ver_print.specs.Values.{guard_text, guards_text, source_text}
+use Rattle.ver_print.proofs.GuardLemmas.{closed_put, guards_from, last_guard, list_closed, negation_inside, next_guard, no_guards}
+use Rattle.ver_print.proofs.guards.+guards.Goals.{put_guards-then-next-count+in_ok-put-2+in_ok-put-3, put_guards-else-next-count}
 use Rattle.ver_print.proofs.guards.+guards.Goals as goal
 
 pub put_guard-loop-inner-preserved : goal.put_guard-loop-inner-preserved
@@ -90,19 +89,32 @@ put_guard-returns-in-Any t c =
     c.put_closed-in-Any.ensures c.in_ok-put_guards-in-Any.ensures
     (ap (λ (g : GuardTree Text). out ++ (guard_text g ++ replicate count 41)) tree ∙ c.loop-inner.invariant.text)
 
-pub put_guards-loop-guard-preserved : goal.put_guards-loop-guard-preserved
-put_guards-loop-guard-preserved t c =
-    let i = c.loop-guard.guard-index in
-    let marked : c.if-not-first.out.items ≡ cond (i == 0) c.loop-guard.out.items (c.loop-guard.out.items ++ c.args.between.now) =
-    elim c.if-not-first.branch [
-      | put_guards-then-not-first+in_ok-put-2 w ↦
-          let later : (i == 0) ≡ false = sym c.loop-guard.invariant.0 ∙ w.if-not-first.true in
-          rw later (ap (λ (out : Vec ℕ Global). out.items) w.out-is ∙ w.in_ok-put-2.ensures)
-      | put_guards-else-not-first w ↦
-          let first : (i == 0) ≡ true = sym c.loop-guard.invariant.0 ∙ w.if-not-first.false in
-          rw first (ap (λ (out : Vec ℕ Global). out.items) w.out-is)
-    ] in (
-      grind (arith, nat_tests),
-      guards_step (guard_tree (text_of c.args.names.now)) c.args.between.now c.args.guards.now i c.guard-item.result c.put.new.out.items c.loop-guard.out.items c.if-not-first.out.items c.put_guard.new.out.items
-          c.loop-guard-test.true c.guard-item.is c.loop-guard.invariant.1 marked c.in_ok-put_guard.ensures,
-    )
+pub put_guards-loop-place-preserved : goal.put_guards-loop-place-preserved
+put_guards-loop-place-preserved t c =
+    let names = c.args.names.now in
+    let tree = guard_tree (text_of names) in
+    let mark = c.args.mark.now in
+    let guards = c.args.guards.now in
+    let i = c.loop-place.place in
+    let x = c.index-guards-place.result in
+    let out = c.loop-place.out.items in
+    let mid = c.put_guard.new.out.items in
+    elim c.if-next-count.branch [
+      | put_guards-then-next-count+in_ok-put-2+in_ok-put-3 w ↦
+          ap (λ (o : Vec ℕ Global). o.items ++ guards_from tree mark guards (i + 1)) w.out-is
+          ∙ next_guard tree mark guards i x out mid w.put-then-next-count.new.out.items w.put-then-next-count-2.new.out.items (omega (arith, w.if-next-count.true)) c.index-guards-place.is c.in_ok-put_guard.ensures
+          (w.in_ok-put-2.ensures ∙ ap (λ (text : Text). mid ++ text) (w.guard_gap_of.ensures names)) w.in_ok-put-3.ensures
+          ∙ c.loop-place.invariant
+      | put_guards-else-next-count w ↦
+          ap (λ (o : Vec ℕ Global). o.items ++ guards_from tree mark guards (i + 1)) w.out-is
+          ∙ last_guard tree mark guards i x out mid c.loop-place-test.true (omega (arith, w.if-next-count.false)) c.index-guards-place.is c.in_ok-put_guard.ensures
+          ∙ c.loop-place.invariant
+    ]
+
+pub put_guards-returns : goal.put_guards-returns
+put_guards-returns t c =
+    let tree = guard_tree (text_of c.args.names.now) in
+    let guards = c.args.guards.now in
+    let i = c.loop-place.place in
+    list_closed c.put-2.result c.args.out.now.items c.put.new.out.items c.loop-place.out.items c.put-2.new.out.items (guards_from tree c.args.mark.now guards i)
+    (guards_text c.args.mark.now (guards_of (map tree guards))) c.put-2.ensures c.in_ok-put.ensures (no_guards tree c.args.mark.now guards i c.loop-place-test.false) c.loop-place.invariant

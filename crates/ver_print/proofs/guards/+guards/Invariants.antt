@@ -1,4 +1,4 @@
-use Rattle.std.proofs.Common.{◌≡◌, ◌++◌, ◌==◌, ◌≤◌, map, replicate, take}
+use Rattle.std.proofs.Common.{◌≡◌, ◌++◌, ◌≤◌, drop, map, replicate}
 use Rattle.hw_names.specs.Name.{text_of}
 use Rattle.hw_names.specs.declared.names.NameId.{NameId}
 use Rattle.net_core.specs.declared.net.Guard.{size-Guard}
@@ -16,7 +16,8 @@ invariant-put_guard-loop-inner l =
       text : l.out.items ++ (guard_text (guard_tree (text_of l.names) l.inner) ++ replicate l.count 41) ≡ l.initial.out.items ++ guard_text (guard_tree (text_of l.names) l.guard);
     }
 
-abbrev pub invariant-put_guards-loop-guard : goal.invariant-put_guards-loop-guard
-invariant-put_guards-loop-guard l =
-    (l.first ≡ (l.guard-index == 0))
-    × (l.out.items ≡ l.initial.out.items ++ guards_text l.between (guards_of (map (guard_tree (text_of l.names)) (take l.guard-index l.guards))))
+-- what is there and the guards that are left are the whole list
+abbrev pub invariant-put_guards-loop-place : goal.invariant-put_guards-loop-place
+invariant-put_guards-loop-place l =
+    l.out.items ++ guards_text l.mark (guards_of (map (guard_tree (text_of l.names)) (drop l.place l.guards)))
+    ≡ l.initial.out.items ++ guards_text l.mark (guards_of (map (guard_tree (text_of l.names)) l.guards))
