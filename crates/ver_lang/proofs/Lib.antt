@@ -1,0 +1,10 @@
+mod GivenLemmas
+mod StateLemmas
+mod MemoryLemmas
+mod CellLemmas
+mod UpdateLemmas
+mod StoreLemmas
+mod TakeLemmas
+mod OpenLemmas
+mod NumeralLemmas
+mod StandLemmas

@@ -1,0 +1,12 @@
+pub mod Tree
+pub mod Token
+pub mod Grammar
+pub mod Layout
+pub mod Size
+pub mod Value
+pub mod Edge
+pub mod Run
+pub mod Legal
+pub mod CellItems
+pub mod CellLaws
+pub mod NetModule

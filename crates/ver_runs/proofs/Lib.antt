@@ -1,0 +1,5 @@
+mod GuardValueLemmas
+mod ChainLemmas
+mod WidthLemmas
+mod DrivenLemmas
+mod RowLemmas
