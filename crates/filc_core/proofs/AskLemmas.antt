@@ -1,230 +1,144 @@
--- Words of the command line ask for one request.
-use Rattle.std.proofs.Common.{◌≡◌, ℕ, if◌then◌else◌, List, [], ◌++◌, codes, get_or, refl, sym, ap, subst, ◌∙◌, ◌<◌, ◌≤◌, arith}
-use Rattle.std.proofs.lemmas.Fmt.{decimal_injective}
-use Rattle.std.proofs.lemmas.List.{reverse-append}
-use Rattle.std.specs.Prelude.{reverse, bytes_eq}
+-- Words of the command line ask for one request: a search of the list of commands by the first word, by how many words there are, and by the language of
+-- the second, finds each command from its own words.
+use Rattle.std.proofs.Common.{◌≡◌, ◌⊎◌, ℕ, ◌==◌, if◌then◌else◌, List, [], ◌∷◌, length, get_or, Option, Some, None, MatchOption, Bool, true, false, refl, sym, ap, ap₂, subst, ◌∙◌, inl, inr, ⊎_elim}
+use Rattle.std.proofs.lemmas.Option.{same_Some}
+use Rattle.std.specs.Prelude.{bytes_eq, ◌&&◌}
 use Rattle.hw_names.specs.Name.{Text}
 use Rattle.filc_stop.specs.declared.language.Language.{Language}
 use Rattle.filc_stop.specs.declared.language.Language.TheVariants.{Netlists, Filament, Calyx}
-use Rattle.filc_core.specs.Request.{Request, OfCheck, OfRows, OfSimNet, OfTraceNet, OfFlow, OfTimeline, OfSimFil, OfTraceFil, OfSimCal, OfTraceCal, OfSchedCal, OfSoak, OfMaking, command_of, Asks, AskNothing}
-use Rattle.filc_core.specs.Words.{IsFileIn}
-use Rattle.filc_core.specs.commands.Check.{Check}
-use Rattle.filc_core.specs.commands.Driven as driven
-use Rattle.filc_core.specs.commands.Driven.{Driven}
-use Rattle.filc_core.specs.commands.Making.{Making, word_of}
-use Rattle.filc_core.specs.commands.Rows.{Rows}
-use Rattle.filc_core.specs.commands.Soak.{Soak}
-use Rattle.filc_core.specs.commands.Transactions as transactions
-use Rattle.filc_core.specs.commands.Transactions.{Started}
-use Rattle.filc_core.specs.declared.commands.making.Product.{Product}
-use Rattle.filc_core.specs.declared.commands.making.Product.TheVariants.{Net, Lower, Verilog}
+use Rattle.filc_core.specs.declared.name.CommandName.{CommandName}
+use Rattle.filc_core.specs.declared.name.CommandName.TheVariants.{Check}
+use Rattle.filc_core.specs.declared.name.TheConstants.{COMMANDS}
+use Rattle.filc_core.specs.declared.shape.Designs.{Designs}
+use Rattle.filc_core.specs.declared.shape.Designs.TheVariants.{All, Sources, In}
+use Rattle.filc_core.specs.declared.shape.Shape.{Shape}
+use Rattle.filc_core.specs.declared.shape.Shape.TheVariants.{Design, DesignAndStimulus, DesignAndCount, Count}
+use Rattle.filc_core.proofs.LanguageLemmas.{language_by_name, named_language}
+use Rattle.filc_core.proofs.ShapeLemmas.{spelled_once}
+use Rattle.filc_core.specs.Arguments.{Arguments}
+use Rattle.filc_core.specs.Request.{Request, Asks, AskNothing, shape_of, word_of}
+use Rattle.filc_core.specs.Shape.{AreOf, HasDesign, Spells}
+use Rattle.filc_core.specs.inside.Told.{AskNoneOf}
 
--- names of files that are one have one byte at each place from their ends on
-byte_from_end : (stem stem' ending ending' : Text) (k : ℕ) → stem ++ ending ≡ stem' ++ ending' → get_or (reverse ending ++ reverse stem) k 0 ≡ get_or (reverse ending' ++ reverse stem') k 0
-byte_from_end stem stem' ending ending' k same = ap (λ (text : Text). get_or text k 0) (sym (reverse-append stem ending) ∙ ap reverse same ∙ reverse-append stem' ending')
+-- ---- what a command's words are
 
--- so no name has the endings of two languages
-net_or_fil : (stem stem' : Text) → stem ++ codes ".net" ≡ stem' ++ codes ".fil" → ⊥
-net_or_fil stem stem' same = let byte : 116 ≡ 108 = byte_from_end stem stem' (codes ".net") (codes ".fil") 0 same in omega (arith, byte)
+abbrev number_of : Language → ℕ
+number_of Netlists = 0
+number_of Filament = 1
+number_of Calyx = 2
 
-net_or_futil : (stem stem' : Text) → stem ++ codes ".net" ≡ stem' ++ codes ".futil" → ⊥
-net_or_futil stem stem' same = let byte : 116 ≡ 108 = byte_from_end stem stem' (codes ".net") (codes ".futil") 0 same in omega (arith, byte)
+-- designs in this language are among them
+abbrev has : Designs → Language → Bool
+has All language = true
+has Sources Netlists = false
+has Sources language = true
+has (In one) language = number_of one == number_of language
 
-fil_or_futil : (stem stem' : Text) → stem ++ codes ".fil" ≡ stem' ++ codes ".futil" → ⊥
-fil_or_futil stem stem' same = let byte : 102 ≡ 116 = byte_from_end stem stem' (codes ".fil") (codes ".futil") 2 same in omega (arith, byte)
+same_number : (language : Language) → (number_of language == number_of language) ≡ true
+same_number Netlists = refl
+same_number Filament = refl
+same_number Calyx = refl
 
--- a file's name has one ending
-pub same_language : (language other : Language) (file : Text) → IsFileIn language file → IsFileIn other file → language ≡ other
-same_language Netlists Netlists file named named' = refl
-same_language Netlists Filament file named named' = absurd (net_or_fil named.0 named'.0 (sym named.2 ∙ named'.2))
-same_language Netlists Calyx file named named' = absurd (net_or_futil named.0 named'.0 (sym named.2 ∙ named'.2))
-same_language Filament Netlists file named named' = absurd (net_or_fil named'.0 named.0 (sym named'.2 ∙ named.2))
-same_language Filament Filament file named named' = refl
-same_language Filament Calyx file named named' = absurd (fil_or_futil named.0 named'.0 (sym named.2 ∙ named'.2))
-same_language Calyx Netlists file named named' = absurd (net_or_futil named'.0 named.0 (sym named'.2 ∙ named.2))
-same_language Calyx Filament file named named' = absurd (fil_or_futil named'.0 named.0 (sym named'.2 ∙ named.2))
-same_language Calyx Calyx file named named' = refl
+has_it : (designs : Designs) (language : Language) → AreOf designs language → has designs language ≡ true
+has_it All language is = refl
+has_it Sources Netlists is = absurd is
+has_it Sources Filament is = refl
+has_it Sources Calyx is = refl
+has_it (In one) language is = ap (λ (l : Language). number_of one == number_of l) is ∙ same_number one
 
-abbrev second_of : List Text → Text
-second_of words = get_or words 1 []
+-- the designs that a command is given; a count alone may be the name of any
+abbrev designs_of : Shape → Designs
+designs_of (Design designs) = designs
+designs_of (DesignAndStimulus designs) = designs
+designs_of (DesignAndCount designs) = designs
+designs_of Count = All
 
--- words have no files in two languages as their second
-no_other_file : (words : List Text) (language other : Language) (file file' : Text) → (language ≡ other → ⊥) → second_of words ≡ file → second_of words ≡ file' → IsFileIn language file → IsFileIn other file' → ⊥
-no_other_file words language other file file' apart second second' named named' =
-    apart (same_language language other file named (subst (IsFileIn other) (sym second' ∙ second) named'))
+-- how many words there are
+abbrev word_count : Shape → ℕ
+word_count (Design designs) = 2
+word_count (DesignAndStimulus designs) = 3
+word_count (DesignAndCount designs) = 3
+word_count Count = 2
 
--- which kind of request has such a first word
-abbrev kind_of_product : Product → ℕ
-kind_of_product Net = 8
-kind_of_product Lower = 9
-kind_of_product Verilog = 10
+-- ---- the search
 
-abbrev kind_of : Request → ℕ
-kind_of (OfCheck c) = 0
-kind_of (OfRows c) = 1
-kind_of (OfSimNet c) = 2
-kind_of (OfTraceNet c) = 3
-kind_of (OfFlow c) = 4
-kind_of (OfTimeline c) = 5
-kind_of (OfSimFil c) = 2
-kind_of (OfTraceFil c) = 3
-kind_of (OfSimCal c) = 2
-kind_of (OfTraceCal c) = 3
-kind_of (OfSchedCal c) = 6
-kind_of (OfSoak c) = 7
-kind_of (OfMaking c) = kind_of_product c.product
+abbrev fits : CommandName → Text → ℕ → Language → Bool
+fits command word count language = bytes_eq (word_of command) word && (word_count (shape_of command) == count) && has (designs_of (shape_of command)) language
 
-abbrev kind_by_word : Text → ℕ
-kind_by_word word =
-    if bytes_eq word (codes "check") then 0 else if bytes_eq word (codes "rows") then 1
-    else if bytes_eq word (codes "sim") then 2 else if bytes_eq word (codes "trace") then 3
-    else if bytes_eq word (codes "flow") then 4 else if bytes_eq word (codes "timeline") then 5
-    else if bytes_eq word (codes "sched") then 6 else if bytes_eq word (codes "soak") then 7
-    else if bytes_eq word (codes "net") then 8 else if bytes_eq word (codes "lower") then 9 else 10
+abbrev first_fit : List CommandName → Text → ℕ → Language → Option CommandName
+first_fit [] word count language = None
+first_fit (command ∷ commands) word count language = if fits command word count language then Some command else first_fit commands word count language
 
-product_tells : (p : Product) → kind_by_word (word_of p) ≡ kind_of_product p
-product_tells Net = refl
-product_tells Lower = refl
-product_tells Verilog = refl
+-- each command is found from its own words
+found : (language : Language) (command : CommandName)
+    → (if has (designs_of (shape_of command)) language then first_fit COMMANDS.now (word_of command) (word_count (shape_of command)) language else Some command) ≡ Some command
+found Netlists Check = refl
+found Filament Check = refl
+found Calyx Check = refl
+found language command = refl
 
--- a product's kind is its own, and no other request's
-same_product : (p q : Product) → kind_of_product p ≡ kind_of_product q → p ≡ q
-same_product Net Net same = refl
-same_product Net Lower same = absurd (omega (arith, same))
-same_product Net Verilog same = absurd (omega (arith, same))
-same_product Lower Net same = absurd (omega (arith, same))
-same_product Lower Lower same = refl
-same_product Lower Verilog same = absurd (omega (arith, same))
-same_product Verilog Net same = absurd (omega (arith, same))
-same_product Verilog Lower same = absurd (omega (arith, same))
-same_product Verilog Verilog same = refl
+found_by : (command : CommandName) (language : Language) → has (designs_of (shape_of command)) language ≡ true → first_fit COMMANDS.now (word_of command) (word_count (shape_of command)) language ≡ Some command
+found_by command language is =
+    subst (λ (b : Bool). (if b then first_fit COMMANDS.now (word_of command) (word_count (shape_of command)) language else Some command) ≡ Some command) is (found language command)
 
--- a word asks for one product
-pub product_of_word : (p q : Product) → word_of p ≡ word_of q → p ≡ q
-product_of_word p q same = same_product p q (sym (product_tells p) ∙ ap kind_by_word same ∙ product_tells q)
+-- ---- words find what they ask for
 
-product_is_late : (p : Product) → 8 ≤ kind_of_product p
-product_is_late Net = omega arith
-product_is_late Lower = omega arith
-product_is_late Verilog = omega arith
+module _ (words : List Text) where
+  counted : (word : Text) (shape : Shape) (a : Arguments) → Spells words word shape a → length words ≡ word_count shape
+  counted word (Design designs) a spells = ap length spells.words_are
+  counted word (DesignAndStimulus designs) a spells = ap length spells.words_are
+  counted word (DesignAndCount designs) a spells = ap length spells.words_are
+  counted word Count a spells = ap length spells.words_are
 
-word_tells : (r : Request) → kind_by_word (get_or (command_of r).words 0 []) ≡ kind_of r
-word_tells (OfCheck c) = refl
-word_tells (OfRows c) = refl
-word_tells (OfSimNet c) = refl
-word_tells (OfTraceNet c) = refl
-word_tells (OfFlow c) = refl
-word_tells (OfTimeline c) = refl
-word_tells (OfSimFil c) = refl
-word_tells (OfTraceFil c) = refl
-word_tells (OfSimCal c) = refl
-word_tells (OfTraceCal c) = refl
-word_tells (OfSchedCal c) = refl
-word_tells (OfSoak c) = refl
-word_tells (OfMaking c) = product_tells c.product
+  abbrev second : Text
+  second = get_or words 1 []
 
-same_kind : (words : List Text) (r r' : Request) → Asks words r → Asks words r' → kind_of r ≡ kind_of r'
-same_kind words r r' asks asks' = sym (word_tells r) ∙ ap (λ (ws : List Text). kind_by_word (get_or ws 0 [])) (sym asks.0 ∙ asks'.0) ∙ word_tells r'
+  of_design : (designs : Designs) (a : Arguments) → second ≡ a.design → HasDesign designs a → has designs (language_by_name second) ≡ true
+  of_design designs a is design =
+      has_it designs (language_by_name second) (subst (AreOf designs) (sym (ap language_by_name is ∙ named_language a.language a.design design.named)) design.is_of)
 
--- a word, a file and a stimulus are the three words
-same_driven : (words : List Text) (word : Text) (c d : Driven) → words ≡ driven.words_with word c → words ≡ driven.words_with word d → c ≡ d
-same_driven words word c d are are' =
-    let same = sym are ∙ are' in
-    λ k. record { file = get_or (same k) 1 []; stimulus = get_or (same k) 2 [] }
+  has_second : (word : Text) (shape : Shape) (a : Arguments) → Spells words word shape a → has (designs_of shape) (language_by_name second) ≡ true
+  has_second word (Design designs) a spells = of_design designs a (ap (λ (ws : List Text). get_or ws 1 []) spells.words_are) spells.well_formed.0
+  has_second word (DesignAndStimulus designs) a spells = of_design designs a (ap (λ (ws : List Text). get_or ws 1 []) spells.words_are) spells.well_formed.0
+  has_second word (DesignAndCount designs) a spells = of_design designs a (ap (λ (ws : List Text). get_or ws 1 []) spells.words_are) spells.well_formed.0
+  has_second word Count a spells = refl
 
-same_started : (words : List Text) (word : Text) (c d : Started) → words ≡ transactions.words_with word c → words ≡ transactions.words_with word d → c ≡ d
-same_started words word c d are are' =
-    let same = sym are ∙ are' in
-    λ k. record { file = get_or (same k) 1 []; stimulus = get_or (same k) 2 [] }
+  abbrev searched : Option CommandName
+  searched = first_fit COMMANDS.now (get_or words 0 []) (length words) (language_by_name second)
 
--- words that ask for a product ask for nothing of an earlier kind
-no_product : (words : List Text) (c : Making) (r : Request) → Asks words (OfMaking c) → Asks words r → kind_of r < 8 → ⊥
-no_product words c r asks asks' early =
-    let same = same_kind words (OfMaking c) r asks asks' in let late = product_is_late c.product in omega (arith, same, late, early)
+  finds : (r : Request) → Asks words r → searched ≡ Some r.command
+  finds r asks =
+      let first : get_or words 0 [] ≡ word_of r.command = ap (λ (ws : List Text). get_or ws 0 []) asks.words_are in
+      let count = counted (word_of r.command) (shape_of r.command) r.arguments asks in
+      ap₂ (λ (word : Text) (n : ℕ). first_fit COMMANDS.now word n (language_by_name second)) first count
+      ∙ found_by r.command (language_by_name second) (has_second (word_of r.command) (shape_of r.command) r.arguments asks)
 
--- words ask for one request
-pub asks_once : (words : List Text) (r r' : Request) → Asks words r → Asks words r' → r ≡ r'
-asks_once words (OfCheck c) (OfCheck d) asks asks' =
-    let file : c.file ≡ d.file = ap (λ (ws : List Text). get_or ws 1 []) (sym asks.0 ∙ asks'.0) in
-    let language = same_language c.language d.language d.file (subst (IsFileIn c.language) file asks.1) asks'.1 in
-    λ k. OfCheck (record { language = language k; file = file k })
-asks_once words (OfRows c) (OfRows d) asks asks' =
-    let same = sym asks.0 ∙ asks'.0 in
-    let file : c.file ≡ d.file = ap (λ (ws : List Text). get_or ws 1 []) same in
-    let cycles = decimal_injective c.cycles d.cycles asks.1.1 asks'.1.1 (ap (λ (ws : List Text). get_or ws 2 []) same) in
-    λ k. OfRows (record { file = file k; cycles = cycles k })
-asks_once words (OfSimNet c) (OfSimNet d) asks asks' = ap OfSimNet (same_driven words (codes "sim") c d asks.0 asks'.0)
-asks_once words (OfTraceNet c) (OfTraceNet d) asks asks' = ap OfTraceNet (same_driven words (codes "trace") c d asks.0 asks'.0)
-asks_once words (OfFlow c) (OfFlow d) asks asks' = ap OfFlow (same_started words (codes "flow") c d asks.0 asks'.0)
-asks_once words (OfTimeline c) (OfTimeline d) asks asks' = ap OfTimeline (same_started words (codes "timeline") c d asks.0 asks'.0)
-asks_once words (OfSimFil c) (OfSimFil d) asks asks' = ap OfSimFil (same_started words (codes "sim") c d asks.0 asks'.0)
-asks_once words (OfTraceFil c) (OfTraceFil d) asks asks' = ap OfTraceFil (same_started words (codes "trace") c d asks.0 asks'.0)
-asks_once words (OfSimCal c) (OfSimCal d) asks asks' = ap OfSimCal (same_driven words (codes "sim") c d asks.0 asks'.0)
-asks_once words (OfTraceCal c) (OfTraceCal d) asks asks' = ap OfTraceCal (same_driven words (codes "trace") c d asks.0 asks'.0)
-asks_once words (OfSchedCal c) (OfSchedCal d) asks asks' = ap OfSchedCal (same_driven words (codes "sched") c d asks.0 asks'.0)
-asks_once words (OfSoak c) (OfSoak d) asks asks' =
-    let count = decimal_injective c.transactions d.transactions asks.1 asks'.1 (ap second_of (sym asks.0 ∙ asks'.0)) in λ k. OfSoak (record { transactions = count k })
-asks_once words (OfMaking c) (OfMaking d) asks asks' =
-    let file : c.file ≡ d.file = ap second_of (sym asks.0 ∙ asks'.0) in
-    let language = same_language c.language d.language d.file (subst (IsFileIn c.language) file asks.1.0) asks'.1.0 in
-    let product = same_product c.product d.product (same_kind words (OfMaking c) (OfMaking d) asks asks') in
-    λ k. OfMaking (record { product = product k; language = language k; file = file k })
-asks_once words (OfSimNet c) (OfSimFil d) asks asks' = absurd (no_other_file words Netlists Filament c.file d.file (λ e. cc e) (ap second_of asks.0) (ap second_of asks'.0) asks.1.0 asks'.1.0)
-asks_once words (OfSimNet c) (OfSimCal d) asks asks' = absurd (no_other_file words Netlists Calyx c.file d.file (λ e. cc e) (ap second_of asks.0) (ap second_of asks'.0) asks.1.0 asks'.1.0)
-asks_once words (OfSimFil c) (OfSimNet d) asks asks' = absurd (no_other_file words Filament Netlists c.file d.file (λ e. cc e) (ap second_of asks.0) (ap second_of asks'.0) asks.1.0 asks'.1.0)
-asks_once words (OfSimFil c) (OfSimCal d) asks asks' = absurd (no_other_file words Filament Calyx c.file d.file (λ e. cc e) (ap second_of asks.0) (ap second_of asks'.0) asks.1.0 asks'.1.0)
-asks_once words (OfSimCal c) (OfSimNet d) asks asks' = absurd (no_other_file words Calyx Netlists c.file d.file (λ e. cc e) (ap second_of asks.0) (ap second_of asks'.0) asks.1.0 asks'.1.0)
-asks_once words (OfSimCal c) (OfSimFil d) asks asks' = absurd (no_other_file words Calyx Filament c.file d.file (λ e. cc e) (ap second_of asks.0) (ap second_of asks'.0) asks.1.0 asks'.1.0)
-asks_once words (OfTraceNet c) (OfTraceFil d) asks asks' = absurd (no_other_file words Netlists Filament c.file d.file (λ e. cc e) (ap second_of asks.0) (ap second_of asks'.0) asks.1.0 asks'.1.0)
-asks_once words (OfTraceNet c) (OfTraceCal d) asks asks' = absurd (no_other_file words Netlists Calyx c.file d.file (λ e. cc e) (ap second_of asks.0) (ap second_of asks'.0) asks.1.0 asks'.1.0)
-asks_once words (OfTraceFil c) (OfTraceNet d) asks asks' = absurd (no_other_file words Filament Netlists c.file d.file (λ e. cc e) (ap second_of asks.0) (ap second_of asks'.0) asks.1.0 asks'.1.0)
-asks_once words (OfTraceFil c) (OfTraceCal d) asks asks' = absurd (no_other_file words Filament Calyx c.file d.file (λ e. cc e) (ap second_of asks.0) (ap second_of asks'.0) asks.1.0 asks'.1.0)
-asks_once words (OfTraceCal c) (OfTraceNet d) asks asks' = absurd (no_other_file words Calyx Netlists c.file d.file (λ e. cc e) (ap second_of asks.0) (ap second_of asks'.0) asks.1.0 asks'.1.0)
-asks_once words (OfTraceCal c) (OfTraceFil d) asks asks' = absurd (no_other_file words Calyx Filament c.file d.file (λ e. cc e) (ap second_of asks.0) (ap second_of asks'.0) asks.1.0 asks'.1.0)
-asks_once words (OfMaking c) (OfCheck d) asks asks' = absurd (no_product words c (OfCheck d) asks asks' (omega arith))
-asks_once words (OfCheck d) (OfMaking c) asks asks' = absurd (no_product words c (OfCheck d) asks' asks (omega arith))
-asks_once words (OfMaking c) (OfRows d) asks asks' = absurd (no_product words c (OfRows d) asks asks' (omega arith))
-asks_once words (OfRows d) (OfMaking c) asks asks' = absurd (no_product words c (OfRows d) asks' asks (omega arith))
-asks_once words (OfMaking c) (OfSimNet d) asks asks' = absurd (no_product words c (OfSimNet d) asks asks' (omega arith))
-asks_once words (OfSimNet d) (OfMaking c) asks asks' = absurd (no_product words c (OfSimNet d) asks' asks (omega arith))
-asks_once words (OfMaking c) (OfTraceNet d) asks asks' = absurd (no_product words c (OfTraceNet d) asks asks' (omega arith))
-asks_once words (OfTraceNet d) (OfMaking c) asks asks' = absurd (no_product words c (OfTraceNet d) asks' asks (omega arith))
-asks_once words (OfMaking c) (OfFlow d) asks asks' = absurd (no_product words c (OfFlow d) asks asks' (omega arith))
-asks_once words (OfFlow d) (OfMaking c) asks asks' = absurd (no_product words c (OfFlow d) asks' asks (omega arith))
-asks_once words (OfMaking c) (OfTimeline d) asks asks' = absurd (no_product words c (OfTimeline d) asks asks' (omega arith))
-asks_once words (OfTimeline d) (OfMaking c) asks asks' = absurd (no_product words c (OfTimeline d) asks' asks (omega arith))
-asks_once words (OfMaking c) (OfSimFil d) asks asks' = absurd (no_product words c (OfSimFil d) asks asks' (omega arith))
-asks_once words (OfSimFil d) (OfMaking c) asks asks' = absurd (no_product words c (OfSimFil d) asks' asks (omega arith))
-asks_once words (OfMaking c) (OfTraceFil d) asks asks' = absurd (no_product words c (OfTraceFil d) asks asks' (omega arith))
-asks_once words (OfTraceFil d) (OfMaking c) asks asks' = absurd (no_product words c (OfTraceFil d) asks' asks (omega arith))
-asks_once words (OfMaking c) (OfSimCal d) asks asks' = absurd (no_product words c (OfSimCal d) asks asks' (omega arith))
-asks_once words (OfSimCal d) (OfMaking c) asks asks' = absurd (no_product words c (OfSimCal d) asks' asks (omega arith))
-asks_once words (OfMaking c) (OfTraceCal d) asks asks' = absurd (no_product words c (OfTraceCal d) asks asks' (omega arith))
-asks_once words (OfTraceCal d) (OfMaking c) asks asks' = absurd (no_product words c (OfTraceCal d) asks' asks (omega arith))
-asks_once words (OfMaking c) (OfSchedCal d) asks asks' = absurd (no_product words c (OfSchedCal d) asks asks' (omega arith))
-asks_once words (OfSchedCal d) (OfMaking c) asks asks' = absurd (no_product words c (OfSchedCal d) asks' asks (omega arith))
-asks_once words (OfMaking c) (OfSoak d) asks asks' = absurd (no_product words c (OfSoak d) asks asks' (omega arith))
-asks_once words (OfSoak d) (OfMaking c) asks asks' = absurd (no_product words c (OfSoak d) asks' asks (omega arith))
-asks_once words r r' asks asks' = absurd (let apart = same_kind words r r' asks asks' in omega (arith, apart))
+  -- words ask for one request
+  pub asks_once : (r r' : Request) → Asks words r → Asks words r' → r ≡ r'
+  asks_once r r' asks asks' =
+      let command : r.command ≡ r'.command = same_Some r.command r'.command (sym (finds r asks) ∙ finds r' asks') in
+      let arguments =
+      spelled_once words (word_of r'.command) (shape_of r'.command) r.arguments r'.arguments
+      (subst (λ (c : CommandName). Spells words (word_of c) (shape_of c) r.arguments) command asks) asks' in
+      λ k. record { command = command k; arguments = arguments k }
 
--- words that ask for no command of the list ask for nothing
-pub none_asked : (words : List Text) → ((c : Check) → Asks words (OfCheck c) → ⊥) → ((c : Rows) → Asks words (OfRows c) → ⊥)
-    → ((c : Driven) → Asks words (OfSimNet c) → ⊥) → ((c : Driven) → Asks words (OfTraceNet c) → ⊥)
-    → ((c : Started) → Asks words (OfFlow c) → ⊥) → ((c : Started) → Asks words (OfTimeline c) → ⊥)
-    → ((c : Started) → Asks words (OfSimFil c) → ⊥) → ((c : Started) → Asks words (OfTraceFil c) → ⊥)
-    → ((c : Driven) → Asks words (OfSimCal c) → ⊥) → ((c : Driven) → Asks words (OfTraceCal c) → ⊥)
-    → ((c : Driven) → Asks words (OfSchedCal c) → ⊥) → ((c : Soak) → Asks words (OfSoak c) → ⊥)
-    → ((c : Making) → Asks words (OfMaking c) → ⊥) → AskNothing words
-none_asked words check rows sim trace flow timeline sim_fil trace_fil sim_cal trace_cal sched_cal soak making (OfCheck c) asks = check c asks
-none_asked words check rows sim trace flow timeline sim_fil trace_fil sim_cal trace_cal sched_cal soak making (OfRows c) asks = rows c asks
-none_asked words check rows sim trace flow timeline sim_fil trace_fil sim_cal trace_cal sched_cal soak making (OfSimNet c) asks = sim c asks
-none_asked words check rows sim trace flow timeline sim_fil trace_fil sim_cal trace_cal sched_cal soak making (OfTraceNet c) asks = trace c asks
-none_asked words check rows sim trace flow timeline sim_fil trace_fil sim_cal trace_cal sched_cal soak making (OfFlow c) asks = flow c asks
-none_asked words check rows sim trace flow timeline sim_fil trace_fil sim_cal trace_cal sched_cal soak making (OfTimeline c) asks = timeline c asks
-none_asked words check rows sim trace flow timeline sim_fil trace_fil sim_cal trace_cal sched_cal soak making (OfSimFil c) asks = sim_fil c asks
-none_asked words check rows sim trace flow timeline sim_fil trace_fil sim_cal trace_cal sched_cal soak making (OfTraceFil c) asks = trace_fil c asks
-none_asked words check rows sim trace flow timeline sim_fil trace_fil sim_cal trace_cal sched_cal soak making (OfSimCal c) asks = sim_cal c asks
-none_asked words check rows sim trace flow timeline sim_fil trace_fil sim_cal trace_cal sched_cal soak making (OfTraceCal c) asks = trace_cal c asks
-none_asked words check rows sim trace flow timeline sim_fil trace_fil sim_cal trace_cal sched_cal soak making (OfSchedCal c) asks = sched_cal c asks
-none_asked words check rows sim trace flow timeline sim_fil trace_fil sim_cal trace_cal sched_cal soak making (OfSoak c) asks = soak c asks
-none_asked words check rows sim trace flow timeline sim_fil trace_fil sim_cal trace_cal sched_cal soak making (OfMaking c) asks = making c asks
+  -- ---- what none of the list is, nothing is
+
+  at_first : (x c : CommandName) (rest : Option CommandName) (b : Bool) → (if b then Some x else rest) ≡ Some c → (x ≡ c) ⊎ (rest ≡ Some c)
+  at_first x c rest true e = inl (same_Some x c e)
+  at_first x c rest false e = inr e
+
+  none_found : (commands : List CommandName) (word : Text) (count : ℕ) (language : Language) → AskNoneOf commands words → (r : Request) → Asks words r → first_fit commands word count language ≡ Some r.command → ⊥
+  none_found [] word count language none r asks e = cc e
+  none_found (command ∷ commands) word count language none r asks e =
+      ⊎_elim (λ same. none.0 r.arguments (subst (λ (c : CommandName). Spells words (word_of c) (shape_of c) r.arguments) (sym same) asks))
+      (λ later. none_found commands word count language none.1 r asks later)
+      (at_first command r.command (first_fit commands word count language) (fits command word count language) e)
+
+  pub none_asked : AskNoneOf COMMANDS.now words → AskNothing words
+  none_asked none r asks = none_found COMMANDS.now (get_or words 0 []) (length words) (language_by_name second) none r asks (finds r asks)
+
+-- more may be said where there is none
+pub none_more : {X : Type 0} (none none' : Type 0) (some : X → Type 0) (o : Option X) → (none → none') → MatchOption o none some → MatchOption o none' some
+none_more none none' some None more is = more is
+none_more none none' some (Some x) more is = is

@@ -6,6 +6,7 @@ use Rattle.hw_io.specs.Faults.{Rose}
 use Rattle.hw_io.specs.Reading.{KeepsFiles, IsReadFault}
 use Rattle.hw_names.specs.Name.{Text}
 use Rattle.filc_stop.specs.Outcome.{Contents}
+use Rattle.filc_core.specs.Call.{Disk, disk_of}
 use Rattle.filc_core.specs.Files.{KeepsFilesBut}
 
 -- a name is the file's or another
@@ -25,7 +26,7 @@ module _ {F : Type 0} (names : F → List Text) (contents : F → Contents) (fau
       (λ other. omega (arith, kept.others_kept name other))
 
   -- one file was read
-  pub keeps_one : (is_read : Text → Type 0) (file : Text) (old new : F) → is_read file → KeepsFiles names contents faults file old new → KeepsFilesBut is_read names contents faults old new
+  pub keeps_one : (is_read : Text → Type 0) (file : Text) (old new : F) → is_read file → KeepsFiles names contents faults file old new → KeepsFilesBut is_read (disk_of names contents faults old new)
   keeps_one is_read file old new read kept = record {
     names_kept = kept.names_kept;
     contents_kept = kept.contents_kept;
@@ -34,7 +35,7 @@ module _ {F : Type 0} (names : F → List Text) (contents : F → Contents) (fau
   }
 
   -- a file was read, and then a second
-  pub keeps_both : (is_read : Text → Type 0) (file second : Text) (old mid new : F) → is_read file → is_read second → KeepsFiles names contents faults file old mid → KeepsFiles names contents faults second mid new → KeepsFilesBut is_read names contents faults old new
+  pub keeps_both : (is_read : Text → Type 0) (file second : Text) (old mid new : F) → is_read file → is_read second → KeepsFiles names contents faults file old mid → KeepsFiles names contents faults second mid new → KeepsFilesBut is_read (disk_of names contents faults old new)
   keeps_both is_read file second old mid new read read' first late = record {
     names_kept = late.names_kept ∙ first.names_kept;
     contents_kept = λ name. late.contents_kept name ∙ first.contents_kept name;
@@ -54,8 +55,8 @@ module _ {F : Type 0} (names : F → List Text) (contents : F → Contents) (fau
       (λ rose. inr (rose_later (faults old second) (faults mid second) (faults new second) (never_fall file old mid first second) rose)) fault
 
 -- more files may have been read
-pub keeps_but_more : {F : Type 0} (is_read is_read' : Text → Type 0) (names : F → List Text) (contents : F → Contents) (faults : F → Text → ℕ) (old new : F) → ((file : Text) → is_read file → is_read' file) → KeepsFilesBut is_read names contents faults old new → KeepsFilesBut is_read' names contents faults old new
-keeps_but_more is_read is_read' names contents faults old new more kept = record {
+pub keeps_but_more : (is_read is_read' : Text → Type 0) (disk : Disk) → ((file : Text) → is_read file → is_read' file) → KeepsFilesBut is_read disk → KeepsFilesBut is_read' disk
+keeps_but_more is_read is_read' disk more kept = record {
   names_kept = kept.names_kept;
   contents_kept = kept.contents_kept;
   others_kept = λ file unread. kept.others_kept file (λ read. unread (more file read));

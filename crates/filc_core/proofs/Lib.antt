@@ -1,15 +1,13 @@
 pub mod WordLemmas
+pub mod LanguageLemmas
+pub mod ShapeLemmas
+pub mod AskLemmas
 pub mod FileLemmas
 pub mod SourceLemmas
+pub mod TellLemmas
 pub mod PerformLemmas
-pub mod CheckLemmas
-pub mod RowsLemmas
-pub mod NetRunLemmas
-pub mod CalRunLemmas
-pub mod StartedLemmas
-pub mod MakingLemmas
-pub mod TraceFilLemmas
-pub mod SoakLemmas
-pub mod AskLemmas
-pub mod GrantLemmas
-pub mod EndingLemmas
+pub mod CommandLaws
+pub mod LawLemmas
+pub mod AnswerLemmas
+pub use Rattle.filc_core.proofs.commands.CalRunLaws as CalRunLemmas
+pub use Rattle.filc_core.proofs.commands.MakingLaws as MakingLemmas

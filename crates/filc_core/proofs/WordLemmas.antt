@@ -1,11 +1,9 @@
 -- Words of the command line.
 use Rattle.std.proofs.Common.{◌≡◌, ℕ, zero, suc, ◌<◌, ◌≤◌, ◌^◌, map, List, [], ◌∷◌, length, get_or, Result, Ok, Err, MatchOption, decimal, Bool, true, false, sym, ap, subst, ◌∙◌, arith, ⊎_elim, inl, inr}
 use Rattle.std.specs.Borrow.{Bor}
-use Rattle.std.specs.Prelude.{IsTrue, bytes_eq}
+use Rattle.std.specs.Prelude.{IsTrue}
 use Rattle.std.specs.Result.{result_ok}
-use Rattle.std.proofs.lemmas.List.{length-map, get_or-map}
 use Rattle.std.specs.Str.Parse.{ParsesUnsigned, AllDigits, digits_value}
-use Rattle.std.proofs.lemmas.Slice.Eq.{bytes_eq-Decides}
 use Rattle.std.proofs.lemmas.Str.Parse.{IsNumeralModel, numerals_by_value, tells_digits, parse_plain}
 use Rattle.std.proofs.lemmas.Fmt.{first_decimal, decimal_digit, decimal_nonempty, digits_decimal, digits_value-decimal, decimal-digits_value}
 use Rattle.hw_names.specs.Name.{Text}
@@ -45,43 +43,6 @@ parsed_count {E} word (Err e) parsed plain = λ n count.
 abbrev pub no_word : Bor Text
 no_word = record { ref_ptr = (0, 0); now = [] }
 
--- three words, of which the first is this
-pub three_words : (words : List (Bor Text)) (command : Text) → 3 ≤ length words → length words < 4 → bytes_eq (get_or words 0 no_word).now command ≡ true
-    → map (λ (w : Bor Text). w.now) words ≡ command ∷ (get_or words 1 no_word).now ∷ (get_or words 2 no_word).now ∷ []
-three_words [] command many few same = absurd (omega (arith, many))
-three_words (a ∷ []) command many few same = absurd (omega (arith, many))
-three_words (a ∷ b ∷ []) command many few same = absurd (omega (arith, many))
-three_words (a ∷ b ∷ c ∷ []) command many few same = ap (λ (w : Text). w ∷ b.now ∷ c.now ∷ []) ((bytes_eq-Decides a.now command).0 same)
-three_words (a ∷ b ∷ c ∷ e ∷ words) command many few same = absurd (omega (arith, few))
-
-pub record AreThree (words : List (Bor Text)) (command file stimulus : Text) : Type 0 where
-  pub count : length words ≡ 3
-  pub first : (get_or words 0 no_word).now ≡ command
-  pub second : (get_or words 1 no_word).now ≡ file
-  pub third : (get_or words 2 no_word).now ≡ stimulus
-
-pub are_three : (words : List (Bor Text)) (command file stimulus : Text) → map (λ (w : Bor Text). w.now) words ≡ command ∷ file ∷ stimulus ∷ [] → AreThree words command file stimulus
-are_three words command file stimulus are =
-    let count : length words ≡ 3 = sym (length-map words (λ (w : Bor Text). w.now)) ∙ ap length are in
-    record {
-      count = count;
-      first = sym (get_or-map (λ (w : Bor Text). w.now) words 0 no_word [] (omega (arith, count))) ∙ ap (λ (ws : List Text). get_or ws 0 []) are;
-      second = sym (get_or-map (λ (w : Bor Text). w.now) words 1 no_word [] (omega (arith, count))) ∙ ap (λ (ws : List Text). get_or ws 1 []) are;
-      third = sym (get_or-map (λ (w : Bor Text). w.now) words 2 no_word [] (omega (arith, count))) ∙ ap (λ (ws : List Text). get_or ws 2 []) are;
-    }
-
--- the second of two words
-pub second_word : (words : List (Bor Text)) (d : Bor Text) (command file : Text) → map (λ (w : Bor Text). w.now) words ≡ command ∷ file ∷ [] → (get_or words 1 d).now ≡ file
-second_word words d command file are =
-    let count : length words ≡ 2 = sym (length-map words (λ (w : Bor Text). w.now)) ∙ ap length are in
-    sym (get_or-map (λ (w : Bor Text). w.now) words 1 d [] (omega (arith, count))) ∙ ap (λ (ws : List Text). get_or ws 1 []) are
-
--- the first of them
-pub first_word : (words : List (Bor Text)) (d : Bor Text) (command file : Text) → map (λ (w : Bor Text). w.now) words ≡ command ∷ file ∷ [] → (get_or words 0 d).now ≡ command
-first_word words d command file are =
-    let count : length words ≡ 2 = sym (length-map words (λ (w : Bor Text). w.now)) ∙ ap length are in
-    sym (get_or-map (λ (w : Bor Text). w.now) words 0 d [] (omega (arith, count))) ∙ ap (λ (ws : List Text). get_or ws 0 []) are
-
 -- two words, of which the first is this
 pub two_words : (words : List (Bor Text)) (command : Text) → 2 ≤ length words → length words < 3 → (get_or words 0 no_word).now ≡ command
     → map (λ (w : Bor Text). w.now) words ≡ command ∷ (get_or words 1 no_word).now ∷ []
@@ -93,3 +54,12 @@ two_words (a ∷ b ∷ e ∷ words) command many few same = absurd (omega (arith
 -- a test that fails is of what doesn't hold
 pub failed_test : (claim : Type 0) (b : Bool) → (claim → IsTrue b) → b ≡ false → claim → ⊥
 failed_test claim b tests is holds = let e : true ≡ false = sym (tests holds) ∙ is in cc e
+
+-- three words, of which the first is this
+pub words_of_three : (words : List (Bor Text)) (command : Text) → 3 ≤ length words → length words < 4 → (get_or words 0 no_word).now ≡ command
+    → map (λ (w : Bor Text). w.now) words ≡ command ∷ (get_or words 1 no_word).now ∷ (get_or words 2 no_word).now ∷ []
+words_of_three [] command many few same = absurd (omega (arith, many))
+words_of_three (a ∷ []) command many few same = absurd (omega (arith, many))
+words_of_three (a ∷ b ∷ []) command many few same = absurd (omega (arith, many))
+words_of_three (a ∷ b ∷ c ∷ []) command many few same = ap (λ (w : Text). w ∷ b.now ∷ c.now ∷ []) same
+words_of_three (a ∷ b ∷ c ∷ e ∷ words) command many few same = absurd (omega (arith, few))

@@ -1,50 +1,48 @@
--- The files that a request reads: the design's, and where that is accepted, the stimulus's. This project's.
-use Rattle.std.specs.Prelude.{◌≡◌, ◌⊎◌, ℕ, ◌≤◌, List, Some, IsSome}
+-- The files that a command reads, one after another: the next one is read only where this one passes. This project's.
+use Rattle.std.specs.Prelude.{◌≡◌, ◌⊎◌, ◌≤◌, List, [], ◌∷◌, IsSome, Contains}
 use Rattle.hw_io.specs.Reading.{IsReadFault}
 use Rattle.hw_names.specs.Name.{Text}
-use Rattle.filc_load.specs.Source.{IsAccepted}
 use Rattle.filc_stop.specs.Outcome.{Contents}
-use Rattle.filc_core.specs.Command.{DesignFile}
-use Rattle.filc_core.specs.Request.{Request, command_of, Asks}
+use Rattle.filc_stop.specs.declared.ended.Ended.{Ended}
+use Rattle.filc_stop.specs.declared.ended.Ended.TheVariants.{Done, Stimulus, Conflict}
+use Rattle.filc_core.specs.Call.{Disk}
+use Rattle.filc_core.specs.Command.{AskedFile, Passes}
 
--- the file is that of the design
-abbrev pub IsDesignOf : Request → Text → Type 0
-IsDesignOf r file = (d : DesignFile) × ((command_of r).design ≡ Some d) × (d.name ≡ file)
+-- the file is one that may be read: it is the first, or one of the others, where the first one passes if its content is told
+abbrev pub MayBeRead : Contents → List AskedFile → Text → Type 0
+MayBeRead contents [] name = ⊥
+MayBeRead contents (file ∷ files) name = (file.name ≡ name) ⊎ ((IsSome (contents file.name) → Passes contents file) × MayBeRead contents files name)
 
-abbrev pub IsStimulusOf : Request → Text → Type 0
-IsStimulusOf r file = (command_of r).stimulus ≡ Some file
+-- the content of what is read is told: of the first, and where that passes, of the others
+abbrev pub AreTold : Contents → List AskedFile → Type 0
+AreTold contents [] = Unit {0}
+AreTold contents (file ∷ files) = IsSome (contents file.name) × (Passes contents file → AreTold contents files)
 
--- the design's file, if there is one, is accepted
-abbrev pub IsDesignAccepted : Contents → Request → Type 0
-IsDesignAccepted contents r = (d : DesignFile) → (command_of r).design ≡ Some d → IsAccepted contents d.language d.name
+-- each of the files tells the same
+abbrev pub TellTheSame : Contents → Contents → List AskedFile → Type 0
+TellTheSame contents other [] = Unit {0}
+TellTheSame contents other (file ∷ files) = (contents file.name ≡ other file.name) × TellTheSame contents other files
 
--- where the content of the design's file is told, it is accepted: only then is a stimulus read
-abbrev pub MayReadStimulus : Contents → Request → Type 0
-MayReadStimulus contents r =
-    (d : DesignFile) → (command_of r).design ≡ Some d → IsSome (contents d.name) → IsAccepted contents d.language d.name
+-- an answer rests on the files after this one: it is done or has a Conflict, a stimulus is refused, or this file passes
+abbrev pub RestsOnMore : Contents → AskedFile → Ended → Type 0
+RestsOnMore contents file Done = Unit {0}
+RestsOnMore contents file Stimulus = Unit {0}
+RestsOnMore contents file Conflict = Unit {0}
+RestsOnMore contents file ended = Passes contents file
 
--- the file is one that the request reads
-abbrev pub MayBeRead : Contents → Request → Text → Type 0
-MayBeRead contents r file = IsDesignOf r file ⊎ (IsStimulusOf r file × MayReadStimulus contents r)
+-- the files on which an answer rests are known: the first, and where the answer rests on more, the others
+abbrev pub AreKnown : Disk → Ended → List AskedFile → Type 0
+AreKnown disk ended [] = Unit {0}
+AreKnown disk ended (file ∷ files) = Contains disk.names file.name × (RestsOnMore disk.contents file ended → AreKnown disk ended files)
 
--- the content of what is read is told: the design's, and where that is accepted, the stimulus's
-pub record IsToldFor (contents : Contents) (r : Request) : Type 0 where
-  pub design : (file : Text) → IsDesignOf r file → IsSome (contents file)
-  pub stimulus : (file : Text) → IsStimulusOf r file → IsDesignAccepted contents r → IsSome (contents file)
+-- a file that may be read couldn't be, by its own cause
+pub record HasReadCause (disk : Disk) (files : List AskedFile) (name : Text) : Type 0 where
+  pub read : MayBeRead disk.contents files name
+  pub fault : IsReadFault disk.names name (disk.faults name) (disk.faults' name)
 
--- the same for what the words ask for
-abbrev pub AreTold : List Text → Contents → Type 0
-AreTold words contents = (r : Request) → Asks words r → IsToldFor contents r
-
--- a file couldn't be read, by its own cause: the design's, or the stimulus's where it may be read
-pub record HasReadCause (r : Request) (contents : Contents) (names : List Text) (before after : Text → ℕ) (file : Text) : Type 0 where
-  pub read : MayBeRead contents r file
-  pub fault : IsReadFault names file (before file) (after file)
-
--- Nothing of the files changes but the counts of faults of the files that are read, and these don't fall.
-pub record KeepsFilesBut {F : Type 0} (is_read : Text → Type 0) (names : F → List Text) (contents : F → Contents) (faults : F → Text → ℕ) (old new : F)
-    : Type 0 where
-  pub names_kept : names new ≡ names old
-  pub contents_kept : (file : Text) → contents new file ≡ contents old file
-  pub others_kept : (file : Text) → (is_read file → ⊥) → faults new file ≡ faults old file
-  pub never_fall : (file : Text) → faults old file ≤ faults new file
+-- nothing of the files changes but the counts of faults of the files that are read, and these don't fall
+pub record KeepsFilesBut (is_read : Text → Type 0) (disk : Disk) : Type 0 where
+  pub names_kept : disk.names' ≡ disk.names
+  pub contents_kept : (file : Text) → disk.contents' file ≡ disk.contents file
+  pub others_kept : (file : Text) → (is_read file → ⊥) → disk.faults' file ≡ disk.faults file
+  pub never_fall : (file : Text) → disk.faults file ≤ disk.faults' file

@@ -13,9 +13,12 @@ pub use Rattle.filc_stop.specs.Leaving
 pub use Rattle.filc_load.specs.Source
 pub use Rattle.filc_report.specs.Runs
 pub mod Words
+pub mod Arguments
+pub mod Shape
 pub mod Command
 pub mod commands
 pub mod Request
 pub mod Verdict
+pub mod Call
 pub mod Files
-pub mod Ending
+pub mod TopCall

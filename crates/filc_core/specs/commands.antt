@@ -1,5 +1,4 @@
--- The commands, one file for each; Driven, NetRun, CalRun and Transactions have what several of them share.
-pub mod Driven
+-- The commands, one file for each; NetRun, CalRun, Transactions and Making have what several of them share.
 pub mod Check
 pub mod Rows
 pub mod NetRun

@@ -1,48 +1,56 @@
-//! The commands, one file for each: how words ask for it, and how it is done. `specs/commands/` says what comes of each.
-ghost use Rattle.std.specs.Prelude.{◌≡◌};
+//! The commands, one file for each: how it is done. `specs/commands/` says what comes of each.
+ghost use Rattle.filc_core.specs.Call.{disk_of, stream_of};
+ghost use Rattle.filc_core.specs.Request.{entry_of};
 ghost use Rattle.filc_core.specs.inside.Performing.{Performs};
-ghost use Rattle.filc_core.specs.Request.{Request, design_name, stimulus_name};
+ghost use Rattle.filc_core.specs.inside.Told.{arguments_told};
 
-pub(crate) mod check;
-mod driven;
-pub(crate) mod flow;
-pub(crate) mod making;
-pub(crate) mod rows;
-pub(crate) mod sched_cal;
-pub(crate) mod sim_cal;
-pub(crate) mod sim_fil;
-pub(crate) mod sim_net;
-pub(crate) mod soak;
-pub(crate) mod timeline;
-pub(crate) mod trace_cal;
-pub(crate) mod trace_fil;
-pub(crate) mod trace_net;
-mod transactions;
+mod check;
+mod flow;
+mod making;
+mod rows;
+mod sched_cal;
+mod sim_cal;
+mod sim_fil;
+mod sim_net;
+mod soak;
+mod timeline;
+mod trace_cal;
+mod trace_fil;
+mod trace_net;
 
+use crate::arguments::Arguments;
+pub use crate::commands::making::Product;
+use crate::name::CommandName;
 use filc_stop::Stop;
 use hw_io::{Files, Sink};
 use std::alloc::Global;
 
-/// A command with what it is given.
-pub(crate) trait Command {
-    // What is asked for.
-    ghost request: { Self → Request };
-
-    /// The name of the design's file; where there is none, a name without bytes.
-    fn design(&self) -> &str
-        ensures { result.now ≡ design_name (request self.now) };
-
-    /// The name of the stimulus's file; where there is none, a name without bytes.
-    fn stimulus(&self) -> &str
-        ensures { result.now ≡ stimulus_name (request self.now) };
-
-    /// Does what is asked for, and writes the report.
-    fn perform<F: Files, O: Sink>(
-        &self,
-        alloc: Global,
-        files: &mut F,
-        out: &mut O,
-    ) -> Result<(), Stop>
-        ensures { Performs (request self.now) F.names F.content F.faults files.old files.new result
-            (O.written out.old) (O.written out.new) (O.faults out.old) (O.faults out.new) };
+/// Does what a command is given, and writes the report.
+pub(crate) fn perform<F: Files, O: Sink>(
+    command: CommandName,
+    alloc: Global,
+    arguments: &Arguments,
+    files: &mut F,
+    out: &mut O,
+) -> Result<(), Stop>
+    ensures { Performs (entry_of command).command (arguments_told arguments.now) (disk_of F.names F.content F.faults files.old files.new) result
+        (stream_of O.written O.faults out.old out.new) }
+{
+    match command {
+        CommandName::Check => check::perform(alloc, arguments, files, out),
+        CommandName::Rows => rows::perform(alloc, arguments, files, out),
+        CommandName::SimNet => sim_net::perform(alloc, arguments, files, out),
+        CommandName::TraceNet => trace_net::perform(alloc, arguments, files, out),
+        CommandName::Flow => flow::perform(alloc, arguments, files, out),
+        CommandName::Timeline => timeline::perform(alloc, arguments, files, out),
+        CommandName::SimFil => sim_fil::perform(alloc, arguments, files, out),
+        CommandName::TraceFil => trace_fil::perform(alloc, arguments, files, out),
+        CommandName::SimCal => sim_cal::perform(alloc, arguments, files, out),
+        CommandName::TraceCal => trace_cal::perform(alloc, arguments, files, out),
+        CommandName::SchedCal => sched_cal::perform(alloc, arguments, files, out),
+        CommandName::Soak => soak::perform(alloc, arguments, files, out),
+        CommandName::Net => making::perform(Product::Net, alloc, arguments, files, out),
+        CommandName::Lower => making::perform(Product::Lower, alloc, arguments, files, out),
+        CommandName::Verilog => making::perform(Product::Verilog, alloc, arguments, files, out),
+    }
 }

@@ -11,8 +11,8 @@ use Rattle.filc_stop.specs.Outcome.{Contents, Outcome}
 use Rattle.filc_stop.specs.Stops.{IsOfRun, IsOfSource, IsOfStimulus}
 use Rattle.filc_stop.specs.declared.language.Language.TheVariants.{Calyx}
 use Rattle.stim_read.specs.CycleRun.{Run}
-use Rattle.filc_core.specs.Command.{Command}
-use Rattle.filc_core.specs.commands.Driven.{Driven, IsWellFormed, words_with}
+use Rattle.filc_core.specs.Arguments.{Arguments}
+use Rattle.filc_core.specs.Command.{Command, of_design_and_stimulus}
 
 -- a design, the number of its top component, and that component
 pub record CalTop : Type 0 where
@@ -27,38 +27,35 @@ pub record GivesTop (contents : Contents) (file : Text) (top : CalTop) : Type 0 
   pub at : slice_get top.design top.number ≡ Some top.comp
 
 -- the design is accepted, and the stimulus gives its top component nothing
-pub record IsRefusedWithTop (c : Driven) (contents : Contents) (o : Outcome) : Type 0 where
+pub record IsRefusedWithTop (a : Arguments) (contents : Contents) (o : Outcome) : Type 0 where
   pub top : CalTop
-  pub gives : GivesTop contents c.file top
-  pub refused : IsRefusedForStimulus contents c.stimulus (λ bytes. run_causes bytes (face top.comp)) o
+  pub gives : GivesTop contents a.design top
+  pub refused : IsRefusedForStimulus contents a.stimulus (λ bytes. run_causes bytes (face top.comp)) o
 
 -- the stimulus gives the top component a run
-pub record GivesRunOf (c : Driven) (contents : Contents) (top : CalTop) (run : Run) : Type 0 where
-  pub gives_top : GivesTop contents c.file top
-  pub gives_run : FileGivesRun contents c.stimulus (face top.comp) run
+pub record GivesRunOf (a : Arguments) (contents : Contents) (top : CalTop) (run : Run) : Type 0 where
+  pub gives_top : GivesTop contents a.design top
+  pub gives_run : FileGivesRun contents a.stimulus (face top.comp) run
 
 -- this comes of that run, where the design that is made has this text
-pub record Runs (c : Driven) (Comes : calyx.Driven → Text → Outcome → Type 0) (contents : Contents) (made : Text) (o : Outcome) : Type 0 where
+pub record Runs (a : Arguments) (Comes : calyx.Driven → Text → Outcome → Type 0) (contents : Contents) (made : Text) (o : Outcome) : Type 0 where
   pub top : CalTop
   pub run : Run
-  pub gives : GivesRunOf c contents top run
+  pub gives : GivesRunOf a contents top run
   pub comes : Comes (record { design = top.design; top = top.comp; run = run }) made o
 
-pub record IsGranted (c : Driven) (contents : Contents) : Type 0 where
+pub record IsGranted (a : Arguments) (contents : Contents) : Type 0 where
   pub top : CalTop
   pub run : Run
-  pub gives : GivesRunOf c contents top run
+  pub gives : GivesRunOf a contents top run
 
--- a command with this word, of which this comes, and which makes these texts of designs
-abbrev pub cal_run : (word : Text) → (calyx.Driven → Text → Outcome → Type 0) → (Contents → Text → Text → Type 0) → Driven → Command
-cal_run word Comes Makes c =
+-- a command of which this comes, and which makes these texts of designs
+abbrev pub cal_run : (calyx.Driven → Text → Outcome → Type 0) → (Contents → Text → Text → Type 0) → Arguments → Command
+cal_run Comes Makes a =
     record {
-      words = words_with word c;
-      well_formed = IsWellFormed Calyx c;
-      design = Some (record { language = Calyx; name = c.file });
-      stimulus = Some c.stimulus;
-      comes = λ contents made o. IsRefusedForSource contents Calyx c.file o ⊎ IsRefusedWithTop c contents o ⊎ Runs c Comes contents made o;
-      makes = λ contents. Makes contents c.file;
+      files = of_design_and_stimulus Calyx a;
+      comes = λ contents made o. IsRefusedForSource contents Calyx a.design o ⊎ IsRefusedWithTop a contents o ⊎ Runs a Comes contents made o;
+      makes = λ contents. Makes contents a.design;
       stops = λ why. IsOfSource why ⊎ IsOfStimulus why ⊎ IsOfRun why;
-      granted = IsGranted c;
+      granted = IsGranted a;
     }

@@ -1,12 +1,12 @@
 -- `net F`, `lower F` and `verilog F`: a text that is made of the design of a file, and printed. This project's.
-use Rattle.std.specs.Prelude.{◌≡◌, ◌⊎◌, [], ◌∷◌, codes, Some, None}
+use Rattle.std.specs.Prelude.{◌≡◌, ◌⊎◌}
 use Rattle.hw_names.specs.Name.{Text}
 use Rattle.net_core.specs.Netlist.{Netlist}
 use Rattle.ver_print.specs.Verilog.{verilog_text}
 use Rattle.cal_ast.specs.Tree as calyx
 use Rattle.cal_net.specs.Lowers as calyx_lowers
 use Rattle.fil_ast.specs.Tree as filament
-use Rattle.fil_cal.specs.Lowers as filament_lowers
+use Rattle.fil_cal.specs.LoweredText as filament_lowers
 use Rattle.filc_calyx.specs.Made as calyx_made
 use Rattle.filc_load.specs.Source.{FileGivesCal, FileGivesFil, FileGivesNet, IsAccepted, IsRefusedForSource}
 use Rattle.filc_run.specs.Traced as filament_made
@@ -15,32 +15,12 @@ use Rattle.filc_stop.specs.Outcome.{Contents, Outcome, done_with}
 use Rattle.filc_stop.specs.Stops.{IsOfSource, IsWritingStop}
 use Rattle.filc_stop.specs.declared.language.Language.{Language}
 use Rattle.filc_stop.specs.declared.language.Language.TheVariants.{Netlists, Filament, Calyx}
-use Rattle.filc_core.specs.Command.{Command}
-use Rattle.filc_core.specs.Words.{IsFileIn}
+use Rattle.filc_core.specs.Arguments.{Arguments}
+use Rattle.filc_core.specs.Command.{Command, of_design}
 use Rattle.filc_core.specs.declared.commands.making.Product.{Product}
 use Rattle.filc_core.specs.declared.commands.making.Product.TheVariants.{Net, Lower, Verilog}
 
--- what is to be made, and of the design of which file
-pub record Making : Type 0 where
-  pub product : Product
-  pub language : Language
-  pub file : Text
-
--- ---- the words
-
-abbrev pub word_of : Product → Text
-word_of Net = codes "net"
-word_of Lower = codes "lower"
-word_of Verilog = codes "verilog"
-
--- of a netlist its Verilog is made, and nothing else
-abbrev pub CanBeMade : Product → Language → Type 0
-CanBeMade Verilog language = Unit {0}
-CanBeMade product Netlists = ⊥
-CanBeMade product language = Unit {0}
-
--- ---- what may be made
-
+-- what may be made: of a netlist its Verilog, and nothing else
 abbrev pub IsMadeOfNetlist : Netlist → Text → Type 0
 IsMadeOfNetlist net made = made ≡ verilog_text net
 
@@ -71,15 +51,12 @@ pub record PrintsMade (IsMade : Text → Type 0) (made : Text) (o : Outcome) : T
   pub is_made : IsMade made
   pub outcome : o ≡ done_with made
 
-abbrev pub making : Making → Command
-making c =
+abbrev pub making : Product → Arguments → Command
+making product a =
     record {
-      words = word_of c.product ∷ c.file ∷ [];
-      well_formed = IsFileIn c.language c.file × CanBeMade c.product c.language;
-      design = Some (record { language = c.language; name = c.file });
-      stimulus = None;
-      comes = λ contents made o. IsRefusedForSource contents c.language c.file o ⊎ PrintsMade (IsMadeIn c.language c.product contents c.file) made o;
-      makes = λ contents. IsMadeIn c.language c.product contents c.file;
+      files = of_design a.language a;
+      comes = λ contents made o. IsRefusedForSource contents a.language a.design o ⊎ PrintsMade (IsMadeIn a.language product contents a.design) made o;
+      makes = λ contents. IsMadeIn a.language product contents a.design;
       stops = λ why. IsOfSource why ⊎ IsWritingStop why;
-      granted = λ contents. IsAccepted contents c.language c.file;
+      granted = λ contents. IsAccepted contents a.language a.design;
     }

@@ -1,52 +1,27 @@
 //! The command `flow`: what each transaction computes.
-ghost use Rattle.std.specs.Prelude.{map, MatchOption};
-ghost use Rattle.filc_core.specs.Request.{OfFlow, Asks};
+ghost use Rattle.filc_core.specs.Call.{disk_of, stream_of};
+ghost use Rattle.filc_core.specs.commands.Flow.{flow};
+ghost use Rattle.filc_core.specs.inside.Performing.{Performs};
+ghost use Rattle.filc_core.specs.inside.Told.{arguments_told};
 
-use crate::commands::Command;
-use crate::commands::transactions::Started;
+use crate::arguments::Arguments;
 use filc_load::{fil_file, stimulus};
 use filc_report::write_flows;
 use filc_stop::Stop;
 use hw_io::{Files, Sink};
 use std::alloc::Global;
 
-/// What the transactions of a stimulus are to the top component: what each computes.
-#[derive(Clone, Copy, Debug, PartialEq, Eq)]
-pub(crate) struct Flow<'a>(Started<'a>);
-
-impl<'a> Flow<'a> {
-    ghost use Rattle.filc_core.specs.inside.Told.{flow_told};
-
-    /// What words ask for, if they are those of `flow`.
-    pub(crate) fn asked(words: &[&'a str]) -> Option<Flow<'a>>
-        ensures { MatchOption result ((c : _) → Asks (map (λ w. w.now) words.now) (OfFlow c) → ⊥)
-            (λ c. Asks (map (λ w. w.now) words.now) (OfFlow (flow_told c))) }
-    {
-        Some(Flow(Started::asked("flow", words)?))
-    }
-}
-
-impl Command for Flow<'_> {
-    ghost use Rattle.filc_core.specs.inside.Told.{flow_told};
-
-    ghost request = { λ c. OfFlow (flow_told c) };
-
-    fn design(&self) -> &str {
-        self.0.file
-    }
-
-    fn stimulus(&self) -> &str {
-        self.0.stimulus
-    }
-
-    fn perform<F: Files, O: Sink>(
-        &self,
-        alloc: Global,
-        files: &mut F,
-        out: &mut O,
-    ) -> Result<(), Stop> {
-        let built = fil_file::load(alloc, self.0.file, files)?;
-        let list = stimulus::load_transactions(alloc, self.0.stimulus, &built, files)?;
-        write_flows(alloc, &built, &list.txs, out)
-    }
+/// Writes what each transaction computes.
+pub(crate) fn perform<F: Files, O: Sink>(
+    alloc: Global,
+    arguments: &Arguments,
+    files: &mut F,
+    out: &mut O,
+) -> Result<(), Stop>
+    ensures { Performs flow (arguments_told arguments.now) (disk_of F.names F.content F.faults files.old files.new) result
+        (stream_of O.written O.faults out.old out.new) }
+{
+    let built = fil_file::load(alloc, arguments.design, files)?;
+    let list = stimulus::load_transactions(alloc, arguments.stimulus, &built, files)?;
+    write_flows(alloc, &built, &list.txs, out)
 }

@@ -1,54 +1,29 @@
 //! The command `sim` of a Calyx design: the rows of its outputs under a stimulus, as its schedule means them.
-ghost use Rattle.std.specs.Prelude.{map, MatchOption};
-ghost use Rattle.filc_core.specs.Request.{OfSimCal, Asks};
+ghost use Rattle.filc_core.specs.Call.{disk_of, stream_of};
+ghost use Rattle.filc_core.specs.commands.SimCal.{sim_cal};
+ghost use Rattle.filc_core.specs.inside.Performing.{Performs};
+ghost use Rattle.filc_core.specs.inside.Told.{arguments_told};
 
-use crate::commands::Command;
-use crate::commands::driven::Driven;
+use crate::arguments::Arguments;
 use filc_calyx::make_net;
 use filc_load::{cal_file, stimulus};
 use filc_report::run;
-use filc_stop::{Language, Stop};
+use filc_stop::Stop;
 use hw_io::{Files, Sink};
 use std::alloc::Global;
 
-/// The rows of the outputs of a Calyx design, as a stimulus drives it.
-#[derive(Clone, Copy, Debug, PartialEq, Eq)]
-pub(crate) struct SimCal<'a>(Driven<'a>);
-
-impl<'a> SimCal<'a> {
-    ghost use Rattle.filc_core.specs.inside.Told.{sim_cal_told};
-
-    /// What words ask for, if they are those of `sim` for a Calyx design.
-    pub(crate) fn asked(words: &[&'a str]) -> Option<SimCal<'a>>
-        ensures { MatchOption result ((c : _) → Asks (map (λ w. w.now) words.now) (OfSimCal c) → ⊥)
-            (λ c. Asks (map (λ w. w.now) words.now) (OfSimCal (sim_cal_told c))) }
-    {
-        Some(SimCal(Driven::asked(Language::Calyx, "sim", words)?))
-    }
-}
-
-impl Command for SimCal<'_> {
-    ghost use Rattle.filc_core.specs.inside.Told.{sim_cal_told};
-
-    ghost request = { λ c. OfSimCal (sim_cal_told c) };
-
-    fn design(&self) -> &str {
-        self.0.file
-    }
-
-    fn stimulus(&self) -> &str {
-        self.0.stimulus
-    }
-
-    fn perform<F: Files, O: Sink>(
-        &self,
-        alloc: Global,
-        files: &mut F,
-        out: &mut O,
-    ) -> Result<(), Stop> {
-        let design = cal_file::load(alloc, self.0.file, files)?;
-        let built = make_net(alloc, &design)?;
-        let list = stimulus::load_cycles(alloc, self.0.stimulus, &built, files)?;
-        run(alloc, &built, &list, &[], false, out)
-    }
+/// Writes the rows of the outputs of a Calyx design, as a stimulus drives it.
+pub(crate) fn perform<F: Files, O: Sink>(
+    alloc: Global,
+    arguments: &Arguments,
+    files: &mut F,
+    out: &mut O,
+) -> Result<(), Stop>
+    ensures { Performs sim_cal (arguments_told arguments.now) (disk_of F.names F.content F.faults files.old files.new) result
+        (stream_of O.written O.faults out.old out.new) }
+{
+    let design = cal_file::load(alloc, arguments.design, files)?;
+    let built = make_net(alloc, &design)?;
+    let list = stimulus::load_cycles(alloc, arguments.stimulus, &built, files)?;
+    run(alloc, &built, &list, &[], false, out)
 }

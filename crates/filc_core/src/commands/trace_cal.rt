@@ -1,56 +1,31 @@
 //! The command `trace` of a Calyx design: its netlist's text, and the rows of all ports of that under a stimulus.
-ghost use Rattle.std.specs.Prelude.{map, MatchOption};
-ghost use Rattle.filc_core.specs.Request.{OfTraceCal, Asks};
+ghost use Rattle.filc_core.specs.Call.{disk_of, stream_of};
+ghost use Rattle.filc_core.specs.commands.TraceCal.{trace_cal};
+ghost use Rattle.filc_core.specs.inside.Performing.{Performs};
+ghost use Rattle.filc_core.specs.inside.Told.{arguments_told};
 
-use crate::commands::Command;
-use crate::commands::driven::Driven;
+use crate::arguments::Arguments;
 use filc_calyx::make_net;
 use filc_load::{cal_file, stimulus};
 use filc_report::run;
 use filc_run::with_empty_line;
-use filc_stop::{Language, Stop};
+use filc_stop::Stop;
 use hw_io::{Files, Sink};
 use std::alloc::Global;
 
-/// The text of the netlist of a Calyx design, and the rows of all its ports, as a stimulus drives it.
-#[derive(Clone, Copy, Debug, PartialEq, Eq)]
-pub(crate) struct TraceCal<'a>(Driven<'a>);
-
-impl<'a> TraceCal<'a> {
-    ghost use Rattle.filc_core.specs.inside.Told.{trace_cal_told};
-
-    /// What words ask for, if they are those of `trace` for a Calyx design.
-    pub(crate) fn asked(words: &[&'a str]) -> Option<TraceCal<'a>>
-        ensures { MatchOption result ((c : _) → Asks (map (λ w. w.now) words.now) (OfTraceCal c) → ⊥)
-            (λ c. Asks (map (λ w. w.now) words.now) (OfTraceCal (trace_cal_told c))) }
-    {
-        Some(TraceCal(Driven::asked(Language::Calyx, "trace", words)?))
-    }
-}
-
-impl Command for TraceCal<'_> {
-    ghost use Rattle.filc_core.specs.inside.Told.{trace_cal_told};
-
-    ghost request = { λ c. OfTraceCal (trace_cal_told c) };
-
-    fn design(&self) -> &str {
-        self.0.file
-    }
-
-    fn stimulus(&self) -> &str {
-        self.0.stimulus
-    }
-
-    fn perform<F: Files, O: Sink>(
-        &self,
-        alloc: Global,
-        files: &mut F,
-        out: &mut O,
-    ) -> Result<(), Stop> {
-        let design = cal_file::load(alloc, self.0.file, files)?;
-        let built = make_net(alloc, &design)?;
-        let list = stimulus::load_cycles(alloc, self.0.stimulus, &built, files)?;
-        let head = with_empty_line(alloc, &built.net)?;
-        run(alloc, &built, &list, &head, true, out)
-    }
+/// Writes the text of the netlist of a Calyx design, and the rows of all its ports, as a stimulus drives it.
+pub(crate) fn perform<F: Files, O: Sink>(
+    alloc: Global,
+    arguments: &Arguments,
+    files: &mut F,
+    out: &mut O,
+) -> Result<(), Stop>
+    ensures { Performs trace_cal (arguments_told arguments.now) (disk_of F.names F.content F.faults files.old files.new) result
+        (stream_of O.written O.faults out.old out.new) }
+{
+    let design = cal_file::load(alloc, arguments.design, files)?;
+    let built = make_net(alloc, &design)?;
+    let list = stimulus::load_cycles(alloc, arguments.stimulus, &built, files)?;
+    let head = with_empty_line(alloc, &built.net)?;
+    run(alloc, &built, &list, &head, true, out)
 }

@@ -1,54 +1,29 @@
 //! The command `trace` of a netlist: its text, and the rows of all its ports under a stimulus.
-ghost use Rattle.std.specs.Prelude.{map, MatchOption};
-ghost use Rattle.filc_core.specs.Request.{OfTraceNet, Asks};
+ghost use Rattle.filc_core.specs.Call.{disk_of, stream_of};
+ghost use Rattle.filc_core.specs.commands.TraceNet.{trace_net};
+ghost use Rattle.filc_core.specs.inside.Performing.{Performs};
+ghost use Rattle.filc_core.specs.inside.Told.{arguments_told};
 
-use crate::commands::Command;
-use crate::commands::driven::Driven;
+use crate::arguments::Arguments;
 use filc_load::{net_file, stimulus};
 use filc_report::run;
 use filc_run::with_empty_line;
-use filc_stop::{Language, Stop};
+use filc_stop::Stop;
 use hw_io::{Files, Sink};
 use std::alloc::Global;
 
-/// A netlist's text, and the rows of all its ports, as a stimulus drives it.
-#[derive(Clone, Copy, Debug, PartialEq, Eq)]
-pub(crate) struct TraceNet<'a>(Driven<'a>);
-
-impl<'a> TraceNet<'a> {
-    ghost use Rattle.filc_core.specs.inside.Told.{trace_net_told};
-
-    /// What words ask for, if they are those of `trace` for a netlist.
-    pub(crate) fn asked(words: &[&'a str]) -> Option<TraceNet<'a>>
-        ensures { MatchOption result ((c : _) → Asks (map (λ w. w.now) words.now) (OfTraceNet c) → ⊥)
-            (λ c. Asks (map (λ w. w.now) words.now) (OfTraceNet (trace_net_told c))) }
-    {
-        Some(TraceNet(Driven::asked(Language::Netlists, "trace", words)?))
-    }
-}
-
-impl Command for TraceNet<'_> {
-    ghost use Rattle.filc_core.specs.inside.Told.{trace_net_told};
-
-    ghost request = { λ c. OfTraceNet (trace_net_told c) };
-
-    fn design(&self) -> &str {
-        self.0.file
-    }
-
-    fn stimulus(&self) -> &str {
-        self.0.stimulus
-    }
-
-    fn perform<F: Files, O: Sink>(
-        &self,
-        alloc: Global,
-        files: &mut F,
-        out: &mut O,
-    ) -> Result<(), Stop> {
-        let built = net_file::load(alloc, self.0.file, files)?;
-        let list = stimulus::load_cycles(alloc, self.0.stimulus, &built, files)?;
-        let text = with_empty_line(alloc, &built.net)?;
-        run(alloc, &built, &list, &text, true, out)
-    }
+/// Writes a netlist's text, and the rows of all its ports, as a stimulus drives it.
+pub(crate) fn perform<F: Files, O: Sink>(
+    alloc: Global,
+    arguments: &Arguments,
+    files: &mut F,
+    out: &mut O,
+) -> Result<(), Stop>
+    ensures { Performs trace_net (arguments_told arguments.now) (disk_of F.names F.content F.faults files.old files.new) result
+        (stream_of O.written O.faults out.old out.new) }
+{
+    let built = net_file::load(alloc, arguments.design, files)?;
+    let list = stimulus::load_cycles(alloc, arguments.stimulus, &built, files)?;
+    let text = with_empty_line(alloc, &built.net)?;
+    run(alloc, &built, &list, &text, true, out)
 }
