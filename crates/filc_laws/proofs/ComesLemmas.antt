@@ -24,19 +24,21 @@ use Rattle.filc_stop.specs.declared.language.Language.{Language}
 use Rattle.filc_stop.specs.declared.language.Language.TheVariants.{Netlists, Filament, Calyx}
 use Rattle.filc_core.proofs.CalRunLemmas as cal_runs
 use Rattle.filc_core.proofs.MakingLemmas.{made_of_accepted}
-use Rattle.filc_core.specs.Request.{OfMaking, OfSoak, OfTraceCal, OfTraceFil, Asks}
-use Rattle.filc_core.specs.commands.Check.{Check, Accepts}
+use Rattle.filc_core.specs.Arguments.{Arguments}
+use Rattle.filc_core.specs.Request.{Request, Asks, command_of}
+use Rattle.filc_core.specs.commands.Check.{Accepts}
 use Rattle.filc_core.specs.commands.CalRun as cal_run
-use Rattle.filc_core.specs.commands.Driven.{Driven}
-use Rattle.filc_core.specs.commands.Making.{IsMadeIn, Making, PrintsMade}
+use Rattle.filc_core.specs.commands.Making.{IsMadeIn, PrintsMade}
 use Rattle.filc_core.specs.commands.NetRun.{IsRefusedWithNet}
 use Rattle.filc_core.specs.commands.NetRun as net_run
-use Rattle.filc_core.specs.commands.Rows.{Rows, AsksTooMany}
+use Rattle.filc_core.specs.commands.Rows.{AsksTooMany}
 use Rattle.filc_core.specs.commands.Rows as rows
-use Rattle.filc_core.specs.commands.Soak.{IsSoaked, Soak}
+use Rattle.filc_core.specs.commands.Soak.{IsSoaked}
 use Rattle.filc_core.specs.commands.Soak as soak
 use Rattle.filc_core.specs.commands.TraceFil.{PrintsTrace}
-use Rattle.filc_core.specs.commands.Transactions.{Started, Top, GivesTop, IsGranted, IsRefusedWithTop, Prints}
+use Rattle.filc_core.specs.commands.Transactions.{Top, GivesTop, IsGranted, IsRefusedWithTop, Prints}
+use Rattle.filc_core.specs.declared.commands.making.Product.{Product}
+use Rattle.filc_core.specs.declared.name.CommandName.TheVariants as name
 use Rattle.filc_laws.proofs.CauseLemmas.{run_is_given_once, run_cause_is_one, given_run_has_no_cause, transactions_are_given_once, transaction_cause_is_one, given_transactions_have_no_cause}
 use Rattle.filc_laws.proofs.CalRunLemmas.{end_alike, means_once}
 use Rattle.filc_load.proofs.TopLemmas.{one_number}
@@ -87,43 +89,43 @@ module _ (words : List Text) (contents : Contents) (made made' : Text) (o o' : O
 
   -- ---- each command
 
-  pub check_once : (c : Check) → IsRefusedForSource contents c.language c.file o ⊎ Accepts c contents o → IsRefusedForSource contents c.language c.file o' ⊎ Accepts c contents o' → One
-  check_once c (inl p) (inl q) = from_source c.language c.file p q
-  check_once c (inl p) (inr a) = absurd (refused_here c.language c.file o p a.accepted)
-  check_once c (inr a) (inl p) = absurd (refused_here c.language c.file o' p a.accepted)
+  pub check_once : (c : Arguments) → IsRefusedForSource contents c.language c.design o ⊎ Accepts c contents o → IsRefusedForSource contents c.language c.design o' ⊎ Accepts c contents o' → One
+  check_once c (inl p) (inl q) = from_source c.language c.design p q
+  check_once c (inl p) (inr a) = absurd (refused_here c.language c.design o p a.accepted)
+  check_once c (inr a) (inl p) = absurd (refused_here c.language c.design o' p a.accepted)
   check_once c (inr a) (inr b) = same_outcome (a.outcome ∙ sym b.outcome)
 
-  rows_run : (c : Rows) → rows.Runs c contents o → rows.Runs c contents o' → One
+  rows_run : (c : Arguments) → rows.Runs c contents o → rows.Runs c contents o' → One
   rows_run c a b =
-      let net = net_is_given_once contents c.file b.net a.net b.gives a.gives in
-      let other : RunComes (plain_run a.net c.cycles) o' = subst (λ (n : Netlist). RunComes (plain_run n c.cycles) o') net b.run in
+      let net = net_is_given_once contents c.design b.net a.net b.gives a.gives in
+      let other : RunComes (plain_run a.net c.count) o' = subst (λ (n : Netlist). RunComes (plain_run n c.count) o') net b.run in
       let accepted = a.gives.gives.accepted in
-      same_outcome (comes_once (plain_run a.net c.cycles) accepted.valid accepted.no_loop (plain_shows a.net c.cycles) o o' a.run other)
+      same_outcome (comes_once (plain_run a.net c.count) accepted.valid accepted.no_loop (plain_shows a.net c.count) o o' a.run other)
 
-  pub rows_once : (c : Rows) → IsRefusedForSource contents Netlists c.file o ⊎ AsksTooMany c contents o ⊎ rows.Runs c contents o → IsRefusedForSource contents Netlists c.file o' ⊎ AsksTooMany c contents o' ⊎ rows.Runs c contents o' → One
-  rows_once c (inl p) (inl q) = from_source Netlists c.file p q
-  rows_once c (inl p) (inr (inl b)) = absurd (refused_here Netlists c.file o p (b.net, b.gives))
-  rows_once c (inl p) (inr (inr b)) = absurd (refused_here Netlists c.file o p (b.net, b.gives))
-  rows_once c (inr (inl a)) (inl q) = absurd (refused_here Netlists c.file o' q (a.net, a.gives))
+  pub rows_once : (c : Arguments) → IsRefusedForSource contents Netlists c.design o ⊎ AsksTooMany c contents o ⊎ rows.Runs c contents o → IsRefusedForSource contents Netlists c.design o' ⊎ AsksTooMany c contents o' ⊎ rows.Runs c contents o' → One
+  rows_once c (inl p) (inl q) = from_source Netlists c.design p q
+  rows_once c (inl p) (inr (inl b)) = absurd (refused_here Netlists c.design o p (b.net, b.gives))
+  rows_once c (inl p) (inr (inr b)) = absurd (refused_here Netlists c.design o p (b.net, b.gives))
+  rows_once c (inr (inl a)) (inl q) = absurd (refused_here Netlists c.design o' q (a.net, a.gives))
   rows_once c (inr (inl a)) (inr (inl b)) = same_outcome (a.outcome ∙ sym b.outcome)
   rows_once c (inr (inl a)) (inr (inr b)) = let over = a.over in let within = b.within in absurd (omega (arith, over, within))
-  rows_once c (inr (inr a)) (inl q) = absurd (refused_here Netlists c.file o' q (a.net, a.gives))
+  rows_once c (inr (inr a)) (inl q) = absurd (refused_here Netlists c.design o' q (a.net, a.gives))
   rows_once c (inr (inr a)) (inr (inl b)) = let over = b.over in let within = a.within in absurd (omega (arith, over, within))
   rows_once c (inr (inr a)) (inr (inr b)) = rows_run c a b
 
   -- ---- runs under a stimulus
 
-  module _ (c : Driven) (head : Netlist → Text) (all : Bool) where
+  module _ (c : Arguments) (head : Netlist → Text) (all : Bool) where
     refused_nets : IsRefusedWithNet c contents o → IsRefusedWithNet c contents o' → One
     refused_nets a b =
-        let net = net_is_given_once contents c.file b.net a.net b.gives a.gives in
+        let net = net_is_given_once contents c.design b.net a.net b.gives a.gives in
         let other : IsRefusedForStimulus contents c.stimulus (λ bytes. run_causes bytes a.net) o' = subst (λ (n : Netlist). IsRefusedForStimulus contents c.stimulus (λ bytes. run_causes bytes n) o') net b.refused in
         from_stimulus c.stimulus (λ bytes. run_causes bytes a.net) (λ bytes. run_cause_is_one bytes (settable_inputs a.net) (settable_memories a.net)) a.refused other
 
     run_or_not : (x y : Outcome) → IsRefusedWithNet c contents x → net_run.Runs c head all contents y → ⊥
     run_or_not x y a b =
         let given = b.gives.gives_run in
-        let net : a.net ≡ b.net = net_is_given_once contents c.file a.net b.net a.gives b.gives.gives_net in
+        let net : a.net ≡ b.net = net_is_given_once contents c.design a.net b.net a.gives b.gives.gives_net in
         let text : a.refused.refused.bytes ≡ given.bytes = same_Some a.refused.refused.bytes given.bytes (sym a.refused.refused.told ∙ given.told) in
         let here : IsRefusedBy (run_causes given.bytes b.net) given.bytes a.refused.ended a.refused.line =
         subst₂ (λ (t : Text) (n : Netlist). IsRefusedBy (run_causes t n) t a.refused.ended a.refused.line) text net a.refused.refused.refused in
@@ -138,21 +140,21 @@ module _ (words : List Text) (contents : Contents) (made made' : Text) (o o' : O
 
     two_runs : net_run.Runs c head all contents o → net_run.Runs c head all contents o' → One
     two_runs a b =
-        let net : b.net ≡ a.net = net_is_given_once contents c.file b.net a.net b.gives.gives_net a.gives.gives_net in
+        let net : b.net ≡ a.net = net_is_given_once contents c.design b.net a.net b.gives.gives_net a.gives.gives_net in
         let given : FileGivesRun contents c.stimulus a.net b.run = subst (λ (n : Netlist). FileGivesRun contents c.stimulus n b.run) net b.gives.gives_run in
         let run : b.run ≡ a.run = one_given a.net b.run a.run given a.gives.gives_run in
         let other : RunComes (stimulus_run a.net a.run (head a.net) all) o' = subst₂ (λ (n : Netlist) (r : Run). RunComes (stimulus_run n r (head n) all) o') net run b.comes in
         let accepted = a.gives.gives_net.gives.accepted in
         same_outcome (comes_once (stimulus_run a.net a.run (head a.net) all) accepted.valid accepted.no_loop (stimulus_shows a.net a.run (head a.net) all) o o' a.comes other)
 
-    pub net_run_once : IsRefusedForSource contents Netlists c.file o ⊎ IsRefusedWithNet c contents o ⊎ net_run.Runs c head all contents o → IsRefusedForSource contents Netlists c.file o' ⊎ IsRefusedWithNet c contents o' ⊎ net_run.Runs c head all contents o' → One
-    net_run_once (inl p) (inl q) = from_source Netlists c.file p q
-    net_run_once (inl p) (inr (inl b)) = absurd (refused_here Netlists c.file o p (b.net, b.gives))
-    net_run_once (inl p) (inr (inr b)) = absurd (refused_here Netlists c.file o p (b.net, b.gives.gives_net))
-    net_run_once (inr (inl a)) (inl q) = absurd (refused_here Netlists c.file o' q (a.net, a.gives))
+    pub net_run_once : IsRefusedForSource contents Netlists c.design o ⊎ IsRefusedWithNet c contents o ⊎ net_run.Runs c head all contents o → IsRefusedForSource contents Netlists c.design o' ⊎ IsRefusedWithNet c contents o' ⊎ net_run.Runs c head all contents o' → One
+    net_run_once (inl p) (inl q) = from_source Netlists c.design p q
+    net_run_once (inl p) (inr (inl b)) = absurd (refused_here Netlists c.design o p (b.net, b.gives))
+    net_run_once (inl p) (inr (inr b)) = absurd (refused_here Netlists c.design o p (b.net, b.gives.gives_net))
+    net_run_once (inr (inl a)) (inl q) = absurd (refused_here Netlists c.design o' q (a.net, a.gives))
     net_run_once (inr (inl a)) (inr (inl b)) = refused_nets a b
     net_run_once (inr (inl a)) (inr (inr b)) = absurd (run_or_not o o' a b)
-    net_run_once (inr (inr a)) (inl q) = absurd (refused_here Netlists c.file o' q (a.net, a.gives.gives_net))
+    net_run_once (inr (inr a)) (inl q) = absurd (refused_here Netlists c.design o' q (a.net, a.gives.gives_net))
     net_run_once (inr (inr a)) (inr (inl b)) = absurd (run_or_not o' o b a)
     net_run_once (inr (inr a)) (inr (inr b)) = two_runs a b
 
@@ -165,25 +167,25 @@ module _ (words : List Text) (contents : Contents) (made made' : Text) (o o' : O
       let comp = same_Some t.comp u.comp (sym p.at ∙ ap₂ (λ (d : Design) (n : ℕ). slice_get d n) design number ∙ q.at) in
       λ k. record { design = design k; number = number k; comp = comp k }
 
-  module _ (c : Started) where
+  module _ (c : Arguments) where
     refused_tops : IsRefusedWithTop c contents o → IsRefusedWithTop c contents o' → One
     refused_tops a b =
-        let top = same_top c.file b.top a.top b.gives a.gives in
+        let top = same_top c.design b.top a.top b.gives a.gives in
         let other : IsRefusedForStimulus contents c.stimulus (λ bytes. transaction_causes bytes a.top.comp) o' = subst (λ (t : Top). IsRefusedForStimulus contents c.stimulus (λ bytes. transaction_causes bytes t.comp) o') top b.refused in
         from_stimulus c.stimulus (λ bytes. transaction_causes bytes a.top.comp) (λ bytes. transaction_cause_is_one bytes (component_events a.top.comp)) a.refused other
 
     granted_or_not : (x : Outcome) → IsRefusedWithTop c contents x → IsGranted c contents → ⊥
     granted_or_not x a b =
         let given = b.gives.gives_transactions in
-        let top : a.top ≡ b.top = same_top c.file a.top b.top a.gives b.gives.gives_top in
+        let top : a.top ≡ b.top = same_top c.design a.top b.top a.gives b.gives.gives_top in
         let text : a.refused.refused.bytes ≡ given.bytes = same_Some a.refused.refused.bytes given.bytes (sym a.refused.refused.told ∙ given.told) in
         let here : IsRefusedBy (transaction_causes given.bytes b.top.comp) given.bytes a.refused.ended a.refused.line =
         subst₂ (λ (t : Text) (u : Top). IsRefusedBy (transaction_causes t u.comp) t a.refused.ended a.refused.line) text top a.refused.refused.refused in
         not_refused (transaction_causes given.bytes b.top.comp) given.bytes a.refused.ended a.refused.line given.gives.within
         (given_transactions_have_no_cause given.bytes (component_events b.top.comp) b.run given.gives.gives) here
 
-    refused_file : (x : Outcome) → IsRefusedForSource contents Filament c.file x → IsGranted c contents → ⊥
-    refused_file x p b = refused_here Filament c.file x p (b.top.design, b.gives.gives_top.gives)
+    refused_file : (x : Outcome) → IsRefusedForSource contents Filament c.design x → IsGranted c contents → ⊥
+    refused_file x p b = refused_here Filament c.design x p (b.top.design, b.gives.gives_top.gives)
 
     one_told : (comp : Component) (run run' : TxRun) → FileGivesTransactions contents c.stimulus comp run → FileGivesTransactions contents c.stimulus comp run' → run ≡ run'
     one_told comp run run' p q =
@@ -194,17 +196,17 @@ module _ (words : List Text) (contents : Contents) (made made' : Text) (o o' : O
     -- the files give one top component and one list of transactions
     one_granted : (a b : IsGranted c contents) → (b.top ≡ a.top) × (b.run ≡ a.run)
     one_granted a b =
-        let top : b.top ≡ a.top = same_top c.file b.top a.top b.gives.gives_top a.gives.gives_top in
+        let top : b.top ≡ a.top = same_top c.design b.top a.top b.gives.gives_top a.gives.gives_top in
         let given : FileGivesTransactions contents c.stimulus a.top.comp b.run = subst (λ (t : Top). FileGivesTransactions contents c.stimulus t.comp b.run) top b.gives.gives_transactions in
         (top, one_told a.top.comp b.run a.run given a.gives.gives_transactions)
 
     -- whatever comes where the files give transactions, one thing comes of the command where one does there
     module _ (Made Made' : Type 0) (grants : Made → IsGranted c contents) (grants' : Made' → IsGranted c contents) (both : Made → Made' → One) where
-      started_once : IsRefusedForSource contents Filament c.file o ⊎ IsRefusedWithTop c contents o ⊎ Made → IsRefusedForSource contents Filament c.file o' ⊎ IsRefusedWithTop c contents o' ⊎ Made' → One
-      started_once (inl p) (inl q) = from_source Filament c.file p q
-      started_once (inl p) (inr (inl b)) = absurd (refused_here Filament c.file o p (b.top.design, b.gives.gives))
+      started_once : IsRefusedForSource contents Filament c.design o ⊎ IsRefusedWithTop c contents o ⊎ Made → IsRefusedForSource contents Filament c.design o' ⊎ IsRefusedWithTop c contents o' ⊎ Made' → One
+      started_once (inl p) (inl q) = from_source Filament c.design p q
+      started_once (inl p) (inr (inl b)) = absurd (refused_here Filament c.design o p (b.top.design, b.gives.gives))
       started_once (inl p) (inr (inr b)) = absurd (refused_file o p (grants' b))
-      started_once (inr (inl a)) (inl q) = absurd (refused_here Filament c.file o' q (a.top.design, a.gives.gives))
+      started_once (inr (inl a)) (inl q) = absurd (refused_here Filament c.design o' q (a.top.design, a.gives.gives))
       started_once (inr (inl a)) (inr (inl b)) = refused_tops a b
       started_once (inr (inl a)) (inr (inr b)) = absurd (granted_or_not o a (grants' b))
       started_once (inr (inr a)) (inl q) = absurd (refused_file o' q (grants a))
@@ -213,7 +215,7 @@ module _ (words : List Text) (contents : Contents) (made made' : Text) (o o' : O
 
   -- ---- what transactions are
 
-  module _ (c : Started) (told : Top → List Transaction → Text) where
+  module _ (c : Arguments) (told : Top → List Transaction → Text) where
     abbrev prints_grants : (x : Outcome) → Prints c told contents x → IsGranted c contents
     prints_grants x a = record { top = a.top; run = a.run; gives = a.gives }
 
@@ -222,12 +224,12 @@ module _ (words : List Text) (contents : Contents) (made made' : Text) (o o' : O
         let same = one_granted c (prints_grants o a) (prints_grants o' b) in
         same_outcome (a.outcome ∙ ap₂ (λ (t : Top) (r : TxRun). done_with (told t r.transactions)) (sym same.0) (sym same.1) ∙ sym b.outcome)
 
-    pub transactions_once : IsRefusedForSource contents Filament c.file o ⊎ IsRefusedWithTop c contents o ⊎ Prints c told contents o → IsRefusedForSource contents Filament c.file o' ⊎ IsRefusedWithTop c contents o' ⊎ Prints c told contents o' → One
+    pub transactions_once : IsRefusedForSource contents Filament c.design o ⊎ IsRefusedWithTop c contents o ⊎ Prints c told contents o → IsRefusedForSource contents Filament c.design o' ⊎ IsRefusedWithTop c contents o' ⊎ Prints c told contents o' → One
     transactions_once p q = started_once c (Prints c told contents o) (Prints c told contents o') (prints_grants o) (prints_grants o') two_lists p q
 
   -- ---- the trace of a design's netlist
 
-  module _ (c : Started) (asks : Asks words (OfTraceFil c)) where
+  module _ (c : Arguments) (asks : Asks words (record { command = name.TraceFil; arguments = c })) where
     abbrev trace_grants : (text : Text) (x : Outcome) → PrintsTrace c contents text x → IsGranted c contents
     trace_grants text x a = record { top = a.top; run = a.run; gives = a.gives }
 
@@ -249,31 +251,31 @@ module _ (words : List Text) (contents : Contents) (made made' : Text) (o o' : O
           line = inl (ap (λ (x : Outcome). x.line) a.traces.outcome ∙ sym (ap (λ (x : Outcome). x.line) b.traces.outcome));
         }
 
-    pub trace_fil_once : IsRefusedForSource contents Filament c.file o ⊎ IsRefusedWithTop c contents o ⊎ PrintsTrace c contents made o → IsRefusedForSource contents Filament c.file o' ⊎ IsRefusedWithTop c contents o' ⊎ PrintsTrace c contents made' o' → One
+    pub trace_fil_once : IsRefusedForSource contents Filament c.design o ⊎ IsRefusedWithTop c contents o ⊎ PrintsTrace c contents made o → IsRefusedForSource contents Filament c.design o' ⊎ IsRefusedWithTop c contents o' ⊎ PrintsTrace c contents made' o' → One
     trace_fil_once p q = started_once c (PrintsTrace c contents made o) (PrintsTrace c contents made' o') (trace_grants made o) (trace_grants made' o') two_traces p q
 
   -- ---- runs of Calyx designs
 
-  module _ (c : Driven) where
+  module _ (c : Arguments) where
     refused_cal_tops : cal_run.IsRefusedWithTop c contents o → cal_run.IsRefusedWithTop c contents o' → One
     refused_cal_tops a b =
-        let top = cal_runs.same_top contents c.file b.top a.top b.gives a.gives in
+        let top = cal_runs.same_top contents c.design b.top a.top b.gives a.gives in
         let other : IsRefusedForStimulus contents c.stimulus (λ bytes. run_causes bytes (face a.top.comp)) o' = subst (λ (t : cal_run.CalTop). IsRefusedForStimulus contents c.stimulus (λ bytes. run_causes bytes (face t.comp)) o') top b.refused in
         from_stimulus c.stimulus (λ bytes. run_causes bytes (face a.top.comp)) (λ bytes. run_cause_is_one bytes (settable_inputs (face a.top.comp)) (settable_memories (face a.top.comp))) a.refused other
 
     cal_run_or_not : (x : Outcome) → cal_run.IsRefusedWithTop c contents x → cal_run.IsGranted c contents → ⊥
     cal_run_or_not x a b = cal_runs.top_not_refused c contents b.top b.run b.gives x a
 
-    refused_cal : (x : Outcome) → IsRefusedForSource contents Calyx c.file x → cal_run.IsGranted c contents → ⊥
-    refused_cal x p b = refused_here Calyx c.file x p (b.top.design, b.gives.gives_top.gives)
+    refused_cal : (x : Outcome) → IsRefusedForSource contents Calyx c.design x → cal_run.IsGranted c contents → ⊥
+    refused_cal x p b = refused_here Calyx c.design x p (b.top.design, b.gives.gives_top.gives)
 
     -- whatever comes where the files give a run, one thing comes of the command where one does there
     module _ (Made Made' : Type 0) (grants : Made → cal_run.IsGranted c contents) (grants' : Made' → cal_run.IsGranted c contents) (both : Made → Made' → One) where
-      cal_run_once : IsRefusedForSource contents Calyx c.file o ⊎ cal_run.IsRefusedWithTop c contents o ⊎ Made → IsRefusedForSource contents Calyx c.file o' ⊎ cal_run.IsRefusedWithTop c contents o' ⊎ Made' → One
-      cal_run_once (inl p) (inl q) = from_source Calyx c.file p q
-      cal_run_once (inl p) (inr (inl b)) = absurd (refused_here Calyx c.file o p (b.top.design, b.gives.gives))
+      cal_run_once : IsRefusedForSource contents Calyx c.design o ⊎ cal_run.IsRefusedWithTop c contents o ⊎ Made → IsRefusedForSource contents Calyx c.design o' ⊎ cal_run.IsRefusedWithTop c contents o' ⊎ Made' → One
+      cal_run_once (inl p) (inl q) = from_source Calyx c.design p q
+      cal_run_once (inl p) (inr (inl b)) = absurd (refused_here Calyx c.design o p (b.top.design, b.gives.gives))
       cal_run_once (inl p) (inr (inr b)) = absurd (refused_cal o p (grants' b))
-      cal_run_once (inr (inl a)) (inl q) = absurd (refused_here Calyx c.file o' q (a.top.design, a.gives.gives))
+      cal_run_once (inr (inl a)) (inl q) = absurd (refused_here Calyx c.design o' q (a.top.design, a.gives.gives))
       cal_run_once (inr (inl a)) (inr (inl b)) = refused_cal_tops a b
       cal_run_once (inr (inl a)) (inr (inr b)) = absurd (cal_run_or_not o a (grants' b))
       cal_run_once (inr (inr a)) (inl q) = absurd (refused_cal o' q (grants a))
@@ -294,28 +296,28 @@ module _ (words : List Text) (contents : Contents) (made made' : Text) (o o' : O
     Meant d text x = calyx.Means d x
 
     two_meant : cal_run.Runs c Meant contents made o → cal_run.Runs c Meant contents made' o' → One
-    two_meant a b = same_outcome (means_once a.top contents c.file a.gives.gives_top a.run o o' a.comes (along Meant a b))
+    two_meant a b = same_outcome (means_once a.top contents c.design a.gives.gives_top a.run o o' a.comes (along Meant a b))
 
-    pub sim_cal_once : IsRefusedForSource contents Calyx c.file o ⊎ cal_run.IsRefusedWithTop c contents o ⊎ cal_run.Runs c Meant contents made o
-        → IsRefusedForSource contents Calyx c.file o' ⊎ cal_run.IsRefusedWithTop c contents o' ⊎ cal_run.Runs c Meant contents made' o' → One
+    pub sim_cal_once : IsRefusedForSource contents Calyx c.design o ⊎ cal_run.IsRefusedWithTop c contents o ⊎ cal_run.Runs c Meant contents made o
+        → IsRefusedForSource contents Calyx c.design o' ⊎ cal_run.IsRefusedWithTop c contents o' ⊎ cal_run.Runs c Meant contents made' o' → One
     sim_cal_once p q = cal_run_once (cal_run.Runs c Meant contents made o) (cal_run.Runs c Meant contents made' o') (cal_grants Meant made o) (cal_grants Meant made' o') two_meant p q
 
     abbrev Scheduled : calyx.Driven → Text → Outcome → Type 0
     Scheduled d text x = Schedules d x
 
     two_schedules : cal_run.Runs c Scheduled contents made o → cal_run.Runs c Scheduled contents made' o' → One
-    two_schedules a b = same_outcome (schedules_once a.top contents c.file a.gives.gives_top a.run o o' a.comes (along Scheduled a b))
+    two_schedules a b = same_outcome (schedules_once a.top contents c.design a.gives.gives_top a.run o o' a.comes (along Scheduled a b))
 
-    pub sched_cal_once : IsRefusedForSource contents Calyx c.file o ⊎ cal_run.IsRefusedWithTop c contents o ⊎ cal_run.Runs c Scheduled contents made o
-        → IsRefusedForSource contents Calyx c.file o' ⊎ cal_run.IsRefusedWithTop c contents o' ⊎ cal_run.Runs c Scheduled contents made' o' → One
+    pub sched_cal_once : IsRefusedForSource contents Calyx c.design o ⊎ cal_run.IsRefusedWithTop c contents o ⊎ cal_run.Runs c Scheduled contents made o
+        → IsRefusedForSource contents Calyx c.design o' ⊎ cal_run.IsRefusedWithTop c contents o' ⊎ cal_run.Runs c Scheduled contents made' o' → One
     sched_cal_once p q =
         cal_run_once (cal_run.Runs c Scheduled contents made o) (cal_run.Runs c Scheduled contents made' o') (cal_grants Scheduled made o) (cal_grants Scheduled made' o') two_schedules p q
 
-    module _ (asks : Asks words (OfTraceCal c)) where
+    module _ (asks : Asks words (record { command = name.TraceCal; arguments = c })) where
       two_cal_traces : cal_run.Runs c calyx.Traces contents made o → cal_run.Runs c calyx.Traces contents made' o' → One
       two_cal_traces a b =
           let other = along calyx.Traces a b in
-          let same = end_alike a.top contents c.file a.gives.gives_top a.run made made' o o' a.comes other in
+          let same = end_alike a.top contents c.design a.gives.gives_top a.run made made' o o' a.comes other in
           record {
             ended = same.0;
             report = inr (inr (inr (inl (record {
@@ -333,22 +335,22 @@ module _ (words : List Text) (contents : Contents) (made made' : Text) (o o' : O
             line = inl same.1;
           }
 
-      pub trace_cal_once : IsRefusedForSource contents Calyx c.file o ⊎ cal_run.IsRefusedWithTop c contents o ⊎ cal_run.Runs c calyx.Traces contents made o
-          → IsRefusedForSource contents Calyx c.file o' ⊎ cal_run.IsRefusedWithTop c contents o' ⊎ cal_run.Runs c calyx.Traces contents made' o' → One
+      pub trace_cal_once : IsRefusedForSource contents Calyx c.design o ⊎ cal_run.IsRefusedWithTop c contents o ⊎ cal_run.Runs c calyx.Traces contents made o
+          → IsRefusedForSource contents Calyx c.design o' ⊎ cal_run.IsRefusedWithTop c contents o' ⊎ cal_run.Runs c calyx.Traces contents made' o' → One
       trace_cal_once p q =
           cal_run_once (cal_run.Runs c calyx.Traces contents made o) (cal_run.Runs c calyx.Traces contents made' o') (cal_grants calyx.Traces made o) (cal_grants calyx.Traces made' o') two_cal_traces p q
 
   -- ---- a soak
 
-  module _ (c : Soak) (asks : Asks words (OfSoak c)) where
-    two_soaks : Soaks c.transactions made o → Soaks c.transactions made' o' → One
+  module _ (c : Arguments) (asks : Asks words (record { command = name.Soak; arguments = c })) where
+    two_soaks : Soaks c.count made o → Soaks c.count made' o' → One
     two_soaks a b = record {
       ended = ap (λ (x : Outcome). x.ended) a.outcome ∙ sym (ap (λ (x : Outcome). x.ended) b.outcome);
       report = inr (inr (inr (inr (record {
         asked = c;
         asks = asks;
-        soaks = soaks_report c.transactions made o a;
-        soaks' = soaks_report c.transactions made' o' b;
+        soaks = soaks_report c.count made o a;
+        soaks' = soaks_report c.count made' o' b;
       }))));
       line = inl (ap (λ (x : Outcome). x.line) a.outcome ∙ sym (ap (λ (x : Outcome). x.line) b.outcome));
     }
@@ -361,24 +363,24 @@ module _ (words : List Text) (contents : Contents) (made made' : Text) (o o' : O
 
   -- ---- a text that was made of a design
 
-  module _ (c : Making) (asks : Asks words (OfMaking c)) where
+  module _ (product : Product) (c : Arguments) (r : Request) (asks : Asks words r) (makes : (text : Text) → IsMadeIn c.language product contents c.design text → (command_of r).makes contents text) where
     abbrev PrintsOne : Text → Outcome → Type 0
-    PrintsOne text x = PrintsMade (IsMadeIn c.language c.product contents c.file) text x
+    PrintsOne text x = PrintsMade (IsMadeIn c.language product contents c.design) text x
 
-    of_accepted : (text : Text) (x : Outcome) → PrintsOne text x → IsAccepted contents c.language c.file
-    of_accepted text x a = made_of_accepted c.language c.product contents c.file text a.is_made
+    of_accepted : (text : Text) (x : Outcome) → PrintsOne text x → IsAccepted contents c.language c.design
+    of_accepted text x a = made_of_accepted c.language product contents c.design text a.is_made
 
-    pub made_once : IsRefusedForSource contents c.language c.file o ⊎ PrintsOne made o → IsRefusedForSource contents c.language c.file o' ⊎ PrintsOne made' o' → One
-    made_once (inl p) (inl q) = from_source c.language c.file p q
-    made_once (inl p) (inr b) = absurd (refused_here c.language c.file o p (of_accepted made' o' b))
-    made_once (inr a) (inl q) = absurd (refused_here c.language c.file o' q (of_accepted made o a))
+    pub made_once : IsRefusedForSource contents c.language c.design o ⊎ PrintsOne made o → IsRefusedForSource contents c.language c.design o' ⊎ PrintsOne made' o' → One
+    made_once (inl p) (inl q) = from_source c.language c.design p q
+    made_once (inl p) (inr b) = absurd (refused_here c.language c.design o p (of_accepted made' o' b))
+    made_once (inr a) (inl q) = absurd (refused_here c.language c.design o' q (of_accepted made o a))
     made_once (inr a) (inr b) = record {
       ended = ap (λ (x : Outcome). x.ended) a.outcome ∙ sym (ap (λ (x : Outcome). x.ended) b.outcome);
       report = inr (inl (record {
-        asked = OfMaking c;
+        asked = r;
         asks = asks;
-        from = a.is_made;
-        from' = b.is_made;
+        from = makes made a.is_made;
+        from' = makes made' b.is_made;
         printed = ap (λ (x : Outcome). x.report) a.outcome;
         printed' = ap (λ (x : Outcome). x.report) b.outcome;
       }));

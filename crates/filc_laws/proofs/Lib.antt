@@ -28,3 +28,4 @@ pub mod ComesLemmas
 pub mod VerdictLemmas
 pub mod AnswerLemmas
 pub mod ToldLemmas
+pub mod existence

@@ -9,3 +9,5 @@ pub mod OneSource
 pub mod OneVerdict
 pub mod OneAnswer
 pub mod OnlyWhatIsTold
+pub mod Classically
+pub mod Existence

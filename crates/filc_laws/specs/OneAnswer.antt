@@ -3,9 +3,9 @@ use Rattle.std.specs.Prelude.{◌≡◌, ◌⊎◌, List, ◌++◌, Some}
 use Rattle.hw_names.specs.Name.{Text}
 use Rattle.filc_stop.specs.Lines.{as_line}
 use Rattle.filc_stop.specs.Outcome.{Contents}
-use Rattle.filc_stop.specs.declared.ended.Ended.{Ended}
-use Rattle.filc_core.specs.Ending.{IsAnswered}
+use Rattle.filc_core.specs.Call.{Call, Stream}
 use Rattle.filc_core.specs.Request.{Request, command_of, Asks}
+use Rattle.filc_core.specs.TopCall.{IsAnswered}
 use Rattle.filc_laws.specs.OneLine.{TellOneLoop}
 use Rattle.filc_laws.specs.OneVerdict.{AreTracesOfOne}
 
@@ -48,10 +48,19 @@ pub record HoldOneLoop (before err err' : Text) : Type 0 where
 abbrev pub IsSameErr : Text → Text → Text → Type 0
 IsSameErr before err err' = (err ≡ err') ⊎ HoldOneLoop before err err'
 
+-- what a sink held is told, and what it holds
+pub record Holds (sink : Stream) (before after : Text) : Type 0 where
+  pub held : sink.written ≡ Some before
+  pub holds : sink.written' ≡ Some after
+
+-- two calls have the same words, and the files tell the same
+pub record AskAlike (call other : Call) : Type 0 where
+  pub words : call.words ≡ other.words
+  pub contents : call.disk.contents ≡ other.disk.contents
+
 -- answers to the same words, of the same contents, into sinks that held the same
 abbrev pub OneAnswer : Type 0
 OneAnswer =
-    (words : List Text) (contents : Contents) (ended ended' : Ended) (out out' out'' err err' err'' : Text) →
-    IsAnswered words contents ended (Some out) (Some out') (Some err) (Some err') →
-    IsAnswered words contents ended' (Some out) (Some out'') (Some err) (Some err'') →
-    (ended ≡ ended') × IsSameOut words contents out out' out'' × IsSameErr err err' err''
+    (call other : Call) → AskAlike call other → IsAnswered call → IsAnswered other →
+    (before out out' err err' err'' : Text) → Holds call.out before out → Holds other.out before out' → Holds call.err err err' → Holds other.err err err'' →
+    (call.ended ≡ other.ended) × IsSameOut call.words call.disk.contents before out out' × IsSameErr err err' err''

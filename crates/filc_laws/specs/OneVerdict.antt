@@ -10,12 +10,12 @@ use Rattle.filc_stop.specs.Outcome.{Contents, Outcome, done_with}
 use Rattle.filc_stop.specs.declared.ended.Ended.{Ended}
 use Rattle.filc_run.specs.Soaked.{Soaks}
 use Rattle.filc_run.specs.Traced.{Traces}
-use Rattle.filc_core.specs.Request.{Request, OfSoak, OfTraceCal, OfTraceFil, command_of, Asks}
+use Rattle.filc_core.specs.Arguments.{Arguments}
+use Rattle.filc_core.specs.Request.{Request, command_of, Asks}
 use Rattle.filc_core.specs.Verdict.{Verdict}
 use Rattle.filc_core.specs.commands.CalRun.{CalTop, GivesRunOf}
-use Rattle.filc_core.specs.commands.Driven.{Driven}
-use Rattle.filc_core.specs.commands.Soak.{Soak}
-use Rattle.filc_core.specs.commands.Transactions.{Started, Top, GivesTransactionsOf}
+use Rattle.filc_core.specs.commands.Transactions.{Top, GivesTransactionsOf}
+use Rattle.filc_core.specs.declared.name.CommandName.TheVariants.{Soak, TraceCal, TraceFil}
 use Rattle.filc_laws.specs.OneLine.{IsSameLine}
 
 -- each report is the text that was made, and both were made of the design that the words ask for
@@ -30,8 +30,8 @@ pub record AreMadeOfOne (words : List Text) (contents : Contents) (made made' re
 -- each report is the trace of the netlist whose text was made, both were made of the Filament design that the words ask for, and the same transactions
 -- of its top component drive them, those that the stimulus gives
 pub record AreFilTracesOfOne (words : List Text) (contents : Contents) (made made' report other : Text) : Type 0 where
-  pub asked : Started
-  pub asks : Asks words (OfTraceFil asked)
+  pub asked : Arguments
+  pub asks : Asks words (record { command = TraceFil; arguments = asked })
   pub top : Top
   pub run : TxRun
   pub gives : GivesTransactionsOf asked contents top run
@@ -40,8 +40,8 @@ pub record AreFilTracesOfOne (words : List Text) (contents : Contents) (made mad
 
 -- the same of the Calyx design that the words ask for, of which both netlists have the run that the stimulus gives its top component: the runs end alike
 pub record AreCalTracesOfOne (words : List Text) (contents : Contents) (made made' report other : Text) : Type 0 where
-  pub asked : Driven
-  pub asks : Asks words (OfTraceCal asked)
+  pub asked : Arguments
+  pub asks : Asks words (record { command = TraceCal; arguments = asked })
   pub top : CalTop
   pub run : Run
   pub gives : GivesRunOf asked contents top run
@@ -52,10 +52,10 @@ pub record AreCalTracesOfOne (words : List Text) (contents : Contents) (made mad
 
 -- each report is the text that was made and what the run of its netlist adds up to, and the same transactions drive both
 pub record AreSoaksOfOne (words : List Text) (made made' report other : Text) : Type 0 where
-  pub asked : Soak
-  pub asks : Asks words (OfSoak asked)
-  pub soaks : Soaks asked.transactions made (done_with report)
-  pub soaks' : Soaks asked.transactions made' (done_with other)
+  pub asked : Arguments
+  pub asks : Asks words (record { command = Soak; arguments = asked })
+  pub soaks : Soaks asked.count made (done_with report)
+  pub soaks' : Soaks asked.count made' (done_with other)
 
 abbrev pub AreTracesOfOne : List Text → Contents → Text → Text → Text → Text → Type 0
 AreTracesOfOne words contents made made' report other =

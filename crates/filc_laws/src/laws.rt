@@ -1,4 +1,5 @@
 //! Laws of the verdict, from its parts to the whole.
+ghost use Rattle.filc_laws.specs.Existence.{VerdictsExist, PlainVerdictsExist, ReportsExist};
 ghost use Rattle.filc_laws.specs.OneAnswer.{OneAnswer};
 ghost use Rattle.filc_laws.specs.OneCost.{CalWeightIsOne, CalWordsAreOne};
 ghost use Rattle.filc_laws.specs.OneOutcome.{RunIsOne};
@@ -175,4 +176,19 @@ pub fn only_what_is_told()
 /// told and which netlist or which Calyx design is made.
 pub fn one_answer()
     ensures { OneAnswer }
+{}
+
+/// Told files have a verdict, where a design can be made wherever what is asked for is granted.
+pub fn verdicts_exist()
+    ensures { VerdictsExist }
+{}
+
+/// Told files have a verdict, where what is asked for makes no design.
+pub fn plain_verdicts_exist()
+    ensures { PlainVerdictsExist }
+{}
+
+/// Whichever text of a design a request may make, something comes of it with that text.
+pub fn reports_exist()
+    ensures { ReportsExist }
 {}

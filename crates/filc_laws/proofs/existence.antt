@@ -1,0 +1,19 @@
+-- That what is told has a verdict, from texts to commands.
+pub mod Classical
+pub mod ListLemmas
+pub mod LeastLemmas
+pub mod TokenLemmas
+pub mod GrammarLemmas
+pub mod NetTextLemmas
+pub mod EvidenceLemmas
+pub mod FilRuleLemmas
+pub mod FilTextLemmas
+pub mod CalRuleLemmas
+pub mod CalWeightLemmas
+pub mod CalTextLemmas
+pub mod SourceLemmas
+pub mod StimulusLemmas
+pub mod RunLemmas
+pub mod CalRunLemmas
+pub mod CommandLemmas
+pub mod VerdictLemmas
